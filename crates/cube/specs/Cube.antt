@@ -1,0 +1,33 @@
+-- The meaning of a cube, and of this crate's answers.
+use Prim.Native.Nat.{ℕ, _*_}
+use mathlib.Core.List.{List}
+use mathlib.Core.Bool.{cond}
+use mathlib.Core.Option.{Option, none, some}
+use lib.Dec.{ltb}
+use Rattle.sets.specs.Sets.{insert, before}
+use Rattle.sets.specs.Masks.{literals}
+use Rattle.cube.specs.declared.Cube.{Cube}
+use Rattle.cube.specs.declared.Found.{Found}
+use Rattle.cube.specs.declared.Found.the-variants.{At, Nothing}
+use Rattle.cube.specs.declared.Order.{Order}
+use Rattle.cube.specs.declared.Order.the-variants.{Before, Same, After}
+
+-- how many variables a cube has places for
+abbrev pub width : ℕ
+width = 64
+
+-- a cube's literals, ascending
+abbrev pub lits : Cube → List ℕ
+lits c = literals width (c .plain) (c .negated)
+
+-- one literal more; a number past the last literal names none, and adds none
+abbrev pub joined : ℕ → List ℕ → List ℕ
+joined l c = cond (ltb l (2 * width)) (insert l c) c
+
+-- the literal found, if any
+abbrev pub answer : Found → Option ℕ
+answer (At l) = some (l .0)
+answer Nothing = none
+
+unfoldable pub orderOf : List ℕ → List ℕ → Order
+orderOf a b = cond (before a b) Before (cond (before b a) After Same)

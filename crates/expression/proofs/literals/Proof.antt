@@ -1,0 +1,101 @@
+-- `expression::literals` meets its contract. The loop's invariant: the sum is that of the cubes passed, as 64 bits hold it. Assumes nothing.
+use mathlib.Core.Path.{_≡_, refl, sym, _∙_, ap}
+use mathlib.Core.List.{[]}
+use mathlib.Core.Logic.{inl, inr}
+use Prim.Native.Nat.{_+_, _-_, _<_, _≤_}
+use native.Mathlib.Omega.{arith}
+use borrow.Author.Needs.{needs}
+use lib.ListN.{length, getD, take}
+use lib.Seq.{take-all}
+use Rattle.expression.specs.Words.{cubesOf}
+use Rattle.expression.specs.Expression.{literalsOf}
+use Rattle.expression.specs.Answers.{capped}
+use Rattle.expression.proofs.Counting.{total-next, capped-more, capped-full}
+use Rattle.expression.proofs.literals.Statement.{statement}
+use Rattle.expression.proofs.literals.Tie as tie
+use Rattle.expression.proofs.literals.Reads as reads
+use Rattle.expression.proofs.literals.Lts as lts
+use Rattle.cube.proofs.count.Reads as count-reads
+use Rattle.expression.proofs.cube_at.Reads as cube-at-reads
+use Rattle.expression.proofs.number.Reads as number-reads
+
+abbrev Inv-loop : tie.InvT-loop
+Inv-loop s most sum₀ i₀ sum i =
+    (i ≤ length (cubesOf s)) × (sum ≡ capped (literalsOf (take i (cubesOf s)))) × (sum ≤ 18446744073709551615)
+
+abbrev μ-loop : tie.MeasureT-loop
+μ-loop s most sum₀ i₀ sum i = length (cubesOf s) - i
+
+-- src/lib.rt:68:5
+loop-holds : tie.Need-loop-holds Inv-loop μ-loop
+loop-holds c = search needs
+
+-- src/lib.rt:68:15
+number-requires : tie.Need-number-requires Inv-loop μ-loop
+number-requires c κs = search needs
+
+-- src/lib.rt:69:29
+cube-at-requires : tie.Need-cube-at-requires Inv-loop μ-loop
+cube-at-requires c κs = search needs
+
+-- src/lib.rt:69:17
+count-requires : tie.Need-count-requires Inv-loop μ-loop
+count-requires c κs = search needs
+
+-- src/lib.rt:69:17
+cast-n : tie.Need-cast-n Inv-loop μ-loop
+cast-n c = search needs
+
+-- src/lib.rt:70:17
+sub-if2 : tie.Need-sub-if2 Inv-loop μ-loop
+sub-if2 c = search needs
+
+-- src/lib.rt:71:13
+add-sum : tie.Need-add-sum Inv-loop μ-loop
+add-sum c = search needs
+
+-- src/lib.rt:75:9
+add-i : tie.Need-add-i Inv-loop μ-loop
+add-i c = search needs
+
+-- src/lib.rt:68:5
+loop-less : tie.Need-loop-less Inv-loop μ-loop
+loop-less c = search needs
+
+-- src/lib.rt:68:5
+loop-again : tie.Need-loop-again Inv-loop μ-loop
+loop-again c =
+    let h = c .before .before .before .before .before in
+    let f = cubesOf (h .before .before .args .s .now) in
+    let t = literalsOf (take (h .loop .i) f) in
+    let inside : h .loop .i < length f = omega arith in
+    let n : c .before .count .result ≡ length (getD f (h .loop .i) []) = c .before .count .ensures ∙ ap length (c .before .before .cube-at .ensures) in
+    let more : t + c .before .count .result ≡ literalsOf (take (h .loop .i + 1) f) = rw n (sym (total-next length f (h .loop .i) [] inside)) in
+    elim (c .if2 .came) [
+      | inl (w, e) ↦ (omega arith, e ∙ capped-more t (c .before .count .result) (h .loop .sum) (h .loop .inv .1) (w .taken) ∙ ap capped more, omega arith)
+      | inr (w, e) ↦ (omega arith, e ∙ capped-full t (c .before .count .result) (h .loop .sum) (h .loop .inv .1) (w .left) ∙ ap capped more, omega arith)
+    ]
+
+-- src/lib.rt:62:1
+returns : tie.Need-returns Inv-loop μ-loop
+returns c =
+    let h = c .before .before in
+    h .loop .inv .1 ∙ ap (λ g. capped (literalsOf g)) (take-all (h .loop .i) (cubesOf (h .before .before .args .s .now)) (omega arith))
+
+pub literals-spec : {M : Type 1} → statement M
+literals-spec =
+    tie.close
+    (tie.spec
+    Inv-loop
+    μ-loop
+    loop-holds
+    number-requires
+    cube-at-requires
+    count-requires
+    cast-n
+    sub-if2
+    add-sum
+    add-i
+    loop-less
+    loop-again
+    returns)

@@ -1,0 +1,36 @@
+-- What the answers of this crate mean, with the paper's numbers.
+use Prim.Native.Nat.{ℕ, _*_}
+use mathlib.Core.Bool.{cond, _&&_}
+use mathlib.Core.List.{List}
+use mathlib.Core.Option.{Option, none, some}
+use lib.Dec.{ltb}
+use lib.ListN.{length}
+use Rattle.sets.specs.Lists.{isNil}
+use Rattle.expression.specs.Words.{cubesOf, spareOf}
+use Rattle.expression.specs.Expression.{expression}
+use Rattle.expression.specs.declared.Verdict.{Verdict}
+use Rattle.expression.specs.declared.Verdict.the-variants.{Accepted, Refused}
+use Rattle.expression.specs.declared.Place.{Place}
+use Rattle.expression.specs.declared.Place.the-variants.{At, Nothing}
+
+-- how many cubes an expression handed in may have
+abbrev pub mostCubes : ℕ
+mostCubes = 1024
+
+-- the refusal's number, if any
+abbrev pub refusedBy : Verdict → Option ℕ
+refusedBy Accepted = none
+refusedBy (Refused n) = some n
+
+-- 6: over 1,024 cubes, whole or begun; else 7: a word is left over, or the cubes are no expression
+unfoldable pub refusal : List ℕ → Option ℕ
+refusal ws = cond (ltb (2 * mostCubes) (length ws)) (some 6) (cond (isNil (spareOf ws) && expression (cubesOf ws)) none (some 7))
+
+-- the place found, if any
+abbrev pub placeOf : Place → Option ℕ
+placeOf (At i) = some i
+placeOf Nothing = none
+
+-- a count as 64 bits hold it: the largest number where it would pass
+abbrev pub capped : ℕ → ℕ
+capped n = cond (ltb n 18446744073709551616) n 18446744073709551615

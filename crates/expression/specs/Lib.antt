@@ -1,0 +1,4 @@
+pub mod Words
+pub mod Expression
+pub mod Value
+pub mod Answers

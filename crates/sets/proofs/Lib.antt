@@ -1,0 +1,10 @@
+pub mod Truth
+pub mod Lists
+pub mod Orders
+pub mod Sets
+pub mod Digits
+pub mod Literals
+pub mod First
+pub mod Scan
+pub mod Ordering
+pub mod Removal

@@ -1,0 +1,4 @@
+pub mod Lists
+pub mod Literal
+pub mod Sets
+pub mod Masks
