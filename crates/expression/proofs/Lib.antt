@@ -2,3 +2,8 @@ pub mod Words
 pub mod Counting
 pub mod Searching
 pub mod Values
+pub mod Absorbing
+pub mod Compacting
+pub mod Accepting
+pub mod Sorting
+pub mod Sinking

@@ -2,7 +2,7 @@
 use Prim.Native.Nat.{ℕ, zero, suc, _+_, _-_, _/_, _<_, _≤_}
 use mathlib.Core.Path.{_≡_, refl, sym, _∙_, ap, subst}
 use mathlib.Core.Bool.{Bool, true, false, cond}
-use mathlib.Core.List.{List, [], _∷_, List·Memᴰ·head as here, List·Memᴰ·tail as there}
+use mathlib.Core.List.{List, []}
 use mathlib.Core.Logic.{_⊎_, inl, inr, _↔_}
 use mathlib.Core.Option.{Option, none, some}
 use native.Mathlib.Omega.{arith}
@@ -12,7 +12,7 @@ use borrow.Author.Tests.{lt-ltb, le-ltb, ltb-true}
 use Rattle.sets.specs.Lists.{all, pairwise}
 use Rattle.sets.specs.Sets.{before}
 use Rattle.sets.proofs.Truth.{decided, clash, Stand, below, equal, beyond, stand}
-use Rattle.sets.proofs.Lists.{_∈_, all-out, ahead}
+use Rattle.sets.proofs.Places.{pairwise-at}
 use Rattle.sets.proofs.Ordering.{before-irrefl, before-asym, before-linear}
 use Rattle.expression.specs.Expression.{ordered, halve, findIn}
 
@@ -71,16 +71,8 @@ module _ (c : List ℕ) (f : List (List ℕ)) (low high : ℕ) where
 -- ---- in cube order
 
 -- each cube comes before every later one, by places
-pub ordered-at : (f : List (List ℕ)) (i j : ℕ) → ordered f ≡ true → i < j → j < length f → before (getD f i []) (getD f j []) ≡ true
-ordered-at [] i j o h k = absurd (omega arith)
-ordered-at (c ∷ f) i zero o h k = absurd (omega arith)
-ordered-at (c ∷ f) zero (suc j) o h k = all-out (before c) (at f j (omega arith)) ((ahead before c f o) .0)
-  where
-    at : (g : List (List ℕ)) (j : ℕ) → j < length g → getD g j [] ∈ g
-    at [] j h = absurd (omega arith)
-    at (d ∷ g) zero h = here refl
-    at (d ∷ g) (suc j) h = there (at g j (omega arith))
-ordered-at (c ∷ f) (suc i) (suc j) o h k = ordered-at f i j ((ahead before c f o) .1) (omega arith) (omega arith)
+ordered-at : (f : List (List ℕ)) (i j : ℕ) → ordered f ≡ true → i < j → j < length f → before (getD f i []) (getD f j []) ≡ true
+ordered-at = pairwise-at before []
 
 -- what is found stands there
 halve-sound : (k : ℕ) (c : List ℕ) (f : List (List ℕ)) (low high i : ℕ) → halve k c f low high ≡ some i → (i < high) × (getD f i [] ≡ c)
@@ -128,6 +120,7 @@ halve-complete (suc k) f low high i o e a b l = rw (lt-ltb low high (omega arith
 
 -- the search answers a place exactly when the cube stands there
 pub find-iff : (c : List ℕ) (f : List (List ℕ)) (i : ℕ) → ordered f ≡ true → (findIn c f ≡ some i) ↔ ((i < length f) × (getD f i [] ≡ c))
-find-iff c f i o =
-    ((λ e. halve-sound (length f) c f 0 (length f) i e),
-    (λ (h, e). subst (λ d. findIn d f ≡ some i) e (halve-complete (length f) f 0 (length f) i o (omega arith) (omega arith) h (omega arith))))
+find-iff c f i o = (
+  (λ e. halve-sound (length f) c f 0 (length f) i e),
+  (λ (h, e). subst (λ d. findIn d f ≡ some i) e (halve-complete (length f) f 0 (length f) i o (omega arith) (omega arith) h (omega arith))),
+)

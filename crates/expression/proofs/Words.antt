@@ -1,20 +1,21 @@
 -- The cubes of words: how many, which words each has, what writing one changes; they and the word left over are all that the words hold. Assumes nothing.
-use Prim.Native.Nat.{ℕ, zero, suc, _+_, _*_, _/_, _^_, _<_, _≤_}
-use mathlib.Core.Path.{_≡_, refl, sym, _∙_, ap, ap₂}
+use Prim.Native.Nat.{ℕ, zero, suc, _+_, _-_, _*_, _/_, _^_, _<_, _≤_, min}
+use mathlib.Core.Path.{_≡_, refl, sym, _∙_, ap, ap₂, subst}
 use mathlib.Core.Bool.{Bool, true, false, _&&_}
-use mathlib.Core.List.{List, [], _∷_, nil≢cons, cons≢nil, head-eq-of-cons-eq, tail-eq-of-cons-eq}
+use mathlib.Core.List.{List, [], _∷_, _++_, append-assoc, nil≢cons, cons≢nil, head-eq-of-cons-eq, tail-eq-of-cons-eq}
 use native.Mathlib.Omega.{arith}
 use lib.Dec.{ltb}
-use lib.ListN.{length, getD, set, length-set, List·getD-eq-default}
-use lib.Seq.{set-out}
+use lib.ListN.{length, getD, set, take, drop, length-set, length-take, length-drop, take-append-drop, drop-of-length-le, List·getD-eq-default}
+use lib.Seq.{set-out, take-nil, drop-nil, take-all, drop-drop, drop-append-le, length-take-le}
+use borrow.Rule.Slice.PartMut.{putMid, postOf, post-is}
 use borrow.Author.Tests.{ltb-true}
 use Rattle.sets.specs.Lists.{all}
 use Rattle.sets.specs.Sets.{asc}
 use Rattle.sets.specs.Masks.{literals}
-use Rattle.sets.proofs.Truth.{both}
+use Rattle.sets.proofs.Truth.{both, Stand, below, equal, beyond, stand}
 use Rattle.sets.proofs.Literals.{literals-asc, plain-injective, negated-injective}
 use Rattle.cube.specs.Cube.{width}
-use Rattle.expression.specs.Words.{cubesOf, spareOf, Put, Written}
+use Rattle.expression.specs.Words.{cubesOf, spareOf, Spans, Put, Written, Placed}
 
 pub cubes-length : (ws : List ℕ) → length (cubesOf ws) ≡ length ws / 2
 unfolding cubesOf
@@ -57,6 +58,151 @@ spare-set (x ∷ y ∷ ws) (suc i) p n h =
     let a : 2 * suc i ≡ suc (suc (2 * i)) = omega arith in
     let b : suc (suc (2 * i)) + 1 ≡ suc (suc (2 * i + 1)) = omega arith in
     rw (a, b) (spare-set ws i p n (omega arith))
+
+-- ---- a part of the words is a part of the cubes
+
+pub cubes-drop : (ws : List ℕ) (j : ℕ) → cubesOf (drop (2 * j) ws) ≡ drop j (cubesOf ws)
+unfolding cubesOf
+cubes-drop ws zero = refl
+cubes-drop [] (suc j) = let a : 2 * suc j ≡ suc (suc (2 * j)) = omega arith in rw a
+cubes-drop (p ∷ []) (suc j) = let a : 2 * suc j ≡ suc (suc (2 * j)) = omega arith in rw (a, drop-nil)
+cubes-drop (p ∷ n ∷ ws) (suc j) = let a : 2 * suc j ≡ suc (suc (2 * j)) = omega arith in rw a (cubes-drop ws j)
+
+pub cubes-take : (ws : List ℕ) (j : ℕ) → cubesOf (take (2 * j) ws) ≡ take j (cubesOf ws)
+unfolding cubesOf
+cubes-take ws zero = refl
+cubes-take [] (suc j) = let a : 2 * suc j ≡ suc (suc (2 * j)) = omega arith in rw a
+cubes-take (p ∷ []) (suc j) = let a : 2 * suc j ≡ suc (suc (2 * j)) = omega arith in rw (a, take-nil)
+cubes-take (p ∷ n ∷ ws) (suc j) = let a : 2 * suc j ≡ suc (suc (2 * j)) = omega arith in rw a (ap (literals width p n ∷_) (cubes-take ws j))
+
+pub spare-take : (ws : List ℕ) (j : ℕ) → 2 * j ≤ length ws → spareOf (take (2 * j) ws) ≡ []
+unfolding spareOf
+spare-take ws zero h = refl
+spare-take [] (suc j) h = absurd (omega arith)
+spare-take (p ∷ []) (suc j) h = absurd (omega arith)
+spare-take (p ∷ n ∷ ws) (suc j) h = let a : 2 * suc j ≡ suc (suc (2 * j)) = omega arith in rw a (spare-take ws j (omega arith))
+
+-- the part from a up to e, both held to what there is
+pub part-held : {A : Type 0} (f : List A) (a e : ℕ)
+    → take (min e (length f) - min a (min e (length f))) (drop (min a (min e (length f))) f) ≡ take (e - a) (drop a f)
+part-held f a e = go (stand a (min e (length f))) (stand e (length f))
+  where
+    past : length f ≤ a → take (e - a) (drop a f) ≡ []
+    past h = rw (drop-of-length-le f h, take-nil)
+
+    gone : min e (length f) ≤ a → Stand e (length f)
+        → take (min e (length f) - min a (min e (length f))) (drop (min a (min e (length f))) f) ≡ take (e - a) (drop a f)
+    gone h s = let q : min e (length f) - min a (min e (length f)) ≡ 0 = omega arith in rw q (sym (rest s))
+      where
+        rest : Stand e (length f) → take (e - a) (drop a f) ≡ []
+        rest (below k _ _) = let z : e - a ≡ 0 = omega arith in rw z
+        rest (equal k _ _) = past (omega arith)
+        rest (beyond k _ _) = past (omega arith)
+
+    go : Stand a (min e (length f)) → Stand e (length f)
+        → take (min e (length f) - min a (min e (length f))) (drop (min a (min e (length f))) f) ≡ take (e - a) (drop a f)
+    go (below h _ _) (below k _ _) = let p : min e (length f) ≡ e = omega arith in let q : min a e ≡ a = omega arith in rw (p, q)
+    go (below h _ _) (equal k _ _) = let p : min e (length f) ≡ e = omega arith in let q : min a e ≡ a = omega arith in rw (p, q)
+    go (below h _ _) (beyond k _ _) =
+        let p : min e (length f) ≡ length f = omega arith in let q : min a (length f) ≡ a = omega arith in
+        rw (p, q) (take-all (length f - a) (drop a f) (omega (arith, length-drop a f)) ∙ sym (take-all (e - a) (drop a f) (omega (arith, length-drop a f))))
+    go (equal h _ _) s = gone (omega arith) s
+    go (beyond h _ _) s = gone (omega arith) s
+
+-- whole cubes in front, and then what follows
+pub cubes-append : (a b : List ℕ) → spareOf a ≡ [] → cubesOf (a ++ b) ≡ cubesOf a ++ cubesOf b
+unfolding cubesOf spareOf
+cubes-append [] b h = refl
+cubes-append (p ∷ []) b h = absurd (cons≢nil h)
+cubes-append (p ∷ n ∷ a) b h = ap (literals width p n ∷_) (cubes-append a b h)
+
+pub spare-append : (a b : List ℕ) → spareOf a ≡ [] → spareOf (a ++ b) ≡ spareOf b
+unfolding spareOf
+spare-append [] b h = refl
+spare-append (p ∷ []) b h = absurd (cons≢nil h)
+spare-append (p ∷ n ∷ a) b h = spare-append a b h
+
+pub spare-drop : (ws : List ℕ) (j : ℕ) → 2 * j ≤ length ws → spareOf (drop (2 * j) ws) ≡ spareOf ws
+unfolding spareOf
+spare-drop ws zero h = refl
+spare-drop [] (suc j) h = absurd (omega arith)
+spare-drop (p ∷ []) (suc j) h = absurd (omega arith)
+spare-drop (p ∷ n ∷ ws) (suc j) h = let a : 2 * suc j ≡ suc (suc (2 * j)) = omega arith in rw a (spare-drop ws j (omega arith))
+
+nil-of : {A : Type 0} (l : List A) → length l ≡ 0 → l ≡ []
+nil-of [] h = refl
+nil-of (x ∷ l) h = absurd (omega arith)
+
+-- g written over the front of a part, and the part put back
+module _ {A : Type 0} (f g : List A) where
+  over : (n m : ℕ) → length g ≤ m → m ≤ length (drop n f) → take n f ++ ((g ++ drop (length g) (take m (drop n f))) ++ drop m (drop n f)) ≡ take n f ++ (g ++ drop (length g) (drop n f))
+  over n m h k =
+      ap (take n f ++_) (append-assoc g _ _ ∙ ap (g ++_) (sym (drop-append-le (length g) (take m (drop n f)) (drop m (drop n f)) (omega (arith, length-take-le m (drop n f) k)))
+      ∙ ap (drop (length g)) (take-append-drop m (drop n f))))
+
+  pub over-held : (a e : ℕ) → length g ≤ length (take (e - a) (drop a f))
+      → take (min a (min e (length f))) f ++ ((g ++ drop (length g) (take (min e (length f) - min a (min e (length f))) (drop (min a (min e (length f))) f))) ++ drop (min e (length f)) f)
+      ≡ take a f ++ (g ++ drop (length g) (drop a f))
+  over-held a e h = go (stand a (min e (length f)))
+    where
+      n : ℕ
+      n = min e (length f)
+
+      -- nothing is there from a on, so g is nothing
+      gone : n ≤ a → take (min a n) f ++ ((g ++ drop (length g) (take (n - min a n) (drop (min a n) f))) ++ drop n f) ≡ take a f ++ (g ++ drop (length g) (drop a f))
+      gone k =
+          let q : min a n ≡ n = omega arith in
+          let z : n - n ≡ 0 = omega arith in
+          let l : length g ≡ 0 = omega (arith, h, length-take (e - a) (drop a f), length-drop a f) in
+          rw (q, z, nil-of g l) (take-append-drop n f ∙ sym (take-append-drop a f))
+
+      go : Stand a n → take (min a n) f ++ ((g ++ drop (length g) (take (n - min a n) (drop (min a n) f))) ++ drop n f) ≡ take a f ++ (g ++ drop (length g) (drop a f))
+      go (below k _ _) =
+          let q : min a n ≡ a = omega arith in
+          let w : a + (n - a) ≡ n = omega arith in
+          let d : drop n f ≡ drop (n - a) (drop a f) = ap (λ x. drop x f) (sym w) ∙ sym (drop-drop (n - a) a f) in
+          rw (q, d) (over a (n - a) (omega (arith, h, length-take (e - a) (drop a f), length-drop a f)) (omega (arith, length-drop a f)))
+      go (equal k _ _) = gone (omega arith)
+      go (beyond k _ _) = gone (omega arith)
+
+module _ (ws : List ℕ) (a e from to : ℕ) (s : Spans ws a e from to) where
+  abbrev high : ℕ
+  high = min e (length (cubesOf ws))
+
+  abbrev low : ℕ
+  low = min a high
+
+  width-of : to - from ≡ 2 * (high - low)
+  width-of = omega (arith, s .start, s .stop)
+
+  pub part-of : (cubesOf (take (to - from) (drop from ws)) ≡ take (e - a) (drop a (cubesOf ws))) × (spareOf (take (to - from) (drop from ws)) ≡ [])
+  part-of = (
+    rw (width-of, s .start, cubes-take (drop (2 * low) ws) (high - low), cubes-drop ws low) (part-held (cubesOf ws) a e),
+    rw width-of (spare-take (drop from ws) (high - low) (omega (arith, s .start, s .within, s .stop, length-drop from ws))),
+  )
+
+  -- the part is put back with the cubes g at its front
+  pub placed-part : (p : List ℕ) (g : List (List ℕ)) → length g ≤ length (take (e - a) (drop a (cubesOf ws))) → Written (take (to - from) (drop from ws)) p g
+      → Placed ws (putMid from (to - from) ws p) a g
+  placed-part p g h w =
+      let front : spareOf (take from ws) ≡ [] = rw (s .start) (spare-take ws low (omega (arith, s .start, s .within, s .forth))) in
+      let mid : spareOf p ≡ [] = w .spare ∙ part-of .1 in
+      let post : postOf from (to - from) ws ≡ drop (2 * high) ws = post-is from to ws (s .forth) ∙ ap (λ x. drop x ws) (s .stop) in
+      record {
+        cubes = cubes-append (take from ws) _ front
+            ∙ ap₂ _++_ (ap (λ x. cubesOf (take x ws)) (s .start) ∙ cubes-take ws low)
+            (cubes-append p _ mid ∙ ap₂ _++_ (w .cubes ∙ ap (λ x. g ++ drop (length g) x) inner) (ap cubesOf post ∙ cubes-drop ws high))
+            ∙ over-held (cubesOf ws) g a e h;
+        spare = spare-append (take from ws) _ front ∙ spare-append p _ mid ∙ ap spareOf post ∙ spare-drop ws high (omega (arith, s .stop, s .within));
+      }
+    where
+      inner : cubesOf (take (to - from) (drop from ws)) ≡ take (high - low) (drop low (cubesOf ws))
+      inner = rw (width-of, s .start, cubes-take (drop (2 * low) ws) (high - low), cubes-drop ws low)
+
+  -- so what an operation makes of the part's cubes stands in their place
+  pub placed-by : (op : List (List ℕ) → List (List ℕ)) → ((f : List (List ℕ)) → length (op f) ≤ length f) → (p : List ℕ)
+      → Written (take (to - from) (drop from ws)) p (op (cubesOf (take (to - from) (drop from ws)))) → Placed ws (putMid from (to - from) ws p) a (op (take (e - a) (drop a (cubesOf ws))))
+  placed-by op le p w = placed-part p _ (le _) (subst (λ f. Written (take (to - from) (drop from ws)) p (op f)) (part-of .0) w)
 
 -- each cube is ascending
 pub cubes-asc : (ws : List ℕ) → all asc (cubesOf ws) ≡ true

@@ -2,3 +2,4 @@ pub mod Words
 pub mod Expression
 pub mod Value
 pub mod Answers
+pub mod Steps

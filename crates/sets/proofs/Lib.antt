@@ -8,3 +8,5 @@ pub mod First
 pub mod Scan
 pub mod Ordering
 pub mod Removal
+pub mod Halves
+pub mod Places

@@ -83,7 +83,7 @@ before-removed l (x ∷ a) (y ∷ b) p q m n s t = go (stand x y) (before-remove
         alike (inl e) =
             let r : x ≡ l = eqb-true x l e in
             let gone : (c : List ℕ) → asc (x ∷ c) ≡ true → without (x ∷ c) (l ∷ []) ≡ c = λ c o.
-                ap (λ w. without (w ∷ c) (l ∷ [])) r ∙ without-here l c ∙ without-absent l c (ap (λ w. mem w c) (sym r) ∙ head-once x c o) in
+            ap (λ w. without (w ∷ c) (l ∷ [])) r ∙ without-here l c ∙ without-absent l c (ap (λ w. mem w c) (sym r) ∙ head-once x c o) in
             ap₂ before (gone a p) (ap (λ w. without (w ∷ b) (l ∷ [])) (sym h) ∙ gone b q′) ∙ sym (ap (λ w. before (x ∷ a) (w ∷ b)) (sym h) ∙ before-same x a b)
         alike (inr e) =
             let r : x ≡ l → ⊥ = λ k. clash (eq-eqb x l k) e in

@@ -42,3 +42,13 @@ from k (suc m) = k ∷ from (suc k) m
 abbrev pub isSome : Option ℕ → Bool
 isSome none = false
 isSome (some x) = true
+
+-- the same answer, k further on
+abbrev pub further : ℕ → Option ℕ → Option ℕ
+further k none = none
+further k (some x) = some (k + x)
+
+-- the first answer, or else the second
+abbrev pub orElse : Option ℕ → Option ℕ → Option ℕ
+orElse none o = o
+orElse (some x) o = some x

@@ -13,11 +13,6 @@ use Rattle.expression.specs.Answers.{capped}
 use Rattle.expression.proofs.Counting.{total-next, capped-more, capped-full}
 use Rattle.expression.proofs.literals.Statement.{statement}
 use Rattle.expression.proofs.literals.Tie as tie
-use Rattle.expression.proofs.literals.Reads as reads
-use Rattle.expression.proofs.literals.Lts as lts
-use Rattle.cube.proofs.count.Reads as count-reads
-use Rattle.expression.proofs.cube_at.Reads as cube-at-reads
-use Rattle.expression.proofs.number.Reads as number-reads
 
 abbrev Inv-loop : tie.InvT-loop
 Inv-loop s most sum₀ i₀ sum i =
@@ -26,43 +21,33 @@ Inv-loop s most sum₀ i₀ sum i =
 abbrev μ-loop : tie.MeasureT-loop
 μ-loop s most sum₀ i₀ sum i = length (cubesOf s) - i
 
--- src/lib.rt:68:5
 loop-holds : tie.Need-loop-holds Inv-loop μ-loop
 loop-holds c = search needs
 
--- src/lib.rt:68:15
 number-requires : tie.Need-number-requires Inv-loop μ-loop
 number-requires c κs = search needs
 
--- src/lib.rt:69:29
 cube-at-requires : tie.Need-cube-at-requires Inv-loop μ-loop
 cube-at-requires c κs = search needs
 
--- src/lib.rt:69:17
 count-requires : tie.Need-count-requires Inv-loop μ-loop
 count-requires c κs = search needs
 
--- src/lib.rt:69:17
 cast-n : tie.Need-cast-n Inv-loop μ-loop
 cast-n c = search needs
 
--- src/lib.rt:70:17
 sub-if2 : tie.Need-sub-if2 Inv-loop μ-loop
 sub-if2 c = search needs
 
--- src/lib.rt:71:13
 add-sum : tie.Need-add-sum Inv-loop μ-loop
 add-sum c = search needs
 
--- src/lib.rt:75:9
 add-i : tie.Need-add-i Inv-loop μ-loop
 add-i c = search needs
 
--- src/lib.rt:68:5
 loop-less : tie.Need-loop-less Inv-loop μ-loop
 loop-less c = search needs
 
--- src/lib.rt:68:5
 loop-again : tie.Need-loop-again Inv-loop μ-loop
 loop-again c =
     let h = c .before .before .before .before .before in
@@ -76,7 +61,6 @@ loop-again c =
       | inr (w, e) ↦ (omega arith, e ∙ capped-full t (c .before .count .result) (h .loop .sum) (h .loop .inv .1) (w .left) ∙ ap capped more, omega arith)
     ]
 
--- src/lib.rt:62:1
 returns : tie.Need-returns Inv-loop μ-loop
 returns c =
     let h = c .before .before in

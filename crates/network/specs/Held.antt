@@ -1,0 +1,72 @@
+-- The network that the fields of the struct hold, and the rules on networks.
+use Prim.Native.Nat.{ℕ, suc, _+_, _*_, _/_}
+use mathlib.Core.Bool.{Bool, _&&_}
+use mathlib.Core.List.{List, [], _∷_}
+use lib.Dec.{leb, ltb, eqb}
+use lib.ListN.{length, take, drop}
+use Rattle.sets.specs.Lists.{all, total}
+use Rattle.expression.specs.Words.{cubesOf}
+use Rattle.expression.specs.Expression.{expression}
+use Rattle.network.specs.Net.{Node, Net, nodes, variables, literalCount}
+use Rattle.network.specs.Listing.{listing}
+use Rattle.network.specs.declared.Network.{Network}
+
+-- the cubes, cut into as many at a time as the counts say
+unfoldable pub cut : List ℕ → List (List ℕ) → List (List (List ℕ))
+cut [] f = []
+cut (n ∷ ns) f = take n f ∷ cut ns (drop n f)
+
+-- divisors, numbered from v on
+unfoldable pub numbered : ℕ → List (List (List ℕ)) → List Node
+numbered v [] = []
+numbered v (f ∷ fs) = record { number = v; cubes = f } ∷ numbered (suc v) fs
+
+-- the counts in use: outputs first, then divisors
+abbrev pub used : Network → List ℕ
+used n = take (n .outputs + n .divisors) (n .counts)
+
+-- what the slots in use mean; the others mean nothing
+abbrev pub netOf : Network → Net
+netOf n = record {
+  inputs = n .inputs;
+  outputs = take (n .outputs) (cut (used n) (cubesOf (n .words)));
+  divisors = numbered (n .inputs) (drop (n .outputs) (cut (used n) (cubesOf (n .words))));
+}
+
+-- ---- the rules
+
+abbrev pub mostInputs : ℕ
+mostInputs = 32
+
+abbrev pub mostOutputs : ℕ
+mostOutputs = 32
+
+abbrev pub mostVariables : ℕ
+mostVariables = 64
+
+abbrev pub mostCubes : ℕ
+mostCubes = 1088
+
+abbrev pub mostLiterals : ℕ
+mostLiterals = 32768
+
+-- from 1 to the most
+abbrev pub upTo : ℕ → ℕ → Bool
+upTo most n = leb 1 n && leb n most
+
+-- numbers of inputs, outputs, divisors and cubes within the limits
+abbrev pub sized : ℕ → ℕ → ℕ → ℕ → Bool
+sized n m k cubes = upTo mostInputs n && (upTo mostOutputs m && (leb (n + k) mostVariables && leb cubes mostCubes))
+
+-- every literal is of a variable below v
+abbrev pub reach : ℕ → List (List ℕ) → Bool
+reach v f = all (all (λ l. ltb (l / 2) v)) f
+
+-- every node an expression over the network's variables, few enough literals, and no divisor reads itself through others: all are listed
+unfoldable pub lawful : Net → Bool
+lawful n =
+    all expression (nodes n) && (all (reach (variables n)) (nodes n) && (leb (literalCount n) mostLiterals && eqb (length (listing n)) (length (n .divisors))))
+
+-- the rules on networks and expressions, and the limits
+unfoldable pub rules : Network → Bool
+rules n = sized (n .inputs) (n .outputs) (n .divisors) (total (λ c. c) (used n)) && lawful (netOf n)

@@ -1,0 +1,37 @@
+-- A network: n inputs, an expression for each output and each divisor. Inputs are variables 0 to n - 1, divisors have numbers of their own.
+use Prim.Native.Nat.{ℕ, _+_}
+use mathlib.Core.List.{List, [], _∷_, _++_, map}
+use mathlib.Core.Bool.{Bool, cond}
+use lib.Dec.{eqb}
+use lib.ListN.{length}
+use Rattle.sets.specs.Lists.{total}
+use Rattle.expression.specs.Expression.{literalsOf}
+
+pub record Node : Type 0 where
+  pub number : ℕ
+  pub cubes : List (List ℕ)
+
+pub record Net : Type 0 where
+  pub inputs : ℕ
+  pub outputs : List (List (List ℕ))
+  pub divisors : List Node
+
+-- all expressions: outputs, then divisors
+abbrev pub nodes : Net → List (List (List ℕ))
+nodes n = n .outputs ++ map (λ (e : Node). e .cubes) (n .divisors)
+
+-- the number of variables: inputs and divisors
+abbrev pub variables : Net → ℕ
+variables n = n .inputs + length (n .divisors)
+
+abbrev pub cubeCount : Net → ℕ
+cubeCount n = total length (nodes n)
+
+-- the literal count is over all expressions, divisors included
+abbrev pub literalCount : Net → ℕ
+literalCount n = total literalsOf (nodes n)
+
+-- the expression of the divisor with a number; none where there is no such divisor
+unfoldable pub cubesAt : ℕ → List Node → List (List ℕ)
+cubesAt v [] = []
+cubesAt v (e ∷ l) = cond (eqb v (e .number)) (e .cubes) (cubesAt v l)

@@ -1,0 +1,15 @@
+-- What reading a table answers.
+use Prim.Native.Nat.{ℕ}
+use mathlib.Core.Path.{_≡_}
+use mathlib.Core.List.{List}
+use Rattle.network.specs.declared.Network.{Network}
+use Rattle.network.specs.Handed.{Holds, Blank}
+use Rattle.table.specs.Table.{Outcome, accepted, refused, readText, tableNet}
+use Rattle.table.specs.declared.Answer.{Answer}
+use Rattle.table.specs.declared.Answer.the-variants.{Read, Refused}
+use Rattle.table.specs.declared.Table.{Table}
+
+-- the network of the table; or the number and the line, and a network of zeros
+abbrev pub Told : Outcome → Table → Type 0
+Told (accepted s) r = (r .answer ≡ Read) × Holds (r .network) (tableNet s)
+Told (refused k l) r = (r .answer ≡ Refused k l) × Blank (r .network)

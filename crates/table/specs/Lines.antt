@@ -1,0 +1,69 @@
+-- The kinds of lines.
+use Prim.Native.Nat.{ℕ, suc, _*_, _+_}
+use mathlib.Core.Bool.{Bool, true, false, cond, _&&_, _||_}
+use mathlib.Core.List.{List, [], _∷_, map}
+use mathlib.Core.Option.{Option, none, some}
+use lib.Dec.{eqb}
+use lib.ListN.{length, take, drop}
+use Rattle.sets.specs.Lists.{all}
+use Rattle.sets.specs.Sets.{same}
+use Rattle.table.specs.Text.{isBlank, trimFront, decimal}
+
+-- what a line is by itself; whether another line is a cube line depends on the numbers of inputs and outputs
+pub data Kind : Type 0 where
+  empty : Kind
+  inputs outputs products : ℕ → Kind
+  ended : Kind
+  other : Kind
+
+-- blanks, then a number of one to five digits and nothing else
+unfoldable pub argument : List ℕ → Option ℕ
+argument [] = none
+argument (b ∷ t) = cond (isBlank b) (decimal (trimFront t)) none
+
+abbrev pub withNumber : (ℕ → Kind) → Option ℕ → Kind
+withNumber k none = other
+withNumber k (some n) = k n
+
+-- `.i`, `.o` or `.p` and a number
+unfoldable pub named : List ℕ → Kind
+named c = let f = take 2 c in let a = argument (drop 2 c) in
+    cond (same f (46 ∷ 105 ∷ [])) (withNumber inputs a) (cond (same f (46 ∷ 111 ∷ [])) (withNumber outputs a) (cond (same f (46 ∷ 112 ∷ [])) (withNumber products a) other))
+
+-- empty; `.e` or `.end`; a named number; or another
+unfoldable pub kindOf : List ℕ → Kind
+kindOf [] = empty
+kindOf (b ∷ t) = cond (same (b ∷ t) (46 ∷ 101 ∷ []) || same (b ∷ t) (46 ∷ 101 ∷ 110 ∷ 100 ∷ [])) ended (named (b ∷ t))
+
+-- ---- cube lines
+
+-- one of `0 1 -`
+abbrev pub isPlace : ℕ → Bool
+isPlace b = eqb b 48 || (eqb b 49 || eqb b 45)
+
+-- one of `0 1`
+abbrev pub isMark : ℕ → Bool
+isMark b = eqb b 48 || eqb b 49
+
+-- the places of the inputs as bytes, and which outputs have a `1`
+pub record CubeLine : Type 0 where
+  pub places : List ℕ
+  pub marks : List Bool
+
+abbrev pub startsBlank : List ℕ → Bool
+startsBlank [] = false
+startsBlank (b ∷ t) = isBlank b
+
+-- n of `0 1 -`, one or more blanks, m of `0 1`
+unfoldable pub cubeLineOf : ℕ → ℕ → List ℕ → Option CubeLine
+cubeLineOf n m c = let p = take n c in let r = drop n c in let o = trimFront r in
+    cond (eqb (length p) n && (all isPlace p && (startsBlank r && (eqb (length o) m && all isMark o))))
+    (some (record { places = p; marks = map (eqb 49) o })) none
+
+-- the literals of places from variable v on: `1` is the plain literal, `0` the negated
+unfoldable pub cubeFrom : ℕ → List ℕ → List ℕ
+cubeFrom v [] = []
+cubeFrom v (b ∷ t) = cond (eqb b 49) ((2 * v) ∷ cubeFrom (suc v) t) (cond (eqb b 48) ((2 * v + 1) ∷ cubeFrom (suc v) t) (cubeFrom (suc v) t))
+
+abbrev pub cubeOf : CubeLine → List ℕ
+cubeOf l = cubeFrom 0 (l .places)

@@ -1,0 +1,124 @@
+-- The table that a text holds, or why it is refused; its network.
+use Prim.Native.Nat.{ℕ, zero, suc, _+_}
+use mathlib.Core.Bool.{Bool, true, false, cond, _&&_}
+use mathlib.Core.List.{List, [], _∷_, _++_, map}
+use mathlib.Core.Option.{Option, none, some}
+use lib.Dec.{leb, ltb, eqb}
+use lib.ListN.{length, getD}
+use Rattle.sets.specs.Lists.{keep, total, from}
+use Rattle.expression.specs.Expression.{sort, absorbed}
+use Rattle.network.specs.Net.{Net}
+use Rattle.network.specs.Held.{mostInputs, mostOutputs, upTo}
+use Rattle.table.specs.Text.{linesOf, content}
+use Rattle.table.specs.Lines.{Kind, empty, inputs, outputs, products, ended, other, kindOf, CubeLine, cubeLineOf, cubeOf}
+
+abbrev pub mostBytes : ℕ
+mostBytes = 65536
+
+abbrev pub mostProducts : ℕ
+mostProducts = 32768
+
+abbrev pub mostRows : ℕ
+mostRows = 1024
+
+-- the rows that a cube line makes: one for each output with a `1`
+abbrev pub rowsIn : CubeLine → ℕ
+rowsIn l = length (keep (λ b. b) (l .marks))
+
+-- what has been read
+pub record State : Type 0 where
+  pub wide : Option ℕ
+  pub tall : Option ℕ
+  pub stated : Option ℕ
+  pub lines : List CubeLine
+
+abbrev pub start : State
+start = record { wide = none; tall = none; stated = none; lines = [] }
+
+abbrev pub missing : Option ℕ → Bool
+missing none = true
+missing (some n) = false
+
+-- not yet there, and no cube line before it
+abbrev pub inTime : Option ℕ → List CubeLine → Bool
+inTime none [] = true
+inTime none (c ∷ l) = false
+inTime (some n) l = false
+
+pub data Step : Type 0 where
+  next : State → Step
+  done : State → Step
+  refuse : ℕ → Step
+
+-- `.i N`, `.o N`, `.p N`: 2 where it is repeated or too late, 3 where the number is out of range
+unfoldable pub setWide : ℕ → State → Step
+setWide n s = cond (inTime (s .wide) (s .lines)) (cond (upTo mostInputs n) (next (record { wide = some n; tall = s .tall; stated = s .stated; lines = s .lines })) (refuse 3)) (refuse 2)
+
+unfoldable pub setTall : ℕ → State → Step
+setTall n s = cond (inTime (s .tall) (s .lines)) (cond (upTo mostOutputs n) (next (record { wide = s .wide; tall = some n; stated = s .stated; lines = s .lines })) (refuse 3)) (refuse 2)
+
+unfoldable pub setStated : ℕ → State → Step
+setStated n s = cond (inTime (s .stated) (s .lines)) (cond (leb n mostProducts) (next (record { wide = s .wide; tall = s .tall; stated = some n; lines = s .lines })) (refuse 3)) (refuse 2)
+
+-- `.p` is the number of cube lines read, where it is there
+abbrev pub agrees : Option ℕ → List CubeLine → Bool
+agrees none l = true
+agrees (some p) l = eqb p (length l)
+
+-- `.e`: 2 while `.i` or `.o` is missing, 4 where `.p` differs
+unfoldable pub finish : State → Step
+finish s = cond (missing (s .wide)) (refuse 2) (cond (missing (s .tall)) (refuse 2) (cond (agrees (s .stated) (s .lines)) (done s) (refuse 4)))
+
+-- a cube line more: 6 where its rows pass 1,024, before any is dropped
+abbrev pub addLine : Option CubeLine → State → Step
+addLine none s = refuse 2
+addLine (some l) s = cond (leb (total rowsIn (s .lines) + rowsIn l) mostRows) (next (record { wide = s .wide; tall = s .tall; stated = s .stated; lines = s .lines ++ (l ∷ []) })) (refuse 6)
+
+-- a cube line: 2 while `.i` or `.o` is missing, or where it is none
+abbrev pub cubeLine : Option ℕ → Option ℕ → List ℕ → State → Step
+cubeLine none m c s = refuse 2
+cubeLine (some n) none c s = refuse 2
+cubeLine (some n) (some m) c s = addLine (cubeLineOf n m c) s
+
+abbrev pub byKind : Kind → List ℕ → State → Step
+byKind empty c s = next s
+byKind (inputs n) c s = setWide n s
+byKind (outputs n) c s = setTall n s
+byKind (products n) c s = setStated n s
+byKind ended c s = finish s
+byKind other c s = cubeLine (s .wide) (s .tall) c s
+
+-- one line read
+unfoldable pub readLine : List ℕ → State → Step
+readLine l s = byKind (kindOf (content l)) (content l) s
+
+-- the table, or the number and line of a refusal
+pub data Outcome : Type 0 where
+  accepted : State → Outcome
+  refused : ℕ → ℕ → Outcome
+
+-- lines in turn, k being the number of the first
+unfoldable pub readLines : ℕ → List (List ℕ) → State → Outcome
+readLines k [] s = refused 5 0
+readLines k (l ∷ ls) s = elim (readLine l s) [ next t ↦ readLines (suc k) ls t | done t ↦ accepted t | refuse r ↦ refused r k ]
+
+-- 1 is tested first
+unfoldable pub readText : List ℕ → Outcome
+readText t = cond (ltb mostBytes (length t)) (refused 1 0) (readLines 1 (linesOf t) start)
+
+-- ---- the network of a table
+
+abbrev pub orZero : Option ℕ → ℕ
+orZero none = 0
+orZero (some n) = n
+
+-- the cubes of output j, row by row
+abbrev pub cubesFor : ℕ → List CubeLine → List (List ℕ)
+cubesFor j lines = map cubeOf (keep (λ (l : CubeLine). getD (l .marks) j false) lines)
+
+-- an output's expression: cubes dropped, the rest in cube order
+abbrev pub outputFor : List CubeLine → ℕ → List (List ℕ)
+outputFor lines j = sort (absorbed (cubesFor j lines))
+
+unfoldable pub tableNet : State → Net
+tableNet s = record { inputs = orZero (s .wide); outputs = map (outputFor (s .lines)) (from 0 (orZero (s .tall))); divisors = [] }
