@@ -4,4 +4,5 @@ pub mod Evaluation
 pub mod Meaning
 pub mod Held
 pub mod Handed
+pub mod Rules
 pub mod Answers

@@ -1,8 +1,8 @@
 -- The literals that two masks hold, at any width.
-use Prim.Native.Nat.{ℕ, zero, suc, _*_, _/_, _%_, _^_, _<_}
+use Prim.Native.Nat.{ℕ, zero, suc, _+_, _*_, _/_, _%_, _^_, _<_}
 use mathlib.Core.Path.{_≡_}
-use mathlib.Core.List.{List}
-use mathlib.Core.Bool.{Bool, true, false}
+use mathlib.Core.List.{List, [], _∷_}
+use mathlib.Core.Bool.{Bool, true, false, cond}
 use Rattle.sets.specs.Lists.{keep, from}
 
 abbrev pub nonzero : ℕ → Bool
@@ -31,3 +31,8 @@ pub record Lowest (w m r : ℕ) : Type 0 where
   pub inside : r < w
   pub isSet : bit m r ≡ true
   pub clear : (i : ℕ) → i < r → bit m i ≡ false
+
+-- the mask with these bits, the lowest first
+unfoldable pub packed : List Bool → ℕ
+packed [] = 0
+packed (b ∷ l) = cond b 1 0 + 2 * packed l

@@ -9,8 +9,10 @@ use Rattle.sets.specs.Lists.{keep, total, from}
 use Rattle.expression.specs.Expression.{sort, absorbed}
 use Rattle.network.specs.Net.{Net}
 use Rattle.network.specs.Held.{mostInputs, mostOutputs, upTo}
-use Rattle.table.specs.Text.{linesOf, content}
-use Rattle.table.specs.Lines.{Kind, empty, inputs, outputs, products, ended, other, kindOf, CubeLine, cubeLineOf, cubeOf}
+use Rattle.text.specs.Text.{linesOf, content}
+use Rattle.text.specs.Lines.{kindOf, CubeLine, cubeLineOf, rowsIn, cubeOf}
+use Rattle.text.specs.declared.Kind.{Kind}
+use Rattle.text.specs.declared.Kind.the-variants.{Empty, Inputs, Outputs, Products, End, Other}
 
 abbrev pub mostBytes : ℕ
 mostBytes = 65536
@@ -20,10 +22,6 @@ mostProducts = 32768
 
 abbrev pub mostRows : ℕ
 mostRows = 1024
-
--- the rows that a cube line makes: one for each output with a `1`
-abbrev pub rowsIn : CubeLine → ℕ
-rowsIn l = length (keep (λ b. b) (l .marks))
 
 -- what has been read
 pub record State : Type 0 where
@@ -81,12 +79,12 @@ cubeLine (some n) none c s = refuse 2
 cubeLine (some n) (some m) c s = addLine (cubeLineOf n m c) s
 
 abbrev pub byKind : Kind → List ℕ → State → Step
-byKind empty c s = next s
-byKind (inputs n) c s = setWide n s
-byKind (outputs n) c s = setTall n s
-byKind (products n) c s = setStated n s
-byKind ended c s = finish s
-byKind other c s = cubeLine (s .wide) (s .tall) c s
+byKind Empty c s = next s
+byKind (Inputs n) c s = setWide n s
+byKind (Outputs n) c s = setTall n s
+byKind (Products n) c s = setStated n s
+byKind End c s = finish s
+byKind Other c s = cubeLine (s .wide) (s .tall) c s
 
 -- one line read
 unfoldable pub readLine : List ℕ → State → Step

@@ -14,6 +14,11 @@ isBlank b = eqb b 32 || (eqb b 9 || eqb b 13)
 abbrev pub isDigit : ℕ → Bool
 isDigit b = leb 48 b && leb b 57
 
+-- the first line
+unfoldable pub lineOf : List ℕ → List ℕ
+lineOf [] = []
+lineOf (b ∷ t) = cond (eqb b 10) [] (b ∷ lineOf t)
+
 -- a byte more at the front of the first line
 abbrev pub onto : ℕ → List (List ℕ) → List (List ℕ)
 onto b [] = (b ∷ []) ∷ []

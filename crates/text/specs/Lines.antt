@@ -5,16 +5,11 @@ use mathlib.Core.List.{List, [], _∷_, map}
 use mathlib.Core.Option.{Option, none, some}
 use lib.Dec.{eqb}
 use lib.ListN.{length, take, drop}
-use Rattle.sets.specs.Lists.{all}
+use Rattle.sets.specs.Lists.{all, keep}
 use Rattle.sets.specs.Sets.{same}
-use Rattle.table.specs.Text.{isBlank, trimFront, decimal}
-
--- what a line is by itself; whether another line is a cube line depends on the numbers of inputs and outputs
-pub data Kind : Type 0 where
-  empty : Kind
-  inputs outputs products : ℕ → Kind
-  ended : Kind
-  other : Kind
+use Rattle.text.specs.declared.Kind.{Kind}
+use Rattle.text.specs.declared.Kind.the-variants.{Empty, Inputs, Outputs, Products, End, Other}
+use Rattle.text.specs.Text.{isBlank, trimFront, decimal}
 
 -- blanks, then a number of one to five digits and nothing else
 unfoldable pub argument : List ℕ → Option ℕ
@@ -22,18 +17,18 @@ argument [] = none
 argument (b ∷ t) = cond (isBlank b) (decimal (trimFront t)) none
 
 abbrev pub withNumber : (ℕ → Kind) → Option ℕ → Kind
-withNumber k none = other
+withNumber k none = Other
 withNumber k (some n) = k n
 
 -- `.i`, `.o` or `.p` and a number
 unfoldable pub named : List ℕ → Kind
 named c = let f = take 2 c in let a = argument (drop 2 c) in
-    cond (same f (46 ∷ 105 ∷ [])) (withNumber inputs a) (cond (same f (46 ∷ 111 ∷ [])) (withNumber outputs a) (cond (same f (46 ∷ 112 ∷ [])) (withNumber products a) other))
+    cond (same f (46 ∷ 105 ∷ [])) (withNumber Inputs a) (cond (same f (46 ∷ 111 ∷ [])) (withNumber Outputs a) (cond (same f (46 ∷ 112 ∷ [])) (withNumber Products a) Other))
 
 -- empty; `.e` or `.end`; a named number; or another
 unfoldable pub kindOf : List ℕ → Kind
-kindOf [] = empty
-kindOf (b ∷ t) = cond (same (b ∷ t) (46 ∷ 101 ∷ []) || same (b ∷ t) (46 ∷ 101 ∷ 110 ∷ 100 ∷ [])) ended (named (b ∷ t))
+kindOf [] = Empty
+kindOf (b ∷ t) = cond (same (b ∷ t) (46 ∷ 101 ∷ []) || same (b ∷ t) (46 ∷ 101 ∷ 110 ∷ 100 ∷ [])) End (named (b ∷ t))
 
 -- ---- cube lines
 
@@ -64,6 +59,10 @@ cubeLineOf n m c = let p = take n c in let r = drop n c in let o = trimFront r i
 unfoldable pub cubeFrom : ℕ → List ℕ → List ℕ
 cubeFrom v [] = []
 cubeFrom v (b ∷ t) = cond (eqb b 49) ((2 * v) ∷ cubeFrom (suc v) t) (cond (eqb b 48) ((2 * v + 1) ∷ cubeFrom (suc v) t) (cubeFrom (suc v) t))
+
+-- the rows that a cube line makes: one for each output with a `1`
+abbrev pub rowsIn : CubeLine → ℕ
+rowsIn l = length (keep (λ b. b) (l .marks))
 
 abbrev pub cubeOf : CubeLine → List ℕ
 cubeOf l = cubeFrom 0 (l .places)

@@ -1,0 +1,274 @@
+-- What a network's fields mean: the slots in use alone count, the counts cut the cubes into nodes, and the test `rules` says what the paper's rules say. Assumes nothing.
+use Prim.Native.Nat.{ℕ, zero, suc, _+_, _/_, _<_, _≤_}
+use mathlib.Core.Path.{_≡_, refl, sym, ap, ap₂, _∙_}
+use mathlib.Core.Logic.{_↔_}
+use mathlib.Core.Bool.{Bool, true, cond, _&&_}
+use mathlib.Core.List.{List, [], _∷_, _++_}
+use native.Mathlib.Nat.{zero-add}
+use native.Mathlib.Omega.{arith}
+use lib.Dec.{leb, ltb, eqb}
+use lib.ListN.{length, getD, take, drop, length-drop, take-append-drop}
+use lib.Seq.{length-take-le, take-nil, getD-take, getD-drop, take-take, drop-drop, take-add}
+use borrow.Author.Tests.{leb-true, le-leb, eqb-true, eq-eqb}
+use Rattle.sets.specs.Lists.{all, total}
+use Rattle.sets.specs.Masks.{bit}
+use Rattle.sets.proofs.Truth.{both, together}
+use Rattle.sets.proofs.Lists.{all-in, all-out, total-append}
+use Rattle.expression.specs.Words.{cubesOf}
+use Rattle.expression.specs.Expression.{expression, literalsOf}
+use Rattle.network.specs.Net.{Net, cubesAt, nodes, variables, cubeCount, literalCount}
+use Rattle.network.specs.Listing.{listing}
+use Rattle.network.specs.Evaluation.{settle, answers, numberOf, evaluate}
+use Rattle.network.specs.Meaning.{Consistent, Distinct, Sound}
+use Rattle.network.specs.Held.{cut, numbered, used, netOf, sized, upTo, reach, lawful, rules, mostInputs, mostOutputs, mostVariables, mostCubes, mostLiterals}
+use Rattle.network.specs.Rules.{Alike, Follows}
+use Rattle.network.specs.Answers.{judged, counted, evaluated}
+use Rattle.network.specs.declared.Network.{Network}
+use Rattle.network.specs.declared.Number.the-variants.{Is, No}
+use Rattle.network.proofs.Places.{all-append}
+use Rattle.network.proofs.Numbering.{numbered-length, numbered-cubes, numbered-at, numbered-distinct, below-known, reach-out, reach-in, reach-closed}
+use Rattle.network.proofs.Listings.{listing-all}
+use Rattle.network.proofs.Evaluating.{unique, evaluate-settled, evaluate-read}
+
+-- ---- cutting
+
+pub cut-length : (ns : List ℕ) (f : List (List ℕ)) → length (cut ns f) ≡ length ns
+unfolding cut
+cut-length [] f = refl
+cut-length (n ∷ ns) f = ap suc (cut-length ns (drop n f))
+
+-- node i has the cubes after those of the nodes before it
+pub cut-node : (ns : List ℕ) (f : List (List ℕ)) (i : ℕ) → getD (cut ns f) i [] ≡ take (getD ns i 0) (drop (total (λ c. c) (take i ns)) f)
+unfolding cut
+cut-node [] f i = refl
+cut-node (n ∷ ns) f zero = refl
+cut-node (n ∷ ns) f (suc i) = cut-node ns (drop n f) i ∙ ap (take (getD ns i 0)) (drop-drop (total (λ c. c) (take i ns)) n f)
+
+pub cut-node-length : (ns : List ℕ) (f : List (List ℕ)) (i : ℕ) → total (λ c. c) ns ≤ length f → length (getD (cut ns f) i []) ≡ getD ns i 0
+unfolding cut
+cut-node-length [] f i h = refl
+cut-node-length (n ∷ ns) f zero h = length-take-le n f (omega arith)
+cut-node-length (n ∷ ns) f (suc i) h = cut-node-length ns (drop n f) i (rw length-drop (omega arith))
+
+-- a sum over all cubes is that over those in use
+pub cut-total : (g : List ℕ → ℕ) (ns : List ℕ) (f : List (List ℕ)) → total (total g) (cut ns f) ≡ total g (take (total (λ c. c) ns) f)
+unfolding cut
+cut-total g [] f = refl
+cut-total g (n ∷ ns) f = rw (take-add n (total (λ c. c) ns) f, total-append g (take n f) (take (total (λ c. c) ns) (drop n f))) (ap (total g (take n f) +_) (cut-total g ns (drop n f)))
+
+-- and so is a test
+pub cut-all : (p : List ℕ → Bool) (ns : List ℕ) (f : List (List ℕ)) → all (all p) (cut ns f) ≡ all p (take (total (λ c. c) ns) f)
+unfolding cut
+cut-all p [] f = refl
+cut-all p (n ∷ ns) f = rw (take-add n (total (λ c. c) ns) f, all-append p (take n f) (take (total (λ c. c) ns) (drop n f))) (ap (all p (take n f) &&_) (cut-all p ns (drop n f)))
+
+-- as many cubes as the counts say
+pub cut-lengths : (ns : List ℕ) (f : List (List ℕ)) → total (λ c. c) ns ≤ length f → total length (cut ns f) ≡ total (λ c. c) ns
+unfolding cut
+cut-lengths [] f h = refl
+cut-lengths (n ∷ ns) f h = omega (arith, length-take-le n f (omega arith), cut-lengths ns (drop n f) (rw length-drop (omega arith)))
+
+-- ---- the slots in use
+
+drop-take : {A : Type 0} (n m : ℕ) (l : List A) → drop n (take (n + m) l) ≡ take m (drop n l)
+drop-take zero m l = rw (zero-add m)
+drop-take (suc n) m [] = rw (take-nil, take-nil)
+drop-take (suc n) m (x ∷ l) = let e : suc n + m ≡ suc (n + m) = omega arith in rw e (drop-take n m l)
+
+-- cubes past those in use do not count
+pub cut-used : (ns : List ℕ) (f : List (List ℕ)) → cut ns (take (total (λ c. c) ns) f) ≡ cut ns f
+unfolding cut
+cut-used [] f = refl
+cut-used (n ∷ ns) f = ap₂ _∷_ (take-take n (n + total (λ c. c) ns) f (omega arith)) (rw (drop-take n (total (λ c. c) ns) f) (cut-used ns (drop n f)))
+
+-- the net of so many inputs and outputs and of these nodes
+abbrev held : ℕ → ℕ → List (List (List ℕ)) → Net
+held i o fs = record { inputs = i; outputs = take o fs; divisors = numbered i (drop o fs) }
+
+-- two networks with the same slots in use mean the same
+module _ (n m : Network) (e : Alike n m) where
+  nodes-same : cut (used n) (cubesOf (n .words)) ≡ cut (used m) (cubesOf (m .words))
+  nodes-same = sym (cut-used (used n) (cubesOf (n .words))) ∙ ap₂ cut (e .counts) (e .cubes) ∙ cut-used (used m) (cubesOf (m .words))
+
+  pub held-same : netOf n ≡ netOf m
+  held-same =
+      ap₂ (λ (i o : ℕ). held i o (cut (used n) (cubesOf (n .words)))) (e .inputs) (e .outputs)
+      ∙ ap (held (m .inputs) (m .outputs)) nodes-same
+
+  pub rules-same : rules n ≡ rules m
+  unfolding rules
+  rules-same = ap₂ _&&_ (ap₂ (λ (i o : ℕ). sized i o (n .divisors) (total (λ c. c) (used n))) (e .inputs) (e .outputs)
+      ∙ ap₂ (λ (k : ℕ) (l : List ℕ). sized (m .inputs) (m .outputs) k (total (λ c. c) l)) (e .divisors) (e .counts)) (ap lawful held-same)
+
+  pub judged-same : judged n ≡ judged m
+  unfolding judged
+  judged-same = rw rules-same
+
+  pub counted-same : counted n ≡ counted m
+  unfolding counted
+  counted-same = ap₂ (λ (b : Bool) (k : Net). cond b (Is (literalCount k)) (No 10)) rules-same held-same
+
+  pub evaluated-same : (s : ℕ) → evaluated n s ≡ evaluated m s
+  unfolding evaluated
+  evaluated-same s = ap₂ (λ (b : Bool) (k : Net). cond b (Is (evaluate k s)) (No 10)) rules-same held-same
+
+-- ---- the nodes
+
+module _ (n : Network) where
+  -- outputs, then divisors
+  pub nodes-held : nodes (netOf n) ≡ cut (used n) (cubesOf (n .words))
+  nodes-held =
+      ap (take (n .outputs) (cut (used n) (cubesOf (n .words))) ++_) (numbered-cubes (n .inputs) (drop (n .outputs) (cut (used n) (cubesOf (n .words)))))
+      ∙ take-append-drop (n .outputs) (cut (used n) (cubesOf (n .words)))
+
+  pub output-held : (i : ℕ) → i < n .outputs → getD ((netOf n) .outputs) i [] ≡ getD (cut (used n) (cubesOf (n .words))) i []
+  output-held i h = getD-take (n .outputs) (cut (used n) (cubesOf (n .words))) i [] h
+
+  pub divisor-held : (i : ℕ) → cubesAt (n .inputs + i) ((netOf n) .divisors) ≡ getD (cut (used n) (cubesOf (n .words))) (n .outputs + i) []
+  divisor-held i =
+      numbered-at (n .inputs) (drop (n .outputs) (cut (used n) (cubesOf (n .words)))) i ∙ getD-drop (n .outputs) (cut (used n) (cubesOf (n .words))) i []
+
+  -- the literal count is over the cubes in use
+  pub literals-held : literalCount (netOf n) ≡ total length (take (total (λ c. c) (used n)) (cubesOf (n .words)))
+  literals-held = ap (total literalsOf) nodes-held ∙ cut-total length (used n) (cubesOf (n .words))
+
+  pub cubes-held : total (λ c. c) (used n) ≤ length (cubesOf (n .words)) → cubeCount (netOf n) ≡ total (λ c. c) (used n)
+  cubes-held h = ap (total length) nodes-held ∙ cut-lengths (used n) (cubesOf (n .words)) h
+
+  pub reach-held : (v : ℕ) → all (reach v) (nodes (netOf n)) ≡ all (all (λ l. ltb (l / 2) v)) (take (total (λ c. c) (used n)) (cubesOf (n .words)))
+  reach-held v = ap (all (reach v)) nodes-held ∙ cut-all (all (λ l. ltb (l / 2) v)) (used n) (cubesOf (n .words))
+
+  used-length : length (n .counts) ≡ 96 → n .outputs + n .divisors ≤ 96 → length (cut (used n) (cubesOf (n .words))) ≡ n .outputs + n .divisors
+  used-length h k = cut-length (used n) (cubesOf (n .words)) ∙ length-take-le (n .outputs + n .divisors) (n .counts) (omega arith)
+
+  pub outputs-held : length (n .counts) ≡ 96 → n .outputs + n .divisors ≤ 96 → length ((netOf n) .outputs) ≡ n .outputs
+  outputs-held h k = length-take-le (n .outputs) (cut (used n) (cubesOf (n .words))) (omega (arith, used-length h k))
+
+  pub divisors-held : length (n .counts) ≡ 96 → n .outputs + n .divisors ≤ 96 → length ((netOf n) .divisors) ≡ n .divisors
+  divisors-held h k = numbered-length (n .inputs) (drop (n .outputs) (cut (used n) (cubesOf (n .words)))) ∙ rw (length-drop, used-length h k) (omega arith)
+
+-- ---- the rules
+
+module _ (n : Network) where
+  -- what the test says, part by part
+  record Tested : Type 0 where
+    pub inputs : (1 ≤ n .inputs) × (n .inputs ≤ mostInputs)
+    pub outputs : (1 ≤ n .outputs) × (n .outputs ≤ mostOutputs)
+    pub few : n .inputs + n .divisors ≤ mostVariables
+    pub cubes : total (λ c. c) (used n) ≤ mostCubes
+    pub expressions : all expression (nodes (netOf n)) ≡ true
+    pub reached : all (reach (variables (netOf n))) (nodes (netOf n)) ≡ true
+    pub literals : literalCount (netOf n) ≤ mostLiterals
+    pub whole : length (listing (netOf n)) ≡ length ((netOf n) .divisors)
+
+  up-out : (most k : ℕ) → upTo most k ≡ true → (1 ≤ k) × (k ≤ most)
+  up-out most k h = let q = both (leb 1 k) (leb k most) h in (leb-true 1 k (q .0), leb-true k most (q .1))
+
+  up-in : (most k : ℕ) → (1 ≤ k) × (k ≤ most) → upTo most k ≡ true
+  up-in most k h = together (leb 1 k) (leb k most) (le-leb 1 k (h .0)) (le-leb k most (h .1))
+
+  rules-tested : rules n ≡ true → Tested
+  unfolding rules lawful
+  rules-tested h =
+      let t = total (λ c. c) (used n) in
+      let a = both (sized (n .inputs) (n .outputs) (n .divisors) t) (lawful (netOf n)) h in
+      let b = both (upTo mostInputs (n .inputs)) (upTo mostOutputs (n .outputs) && (leb (n .inputs + n .divisors) mostVariables && leb t mostCubes)) (a .0) in
+      let c = both (upTo mostOutputs (n .outputs)) (leb (n .inputs + n .divisors) mostVariables && leb t mostCubes) (b .1) in
+      let d = both (leb (n .inputs + n .divisors) mostVariables) (leb t mostCubes) (c .1) in
+      let last = leb (literalCount (netOf n)) mostLiterals && eqb (length (listing (netOf n))) (length ((netOf n) .divisors)) in
+      let e = both (all expression (nodes (netOf n))) (all (reach (variables (netOf n))) (nodes (netOf n)) && last) (a .1) in
+      let f = both (all (reach (variables (netOf n))) (nodes (netOf n))) last (e .1) in
+      let g = both (leb (literalCount (netOf n)) mostLiterals) (eqb (length (listing (netOf n))) (length ((netOf n) .divisors))) (f .1) in
+      record {
+        inputs = up-out mostInputs (n .inputs) (b .0);
+        outputs = up-out mostOutputs (n .outputs) (c .0);
+        few = leb-true (n .inputs + n .divisors) mostVariables (d .0);
+        cubes = leb-true t mostCubes (d .1);
+        expressions = e .0;
+        reached = f .0;
+        literals = leb-true (literalCount (netOf n)) mostLiterals (g .0);
+        whole = eqb-true (length (listing (netOf n))) (length ((netOf n) .divisors)) (g .1);
+      }
+
+  tested-rules : Tested → rules n ≡ true
+  unfolding rules lawful
+  tested-rules t =
+      rw (
+        up-in mostInputs (n .inputs) (t .inputs),
+        up-in mostOutputs (n .outputs) (t .outputs),
+        le-leb (n .inputs + n .divisors) mostVariables (t .few),
+        le-leb (total (λ c. c) (used n)) mostCubes (t .cubes),
+        t .expressions,
+        t .reached,
+        le-leb (literalCount (netOf n)) mostLiterals (t .literals),
+        eq-eqb (length (listing (netOf n))) (length ((netOf n) .divisors)) (t .whole),
+      )
+
+  abbrev fs : List (List (List ℕ))
+  fs = drop (n .outputs) (cut (used n) (cubesOf (n .words)))
+
+  -- the divisors of a network held so have numbers of their own
+  pub held-distinct : Distinct (netOf n)
+  held-distinct = numbered-distinct (netOf n) fs refl
+
+  -- what evaluation stands on
+  pub rules-sound : rules n ≡ true → Sound (netOf n)
+  rules-sound h = let t = rules-tested h in record { distinct = held-distinct; closed = reach-closed (netOf n) fs refl (t .reached); whole = t .whole }
+
+  -- the answer is read off any assignment that fits the setting
+  pub rules-read : rules n ≡ true → (s : ℕ) (a : ℕ → Bool) → Consistent (netOf n) (bit s) a → evaluated n s ≡ Is (numberOf (answers (netOf n) a))
+  unfolding evaluated
+  rules-read h s a c = rw h (ap Is (evaluate-read (netOf n) (rules-sound h) s a c))
+
+  module _ (slots : length (n .counts) ≡ 96) where
+    -- a network by the rules has the outputs and divisors that it says
+    pub rules-outputs : rules n ≡ true → length ((netOf n) .outputs) ≡ n .outputs
+    rules-outputs h = let t = rules-tested h in outputs-held n slots (omega arith)
+
+    pub rules-divisors : rules n ≡ true → length ((netOf n) .divisors) ≡ n .divisors
+    rules-divisors h = let t = rules-tested h in divisors-held n slots (omega arith)
+
+    rules-into : rules n ≡ true → Follows n
+    rules-into h = let t = rules-tested h in let o = rules-sound h in record {
+      inputs = t .inputs;
+      outputs = t .outputs;
+      variables = t .few;
+      cubes = t .cubes;
+      literals = t .literals;
+      expressions = λ f m. all-out expression m (t .expressions);
+      known = λ f m v r. omega (arith, reach-out (variables (netOf n)) (nodes (netOf n)) (t .reached) f m v r, rules-divisors h);
+      acyclic = (listing-all (netOf n) held-distinct (o .closed)) .0 (t .whole);
+    }
+
+    rules-back : Follows n → rules n ≡ true
+    rules-back w =
+        let small : n .outputs + n .divisors ≤ 96 = omega (arith, w .inputs, w .outputs, w .variables) in
+        let near : all (reach (variables (netOf n))) (nodes (netOf n)) ≡ true =
+        reach-in (variables (netOf n)) (nodes (netOf n)) (λ f m v r. omega (arith, w .known f m v r, divisors-held n slots small)) in
+        tested-rules (record {
+          inputs = w .inputs;
+          outputs = w .outputs;
+          few = w .variables;
+          cubes = w .cubes;
+          expressions = all-in expression (nodes (netOf n)) (w .expressions);
+          reached = near;
+          literals = w .literals;
+          whole = (listing-all (netOf n) held-distinct (reach-closed (netOf n) fs refl near)) .1 (w .acyclic);
+        })
+
+    -- the test is passed by exactly the networks that follow the rules
+    pub rules-iff : (rules n ≡ true) ↔ Follows n
+    rules-iff = (rules-into, rules-back)
+
+    -- on each setting one assignment of the variables fits, and the answer is read off it
+    pub rules-evaluate : rules n ≡ true → (s : ℕ) → (a : ℕ → Bool) × Consistent (netOf n) (bit s) a
+        × ((b : ℕ → Bool) → Consistent (netOf n) (bit s) b → (v : ℕ) → v < n .inputs + n .divisors → a v ≡ b v)
+        × (evaluated n s ≡ Is (numberOf (answers (netOf n) a)))
+    rules-evaluate h s =
+        let o = rules-sound h in
+        let c = evaluate-settled (netOf n) o s in (
+          settle (netOf n) (listing (netOf n)) (bit s),
+          c,
+          λ b k v l. unique (netOf n) (o .whole) (bit s) (settle (netOf n) (listing (netOf n)) (bit s)) b c k v (below-known (netOf n) fs refl v (omega (arith, rules-divisors h))),
+          rules-read h s (settle (netOf n) (listing (netOf n)) (bit s)) c,
+        )

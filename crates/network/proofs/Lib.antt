@@ -1,0 +1,5 @@
+pub mod Places
+pub mod Numbering
+pub mod Listings
+pub mod Evaluating
+pub mod Holding

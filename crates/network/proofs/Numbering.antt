@@ -1,0 +1,139 @@
+-- Divisors numbered from v on have the numbers v, v + 1, .., and so numbers of their own. Assumes nothing.
+use Prim.Native.Nat.{ℕ, zero, suc, _+_, _-_, _/_, _<_, _≤_}
+use mathlib.Core.Path.{_≡_, refl, sym, ap, _∙_, subst}
+use mathlib.Core.Logic.{inl, inr}
+use mathlib.Core.Bool.{Bool, true, false, cond}
+use mathlib.Core.List.{List, [], _∷_, map, List·Memᴰ·head as here, List·Memᴰ·tail as there, List·Memᴰ·not-nil, List·Memᴰ·cases-cons, Memᴰ·append-left, Memᴰ·append-right}
+use native.Mathlib.Omega.{arith}
+use lib.Dec.{leb, ltb, eqb}
+use lib.ListN.{length, getD}
+use borrow.Author.Tests.{eqb-true, eq-eqb, ne-eqb, leb-true, ltb-true, ltb-false, lt-ltb}
+use Rattle.sets.specs.Lists.{all, from}
+use Rattle.sets.specs.Sets.{asc, mem}
+use Rattle.sets.proofs.Truth.{both, decided, clash}
+use Rattle.sets.proofs.Lists.{_∈_, all-in, all-out, map-in, ahead}
+use Rattle.sets.proofs.Sets.{from-asc, from-mem, mem-of}
+use Rattle.network.specs.Net.{Node, Net, nodes, variables, cubesAt}
+use Rattle.network.specs.Meaning.{Reads, Known, Closed, Distinct}
+use Rattle.network.specs.Held.{numbered, reach}
+
+pub numbered-length : (v : ℕ) (fs : List (List (List ℕ))) → length (numbered v fs) ≡ length fs
+unfolding numbered
+numbered-length v [] = refl
+numbered-length v (f ∷ fs) = ap suc (numbered-length (suc v) fs)
+
+pub numbered-numbers : (v : ℕ) (fs : List (List (List ℕ))) → map (λ (e : Node). e .number) (numbered v fs) ≡ from v (length fs)
+unfolding numbered from
+numbered-numbers v [] = refl
+numbered-numbers v (f ∷ fs) = ap (v ∷_) (numbered-numbers (suc v) fs)
+
+pub numbered-cubes : (v : ℕ) (fs : List (List (List ℕ))) → map (λ (e : Node). e .cubes) (numbered v fs) ≡ fs
+unfolding numbered
+numbered-cubes v [] = refl
+numbered-cubes v (f ∷ fs) = ap (f ∷_) (numbered-cubes (suc v) fs)
+
+-- the numbers are from v on, as many as there are expressions
+pub numbered-range : (v : ℕ) (fs : List (List (List ℕ))) (e : Node) → e ∈ numbered v fs → (v ≤ e .number) × (e .number < v + length fs)
+numbered-range v fs e m =
+    let i : mem (e .number) (from v (length fs)) ≡ true = rw (numbered-numbers v fs) at (mem-of (map-in (λ (g : Node). g .number) m)) in
+    let q = both (leb v (e .number)) (ltb (e .number) (v + length fs)) (sym (from-mem v (length fs) (e .number)) ∙ i) in
+    (leb-true v (e .number) (q .0), ltb-true (e .number) (v + length fs) (q .1))
+
+-- and each of those numbers is there, with its expression
+pub numbered-in : (v : ℕ) (fs : List (List (List ℕ))) (i : ℕ) → i < length fs → record { number = v + i; cubes = getD fs i [] } ∈ numbered v fs
+unfolding numbered
+numbered-in v [] i h = absurd (omega arith)
+numbered-in v (f ∷ fs) zero h = let e : v + 0 ≡ v = omega arith in rw e (here refl)
+numbered-in v (f ∷ fs) (suc i) h = let e : v + suc i ≡ suc v + i = omega arith in rw e (there (numbered-in (suc v) fs i (omega arith)))
+
+-- where it is found by its number
+pub numbered-at : (v : ℕ) (fs : List (List (List ℕ))) (i : ℕ) → cubesAt (v + i) (numbered v fs) ≡ getD fs i []
+unfolding numbered cubesAt
+numbered-at v [] i = refl
+numbered-at v (f ∷ fs) zero = rw (eq-eqb (v + 0) v (omega arith))
+numbered-at v (f ∷ fs) (suc i) =
+    let e : v + suc i ≡ suc v + i = omega arith in rw (ne-eqb (v + suc i) v (λ p. omega arith), e) (numbered-at (suc v) fs i)
+
+found-at : (l : List Node) → ((e g : Node) → e ∈ l → g ∈ l → e .number ≡ g .number → e ≡ g) → {e : Node} → e ∈ l → cubesAt (e .number) l ≡ e .cubes
+unfolding cubesAt
+found-at [] u m = absurd (List·Memᴰ·not-nil m)
+found-at (x ∷ l) u {e} m = go (eqb (e .number) (x .number)) refl m (λ i. found-at l (λ p q j k. u p q (there j) (there k)) i)
+  where
+    go : (b : Bool) → eqb (e .number) (x .number) ≡ b → e ∈ (x ∷ l) → (e ∈ l → cubesAt (e .number) l ≡ e .cubes) → cond b (x .cubes) (cubesAt (e .number) l) ≡ e .cubes
+    go true p i k = ap (λ (z : Node). z .cubes) (u x e (here refl) i (sym (eqb-true (e .number) (x .number) p)))
+    go false p (here q) k = clash (eq-eqb (e .number) (x .number) (ap (λ (z : Node). z .number) q)) p
+    go false p (there i) k = k i
+
+-- ---- numbers of their own
+
+-- numbered so, divisors have numbers of their own
+pub numbered-distinct : (n : Net) (fs : List (List (List ℕ))) → n .divisors ≡ numbered (n .inputs) fs → Distinct n
+numbered-distinct n fs e = record {
+  ascending = rw (e, numbered-numbers (n .inputs) fs) (from-asc (n .inputs) (length fs));
+  above = λ g m. (numbered-range (n .inputs) fs g (subst (λ (l : List Node). g ∈ l) e m)) .0;
+}
+
+-- where numbers ascend, the first is below the others, which ascend
+pub numbers-ahead : (e : Node) (l : List Node) → asc (map (λ (z : Node). z .number) (e ∷ l)) ≡ true
+    → ((g : Node) → g ∈ l → e .number < g .number) × (asc (map (λ (z : Node). z .number) l) ≡ true)
+numbers-ahead e l h =
+    let q = ahead ltb (e .number) (map (λ (z : Node). z .number) l) h in
+    (λ g m. ltb-true (e .number) (g .number) (all-out (ltb (e .number)) (map-in (λ (z : Node). z .number) m) (q .0)), q .1)
+
+module _ (n : Net) (d : Distinct n) where
+  -- two divisors with one number are one
+  pub distinct-same : {e g : Node} → e ∈ n .divisors → g ∈ n .divisors → e .number ≡ g .number → e ≡ g
+  distinct-same i j p = go (n .divisors) (d .ascending) i j p
+    where
+      go : (l : List Node) → asc (map (λ (z : Node). z .number) l) ≡ true → {e g : Node} → e ∈ l → g ∈ l → e .number ≡ g .number → e ≡ g
+      go [] h i j p = absurd (List·Memᴰ·not-nil i)
+      go (x ∷ l) h {e} {g} i j p =
+          let q = numbers-ahead x l h in
+          elim (List·Memᴰ·cases-cons i) [
+            | inl a ↦ elim (List·Memᴰ·cases-cons j) [ inl b ↦ a ∙ sym b | inr b ↦ absurd (omega (arith, (q .0) g b, ap (λ (z : Node). z .number) a)) ]
+            | inr a ↦ elim (List·Memᴰ·cases-cons j) [ inl b ↦ absurd (omega (arith, (q .0) e a, ap (λ (z : Node). z .number) b)) | inr b ↦ go l (q .1) a b p ]
+          ]
+
+  -- so a divisor's expression is found by its number
+  pub cubes-at : {e : Node} → e ∈ n .divisors → cubesAt (e .number) (n .divisors) ≡ e .cubes
+  cubes-at m = found-at (n .divisors) (λ e g i j p. distinct-same i j p) m
+
+-- ---- every literal is of a variable below k exactly when every variable read is
+
+pub reach-out : (k : ℕ) (fs : List (List (List ℕ))) → all (reach k) fs ≡ true → (f : List (List ℕ)) → f ∈ fs → (v : ℕ) → Reads f v → v < k
+reach-out k fs h f m v (c, i, (l, j, p)) =
+    rw p (ltb-true (l / 2) k (all-out (λ x. ltb (x / 2) k) j (all-out (all (λ x. ltb (x / 2) k)) i (all-out (reach k) m h))))
+
+pub reach-in : (k : ℕ) (fs : List (List (List ℕ))) → ((f : List (List ℕ)) → f ∈ fs → (v : ℕ) → Reads f v → v < k) → all (reach k) fs ≡ true
+reach-in k fs r = all-in (reach k) fs (λ f m. all-in (all (λ x. ltb (x / 2) k)) f (λ c i. all-in (λ x. ltb (x / 2) k) c (λ l j. lt-ltb (l / 2) k (r f m (l / 2) (c, i, (l, j, refl))))))
+
+-- ---- the variables of a network whose divisors are numbered from the inputs on
+
+module _ (n : Net) (fs : List (List (List ℕ))) (e : n .divisors ≡ numbered (n .inputs) fs) where
+  -- they are the inputs and the divisors
+  pub known-below : (v : ℕ) → Known n v → v < variables n
+  known-below v (inl h) = omega arith
+  known-below v (inr (g, m, p)) =
+      let r = numbered-range (n .inputs) fs g (subst (λ (l : List Node). g ∈ l) e m) in
+      omega (arith, r .1, ap length e, numbered-length (n .inputs) fs)
+
+  pub below-known : (v : ℕ) → v < variables n → Known n v
+  below-known v h = elim (decided (ltb v (n .inputs))) [
+    | inl t ↦ inl (ltb-true v (n .inputs) t)
+    | inr t ↦
+        let k : n .inputs ≤ v = ltb-false v (n .inputs) t in
+        let p : v ≡ n .inputs + (v - n .inputs) = omega arith in
+        inr (
+          record { number = n .inputs + (v - n .inputs); cubes = getD fs (v - n .inputs) [] },
+          subst (λ (l : List Node). record { number = n .inputs + (v - n .inputs); cubes = getD fs (v - n .inputs) [] } ∈ l) (sym e)
+              (numbered-in (n .inputs) fs (v - n .inputs) (omega (arith, ap length e, numbered-length (n .inputs) fs))),
+          p,
+        )
+  ]
+
+  -- so where every literal is of a variable of the network, the expressions read inputs and divisors only
+  pub reach-closed : all (reach (variables n)) (nodes n) ≡ true → Closed n
+  reach-closed h = record {
+    outputs = λ f m v r. below-known v (reach-out (variables n) (nodes n) h f (Memᴰ·append-left (map (λ (g : Node). g .cubes) (n .divisors)) m) v r);
+    divisors = λ g m v r. below-known v (reach-out (variables n) (nodes n) h (g .cubes) (Memᴰ·append-right (n .outputs) (map-in (λ (z : Node). z .cubes) m)) v r);
+  }

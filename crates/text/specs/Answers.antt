@@ -1,0 +1,29 @@
+-- What reading a cube line answers.
+use Prim.Native.Nat.{ℕ}
+use mathlib.Core.Bool.{cond, _&&_}
+use mathlib.Core.List.{List}
+use mathlib.Core.Option.{Option, none, some}
+use lib.Dec.{leb}
+use Rattle.sets.specs.Masks.{packed}
+use Rattle.cube.specs.Cube.{lits}
+use Rattle.text.specs.Lines.{CubeLine, cubeLineOf, cubeOf, rowsIn}
+use Rattle.text.specs.declared.Parsed.{Parsed}
+use Rattle.text.specs.declared.Parsed.the-variants.{Line, Nothing}
+
+-- a cube line's cube, the outputs with a `1` as a mask, and how many there are
+pub record Told : Type 0 where
+  pub cube : List ℕ
+  pub marks : ℕ
+  pub rows : ℕ
+
+abbrev pub parsedOf : Parsed → Option Told
+parsedOf (Line c m r) = some (record { cube = lits c; marks = m; rows = r })
+parsedOf Nothing = none
+
+abbrev pub toldOf : Option CubeLine → Option Told
+toldOf none = none
+toldOf (some l) = some (record { cube = cubeOf l; marks = packed (l .marks); rows = rowsIn l })
+
+-- numbers of inputs and outputs past 32 are none of a table's
+unfoldable pub parsing : ℕ → ℕ → List ℕ → Option Told
+parsing n m c = cond (leb n 32 && leb m 32) (toldOf (cubeLineOf n m c)) none
