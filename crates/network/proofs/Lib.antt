@@ -3,3 +3,4 @@ pub mod Numbering
 pub mod Listings
 pub mod Evaluating
 pub mod Holding
+pub mod Handing
