@@ -7,3 +7,4 @@ pub mod Compacting
 pub mod Accepting
 pub mod Sorting
 pub mod Sinking
+pub mod Members

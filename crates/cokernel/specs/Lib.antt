@@ -1,0 +1,2 @@
+pub mod Cokernels
+pub mod Answers

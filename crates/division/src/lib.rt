@@ -1,0 +1,5 @@
+// Weak division of lent expressions.
+pub enum Division {
+    Done(usize, usize),
+    Refused(u32),
+}

@@ -1,0 +1,1 @@
+// Fast extract: the divisors of a network, and runs of steps.

@@ -1,0 +1,56 @@
+-- The factored form of an expression.
+use Prim.Native.Nat.{ℕ, zero, suc, _+_, _*_, _-_}
+use mathlib.Core.Bool.{Bool, cond, not}
+use mathlib.Core.List.{List, [], _∷_, _++_, map}
+use lib.Dec.{ltb}
+use lib.ListN.{length}
+use Rattle.sets.specs.Lists.{keep, isNil}
+use Rattle.sets.specs.Sets.{mem, insert, without}
+use Rattle.cube.specs.Cube.{width}
+use Rattle.expression.specs.Expression.{literalsOf, sort}
+
+-- in how many cubes a literal is
+abbrev pub uses : ℕ → List (List ℕ) → ℕ
+uses l f = length (keep (mem l) f)
+
+-- the literal in most cubes among b and the k literals from l on, the smallest on a tie
+unfoldable pub most : ℕ → List (List ℕ) → ℕ → ℕ → ℕ
+most zero f l b = b
+most (suc k) f l b = most k f (suc l) (cond (ltb (uses b f) (uses l f)) l b)
+
+abbrev pub mostUsed : List (List ℕ) → ℕ
+mostUsed f = most (2 * width - 1) f 1 0
+
+-- F/l: the cubes with l, without it; and the cubes that have it not
+abbrev pub over : ℕ → List (List ℕ) → List (List ℕ)
+over l f = map (λ c. without c (l ∷ [])) (keep (mem l) f)
+
+abbrev pub rest : ℕ → List (List ℕ) → List (List ℕ)
+rest l f = keep (λ c. not (mem l c)) f
+
+pub data Form : Type 0 where
+  -- the cubes as they stand
+  sum : List (List ℕ) → Form
+  -- l times the form of F/l, and nothing else
+  times : ℕ → Form → Form
+  -- l times the form of F/l, and the form of the rest
+  plus : ℕ → Form → Form → Form
+
+-- the form, where k is at least the number of literals
+unfoldable pub formBy : ℕ → List (List ℕ) → Form
+formBy zero f = sum f
+formBy (suc k) f =
+    let l = mostUsed f in
+    let some = times l (formBy k (over l f)) in
+    let both = plus l (formBy k (over l f)) (formBy k (rest l f)) in
+    cond (ltb (uses l f) 2) (sum f) (cond (isNil (rest l f)) some both)
+
+-- the cubes are taken in cube order
+abbrev pub formOf : List (List ℕ) → Form
+formOf f = formBy (literalsOf f) (sort f)
+
+-- the cubes that multiplying out gives
+unfoldable pub expanded : Form → List (List ℕ)
+expanded (sum f) = f
+expanded (times l q) = map (insert l) (expanded q)
+expanded (plus l q r) = map (insert l) (expanded q) ++ expanded r

@@ -1,0 +1,5 @@
+// The factored text of a lent expression.
+pub enum Wrote {
+    Bytes(usize),
+    Refused(u32),
+}
