@@ -1,0 +1,61 @@
+//! Without an argument it answers the line protocol; else it generates
+//! requests, compares two programs' answers, or counts what answers reach.
+
+use second::{compare, generate, protocol};
+use std::io::{self, BufWriter, Write};
+use std::process::ExitCode;
+
+const USAGE: &str = "second
+second generate SEED COUNT [OPERATION ...]
+second compare REQUESTS LEFT RIGHT
+second cover REQUESTS ANSWERS";
+
+fn main() -> ExitCode {
+    let words: Vec<String> = std::env::args().skip(1).collect();
+    let words: Vec<&str> = words.iter().map(String::as_str).collect();
+    let done = match words.as_slice() {
+        [] => serve(),
+        ["generate", seed, count, names @ ..] => print_requests(seed, count, names),
+        ["compare", requests, left, right] => compare_files(requests, left, right),
+        ["cover", requests, answers] => cover_files(requests, answers),
+        _ => Err(io::Error::other(USAGE)),
+    };
+    done.unwrap_or_else(|error| {
+        eprintln!("{error}");
+        ExitCode::from(2)
+    })
+}
+
+fn serve() -> io::Result<ExitCode> {
+    protocol::serve(io::stdin().lock(), BufWriter::new(io::stdout().lock()))?;
+    Ok(ExitCode::SUCCESS)
+}
+
+fn print_requests(seed: &str, count: &str, names: &[&str]) -> io::Result<ExitCode> {
+    let number = |text: &str| text.parse::<u64>().map_err(|_| io::Error::other(USAGE));
+    let known = |name: &&str| generate::KINDS.contains(name);
+    if !names.iter().all(known) {
+        return Err(io::Error::other(format!("operations are {}", generate::KINDS.join(" "))));
+    }
+    let mut out = BufWriter::new(io::stdout().lock());
+    for request in generate::requests(number(seed)?, number(count)?, names) {
+        out.write_all(&request)?;
+        out.write_all(b"\n")?;
+    }
+    out.flush()?;
+    Ok(ExitCode::SUCCESS)
+}
+
+fn compare_files(requests: &str, left: &str, right: &str) -> io::Result<ExitCode> {
+    let files = [requests, left, right].map(std::fs::read);
+    let [requests, left, right] = files;
+    let (printed, alike) = compare::compare(&requests?, &left?, &right?);
+    io::stdout().write_all(printed.as_bytes())?;
+    Ok(if alike { ExitCode::SUCCESS } else { ExitCode::from(1) })
+}
+
+fn cover_files(requests: &str, answers: &str) -> io::Result<ExitCode> {
+    let printed = compare::cover(&std::fs::read(requests)?, &std::fs::read(answers)?);
+    io::stdout().write_all(printed.as_bytes())?;
+    Ok(ExitCode::SUCCESS)
+}
