@@ -1,3 +1,4 @@
 pub mod Divisor
 pub mod Extract
 pub mod Run
+pub mod Meaning

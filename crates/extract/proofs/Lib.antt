@@ -1,0 +1,15 @@
+pub mod Using
+pub mod Replacing
+pub mod Making
+pub mod Weighing
+pub mod Choosing
+pub mod Parting
+pub mod Offering
+pub mod Reading
+pub mod Stepping
+pub mod Arranging
+pub mod Moving
+pub mod Running
+pub mod Keeping
+pub mod Following
+pub mod Reordering
