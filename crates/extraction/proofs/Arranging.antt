@@ -19,13 +19,13 @@ use Rattle.network.specs.Meaning.{Reads, SameCubes, Along, SameNode, Reordered}
 use Rattle.network.specs.Meaning.Along.{none as end, more as on}
 use Rattle.network.proofs.Evaluating.{listing-order, evaluate-order}
 use Rattle.network.proofs.Handing.{InTurn}
-use Rattle.extract.specs.Divisor.{Divisor, pair, own, rewrite}
-use Rattle.extract.specs.Extract.{gather, pairsIn, sumOf, sumsIn, candidates, step}
-use Rattle.extract.specs.Run.{inOrder}
-use Rattle.extract.specs.Meaning.{Good}
-use Rattle.extract.proofs.Making.{cubes, onNode, cubes-map, nodes-map, numbered-map, step-node}
-use Rattle.extract.proofs.Offering.{gather-out, sums-out, sum-of-out}
-use Rattle.extract.proofs.Reading.{in-output, in-divisor, turn-listing, good-sound}
+use Rattle.extraction.specs.Divisor.{Divisor, pair, own, rewrite}
+use Rattle.extraction.specs.Extract.{gather, pairsIn, sumOf, sumsIn, candidates, step}
+use Rattle.extraction.specs.Run.{inOrder}
+use Rattle.extraction.specs.Meaning.{Good}
+use Rattle.extraction.proofs.Making.{cubes, onNode, cubes-map, nodes-map, numbered-map, step-node}
+use Rattle.extraction.proofs.Offering.{gather-out, sums-out, sum-of-out}
+use Rattle.extraction.proofs.Reading.{in-output, in-divisor, turn-listing, good-sound}
 
 same-sort : (f : List (List ℕ)) → SameCubes f (sort f)
 same-sort f = record { into = λ c m. sort-in m; back = λ c m. sort-out f m }

@@ -10,9 +10,9 @@ use Rattle.expression.specs.Expression.{expression}
 use Rattle.network.specs.Net.{Node, Net, nodes, variables, cubeCount, literalCount}
 use Rattle.network.specs.Meaning.{Reads, Through}
 use Rattle.network.specs.Held.{numbered, mostVariables, mostCubes, mostLiterals}
-use Rattle.extract.specs.Divisor.{Divisor, pair, sum, own, small, sound, useOf, hit}
-use Rattle.extract.specs.Extract.{weight, candidates, sooner, step}
-use Rattle.extract.specs.Run.{Stop, done, asked, numbers, rows, Made, Move, finished, stuck, take, made}
+use Rattle.extraction.specs.Divisor.{Divisor, pair, sum, own, small, sound, useOf, hit}
+use Rattle.extraction.specs.Extract.{weight, candidates, sooner, step}
+use Rattle.extraction.specs.Run.{Stop, done, asked, numbers, rows, Made, Move, finished, stuck, take, made}
 
 -- ---- networks that a step can be made on: what the rules on networks say, but for the limits
 

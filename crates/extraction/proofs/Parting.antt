@@ -9,9 +9,9 @@ use Rattle.sets.specs.Sets.{mem, sub, apart, asc, without, meet}
 use Rattle.sets.proofs.Truth.{both, decided, clash}
 use Rattle.sets.proofs.Lists.{_∈_}
 use Rattle.sets.proofs.Sets.{sub-out, apart-in, apart-out, union-mem, without-mem, without-sub, meet-mem, without-asc, union-asc, ext, sub-refl}
-use Rattle.extract.specs.Divisor.{small, useOf}
-use Rattle.extract.specs.Meaning.{Parts, other, Use}
-use Rattle.extract.proofs.Using.{small-sub, use-in}
+use Rattle.extraction.specs.Divisor.{small, useOf}
+use Rattle.extraction.specs.Meaning.{Parts, other, Use}
+use Rattle.extraction.proofs.Using.{small-sub, use-in}
 
 table : (p q : Bool) → (p && not (p && q)) ≡ (p && not q)
 table true q = refl

@@ -15,13 +15,13 @@ use Rattle.sets.proofs.Sets.{mem-of, of-mem, sub-out, union-right, without-asc,
 use Rattle.expression.specs.Expression.{expression}
 use Rattle.expression.proofs.Absorbing.{loose-in}
 use Rattle.network.specs.Net.{Net, nodes}
-use Rattle.extract.specs.Divisor.{Divisor, pair, sum, own, small, sound}
-use Rattle.extract.specs.Extract.{gather, pairsIn, ordered, sumOf, sumsIn, candidates}
-use Rattle.extract.specs.Meaning.{Good, other, Used, Divides, Fit}
-use Rattle.extract.specs.Meaning.Divides.{literals, parts}
-use Rattle.extract.proofs.Using.{cube-asc, cube-proper, sum-parts, apart-flip, small-sub, use-out}
-use Rattle.extract.proofs.Replacing.{own-reads}
-use Rattle.extract.proofs.Parting.{less-left, less-right, parts-apart, parts-differ, parts-use, use-left, use-right}
+use Rattle.extraction.specs.Divisor.{Divisor, pair, sum, own, small, sound}
+use Rattle.extraction.specs.Extract.{gather, pairsIn, ordered, sumOf, sumsIn, candidates}
+use Rattle.extraction.specs.Meaning.{Good, other, Used, Divides, Fit}
+use Rattle.extraction.specs.Meaning.Divides.{literals, parts}
+use Rattle.extraction.proofs.Using.{cube-asc, cube-proper, sum-parts, apart-flip, small-sub, use-out}
+use Rattle.extraction.proofs.Replacing.{own-reads}
+use Rattle.extraction.proofs.Parting.{less-left, less-right, parts-apart, parts-differ, parts-use, use-left, use-right}
 
 module _ {A B : Type 0} where
   pub gather-in : (g : A → List B) {x : A} {l : List A} {y : B} → x ∈ l → y ∈ g x → y ∈ gather g l

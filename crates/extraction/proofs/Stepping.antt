@@ -15,14 +15,14 @@ use Rattle.network.specs.Listing.{listing}
 use Rattle.network.specs.Evaluation.{settle, answers, numberOf, evaluate}
 use Rattle.network.specs.Meaning.{Reads, Consistent}
 use Rattle.network.proofs.Evaluating.{evaluate-settled, evaluate-read}
-use Rattle.extract.specs.Divisor.{Divisor, pair, sum, own, sound, rewrite}
-use Rattle.extract.specs.Extract.{candidates, redo, step}
-use Rattle.extract.specs.Meaning.{Good, Fit}
-use Rattle.extract.proofs.Using.{sum-parts}
-use Rattle.extract.proofs.Replacing.{rewrite-value, rewrite-expression, rewrite-ordered, rewrite-reads}
-use Rattle.extract.proofs.Making.{step-node, step-variables, step-turn}
-use Rattle.extract.proofs.Offering.{candidate-fit}
-use Rattle.extract.proofs.Reading.{in-output, in-divisor, good-sound, step-acyclic}
+use Rattle.extraction.specs.Divisor.{Divisor, pair, sum, own, sound, rewrite}
+use Rattle.extraction.specs.Extract.{candidates, redo, step}
+use Rattle.extraction.specs.Meaning.{Good, Fit}
+use Rattle.extraction.proofs.Using.{sum-parts}
+use Rattle.extraction.proofs.Replacing.{rewrite-value, rewrite-expression, rewrite-ordered, rewrite-reads}
+use Rattle.extraction.proofs.Making.{step-node, step-variables, step-turn}
+use Rattle.extraction.proofs.Offering.{candidate-fit}
+use Rattle.extraction.proofs.Reading.{in-output, in-divisor, good-sound, step-acyclic}
 
 own-ordered : (d : Divisor) → sound d ≡ true → ordered (own d) ≡ true
 own-ordered (pair p q) s = refl

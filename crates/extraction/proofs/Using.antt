@@ -13,8 +13,8 @@ use Rattle.sets.proofs.Sets.{mem-of, sub-out, apart-in, apart-out, union-mem, u
 use Rattle.expression.specs.Expression.{isCube, loose, expression, has}
 use Rattle.expression.proofs.Members.{has-in, has-out}
 use Rattle.expression.proofs.Sorting.{loose-differ}
-use Rattle.extract.specs.Divisor.{Divisor, pair, sum, small, sound, useOf, part, hit, gone, found, bases}
-use Rattle.extract.specs.Meaning.{Parts, other, Use, Partner, Base}
+use Rattle.extraction.specs.Divisor.{Divisor, pair, sum, small, sound, useOf, part, hit, gone, found, bases}
+use Rattle.extraction.specs.Meaning.{Parts, other, Use, Partner, Base}
 
 -- ---- what an expression's cubes are
 

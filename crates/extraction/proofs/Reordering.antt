@@ -15,14 +15,14 @@ use Rattle.sets.proofs.Lists.{_∈_, map-in, total-map}
 use Rattle.expression.specs.Expression.{has, sort, literalsOf}
 use Rattle.expression.proofs.Sorting.{sort-in, sort-out, any-sort, total-sort}
 use Rattle.network.specs.Net.{Net}
-use Rattle.extract.specs.Divisor.{Divisor, pair, sum, useOf, part, hit, found, bases, uses}
-use Rattle.extract.specs.Extract.{allUses, allBases, weight, candidates, best}
-use Rattle.extract.specs.Run.{inOrder}
-use Rattle.extract.specs.Meaning.{Good, Used, Best}
-use Rattle.extract.proofs.Weighing.{total-one}
-use Rattle.extract.proofs.Choosing.{best-iff, best-none}
-use Rattle.extract.proofs.Offering.{candidate-used}
-use Rattle.extract.proofs.Arranging.{in-order-node, in-order-nodes, in-order-total, in-order-good}
+use Rattle.extraction.specs.Divisor.{Divisor, pair, sum, useOf, part, hit, found, bases, uses}
+use Rattle.extraction.specs.Extract.{allUses, allBases, weight, candidates, best}
+use Rattle.extraction.specs.Run.{inOrder}
+use Rattle.extraction.specs.Meaning.{Good, Used, Best}
+use Rattle.extraction.proofs.Weighing.{total-one}
+use Rattle.extraction.proofs.Choosing.{best-iff, best-none}
+use Rattle.extraction.proofs.Offering.{candidate-used}
+use Rattle.extraction.proofs.Arranging.{in-order-node, in-order-nodes, in-order-total, in-order-good}
 
 -- ---- one expression
 

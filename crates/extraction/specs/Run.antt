@@ -9,8 +9,8 @@ use lib.Signed.{ltZ}
 use Rattle.expression.specs.Expression.{sort}
 use Rattle.network.specs.Net.{Node, Net, variables, cubeCount}
 use Rattle.network.specs.Held.{mostVariables, mostCubes}
-use Rattle.extract.specs.Divisor.{Divisor}
-use Rattle.extract.specs.Extract.{allUses, weight, best, step}
+use Rattle.extraction.specs.Divisor.{Divisor}
+use Rattle.extraction.specs.Extract.{allUses, weight, best, step}
 
 pub data Stop : Type 0 where
   done asked numbers rows : Stop

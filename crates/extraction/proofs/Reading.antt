@@ -14,11 +14,11 @@ use Rattle.network.specs.Meaning.Through.{itself, others}
 use Rattle.network.proofs.Numbering.{numbered-distinct, numbered-range, reach-in, reach-closed}
 use Rattle.network.proofs.Listings.{listing-all}
 use Rattle.network.proofs.Handing.{InTurn}
-use Rattle.extract.specs.Divisor.{Divisor, own, hit}
-use Rattle.extract.specs.Extract.{step}
-use Rattle.extract.specs.Meaning.{Good, Fit}
-use Rattle.extract.proofs.Replacing.{rewrite-reads, own-reads}
-use Rattle.extract.proofs.Making.{step-divisor}
+use Rattle.extraction.specs.Divisor.{Divisor, own, hit}
+use Rattle.extraction.specs.Extract.{step}
+use Rattle.extraction.specs.Meaning.{Good, Fit}
+use Rattle.extraction.proofs.Replacing.{rewrite-reads, own-reads}
+use Rattle.extraction.proofs.Making.{step-divisor}
 
 pub in-output : (n : Net) {f : List (List ℕ)} → f ∈ n .outputs → f ∈ nodes n
 in-output n m = Memᴰ·append-left (map (λ (e : Node). e .cubes) (n .divisors)) m

@@ -7,15 +7,15 @@ use native.Mathlib.Omega.{arith}
 use native.Mathlib.Nat.{zero-add, suc-add, add-zero}
 use lib.ListN.{length}
 use Rattle.network.specs.Net.{Net}
-use Rattle.extract.specs.Divisor.{Divisor}
-use Rattle.extract.specs.Extract.{step}
-use Rattle.extract.specs.Run.{Stop, done, numbers, rows, Made, Result, Move, finished, stuck, take, move, ended, made, runFrom, inOrder, run}
-use Rattle.extract.specs.Meaning.{Done, Allows, Leads, Ends}
-use Rattle.extract.specs.Meaning.Allows.{nothing, noNumber, noRows, next}
-use Rattle.extract.specs.Meaning.Leads.{stay, onward}
-use Rattle.extract.specs.Meaning.Ends.{isDone, isAsked, isNumbers, isRows}
-use Rattle.extract.proofs.Arranging.{in-order-once, step-arranged}
-use Rattle.extract.proofs.Moving.{worth-done, move-iff}
+use Rattle.extraction.specs.Divisor.{Divisor}
+use Rattle.extraction.specs.Extract.{step}
+use Rattle.extraction.specs.Run.{Stop, done, numbers, rows, Made, Result, Move, finished, stuck, take, move, ended, made, runFrom, inOrder, run}
+use Rattle.extraction.specs.Meaning.{Done, Allows, Leads, Ends}
+use Rattle.extraction.specs.Meaning.Allows.{nothing, noNumber, noRows, next}
+use Rattle.extraction.specs.Meaning.Leads.{stay, onward}
+use Rattle.extraction.specs.Meaning.Ends.{isDone, isAsked, isNumbers, isRows}
+use Rattle.extraction.proofs.Arranging.{in-order-once, step-arranged}
+use Rattle.extraction.proofs.Moving.{worth-done, move-iff}
 
 -- ---- a run whose cubes are in order, step by step
 

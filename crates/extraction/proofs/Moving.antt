@@ -11,12 +11,12 @@ use Rattle.sets.proofs.Truth.{clash}
 use Rattle.sets.proofs.Orders.{not-after}
 use Rattle.network.specs.Net.{Net, variables, cubeCount}
 use Rattle.network.specs.Held.{mostVariables, mostCubes}
-use Rattle.extract.specs.Divisor.{Divisor}
-use Rattle.extract.specs.Extract.{weight, best, step}
-use Rattle.extract.specs.Run.{numbers, rows, Move, finished, stuck, take, room, choose, move}
-use Rattle.extract.specs.Meaning.{Best, Worth, Done, Allows}
-use Rattle.extract.specs.Meaning.Allows.{nothing, noNumber, noRows, next}
-use Rattle.extract.proofs.Choosing.{heavier-order, best-iff, best-none, best-unique}
+use Rattle.extraction.specs.Divisor.{Divisor}
+use Rattle.extraction.specs.Extract.{weight, best, step}
+use Rattle.extraction.specs.Run.{numbers, rows, Move, finished, stuck, take, room, choose, move}
+use Rattle.extraction.specs.Meaning.{Best, Worth, Done, Allows}
+use Rattle.extraction.specs.Meaning.Allows.{nothing, noNumber, noRows, next}
+use Rattle.extraction.proofs.Choosing.{heavier-order, best-iff, best-none, best-unique}
 
 module _ (n : Net) where
   -- where a divisor has a weight above 0, not nothing is left

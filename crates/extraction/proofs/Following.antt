@@ -19,9 +19,9 @@ use Rattle.network.specs.declared.Number.the-variants.{Is}
 use Rattle.network.proofs.Numbering.{numbered-cubes}
 use Rattle.network.proofs.Holding.{cubes-held, rules-outputs, rules-divisors, rules-iff}
 use Rattle.network.proofs.Handing.{used-held, holds-net}
-use Rattle.extract.specs.Run.{run}
-use Rattle.extract.specs.Meaning.{Good, Within}
-use Rattle.extract.proofs.Keeping.{run-inputs, run-outputs, run-good, run-within, run-evaluate}
+use Rattle.extraction.specs.Run.{run}
+use Rattle.extraction.specs.Meaning.{Good, Within}
+use Rattle.extraction.proofs.Keeping.{run-inputs, run-outputs, run-good, run-within, run-evaluate}
 
 module _ (n : Network) (slots : length (n .counts) ≡ 96) where
   -- what the rules say, but for the limits

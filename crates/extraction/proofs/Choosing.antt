@@ -13,9 +13,9 @@ use Rattle.sets.proofs.Truth.{neither, decided, clash}
 use Rattle.sets.proofs.Lists.{_∈_}
 use Rattle.sets.proofs.Orders.{Strict, asym, not-after, lex-self, lex-trans, lex-linear, before-order}
 use Rattle.network.specs.Net.{Net}
-use Rattle.extract.specs.Divisor.{Divisor, pair, sum}
-use Rattle.extract.specs.Extract.{weight, candidates, sooner, better, top, bestOf, best}
-use Rattle.extract.specs.Meaning.{Best}
+use Rattle.extraction.specs.Divisor.{Divisor, pair, sum}
+use Rattle.extraction.specs.Extract.{weight, candidates, sooner, better, top, bestOf, best}
+use Rattle.extraction.specs.Meaning.{Best}
 
 -- ---- the orders
 

@@ -10,8 +10,8 @@ use Rattle.sets.proofs.Lists.{_∈_, total-append, total-map, map-out}
 use Rattle.network.specs.Net.{Node, Net, nodes, variables}
 use Rattle.network.specs.Held.{numbered}
 use Rattle.network.proofs.Handing.{InTurn}
-use Rattle.extract.specs.Divisor.{Divisor, own, rewrite}
-use Rattle.extract.specs.Extract.{redo, step}
+use Rattle.extraction.specs.Divisor.{Divisor, own, rewrite}
+use Rattle.extraction.specs.Extract.{redo, step}
 
 -- the expressions of divisors
 abbrev pub cubes : List Node → List (List (List ℕ))

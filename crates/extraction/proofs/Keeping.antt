@@ -13,16 +13,16 @@ use Rattle.expression.specs.Expression.{ordered}
 use Rattle.network.specs.Net.{Net, nodes, variables, cubeCount, literalCount}
 use Rattle.network.specs.Evaluation.{evaluate}
 use Rattle.network.specs.Held.{mostVariables, mostCubes}
-use Rattle.extract.specs.Extract.{weight}
-use Rattle.extract.specs.Run.{Made, run}
-use Rattle.extract.specs.Meaning.{Good, Within, Leads, fall}
-use Rattle.extract.specs.Meaning.Leads.{stay, onward}
-use Rattle.extract.proofs.Weighing.{step-literals, step-smaller}
-use Rattle.extract.proofs.Offering.{candidate-fit}
-use Rattle.extract.proofs.Making.{step-variables}
-use Rattle.extract.proofs.Stepping.{step-good, step-ordered, step-evaluate}
-use Rattle.extract.proofs.Arranging.{in-order-literals, in-order-cubes, in-order-inputs, in-order-outputs, in-order-variables, in-order-evaluate, in-order-good, in-order-ordered}
-use Rattle.extract.proofs.Running.{run-leads}
+use Rattle.extraction.specs.Extract.{weight}
+use Rattle.extraction.specs.Run.{Made, run}
+use Rattle.extraction.specs.Meaning.{Good, Within, Leads, fall}
+use Rattle.extraction.specs.Meaning.Leads.{stay, onward}
+use Rattle.extraction.proofs.Weighing.{step-literals, step-smaller}
+use Rattle.extraction.proofs.Offering.{candidate-fit}
+use Rattle.extraction.proofs.Making.{step-variables}
+use Rattle.extraction.proofs.Stepping.{step-good, step-ordered, step-evaluate}
+use Rattle.extraction.proofs.Arranging.{in-order-literals, in-order-cubes, in-order-inputs, in-order-outputs, in-order-variables, in-order-evaluate, in-order-good, in-order-ordered}
+use Rattle.extraction.proofs.Running.{run-leads}
 
 -- ---- steps
 

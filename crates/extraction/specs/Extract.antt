@@ -10,7 +10,7 @@ use Rattle.sets.specs.Lists.{total}
 use Rattle.sets.specs.Sets.{without, lex, before}
 use Rattle.expression.specs.Expression.{literalsOf}
 use Rattle.network.specs.Net.{Node, Net, nodes, variables}
-use Rattle.extract.specs.Divisor.{Divisor, pair, sum, own, small, bases, uses, rewrite}
+use Rattle.extraction.specs.Divisor.{Divisor, pair, sum, own, small, bases, uses, rewrite}
 
 -- the uses in all nodes, the same base in two nodes twice
 unfoldable pub allUses : Net → Divisor → ℕ

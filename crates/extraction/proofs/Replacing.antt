@@ -18,9 +18,9 @@ use Rattle.expression.specs.Value.{value}
 use Rattle.expression.proofs.Sorting.{sort-out, any-sort, pairwise-sort, sort-ordered, loose-flip, loose-differ}
 use Rattle.expression.proofs.Absorbing.{loose-in, loose-out}
 use Rattle.network.specs.Meaning.{Reads}
-use Rattle.extract.specs.Divisor.{Divisor, pair, sum, own, sound, useOf, part, hit, gone, found, swap, rewrite}
-use Rattle.extract.specs.Meaning.{other}
-use Rattle.extract.proofs.Using.{cube-asc, cube-proper, cubes-loose, sum-parts, part-asc, use-out, use-partner, hit-inside, hit-gone}
+use Rattle.extraction.specs.Divisor.{Divisor, pair, sum, own, sound, useOf, part, hit, gone, found, swap, rewrite}
+use Rattle.extraction.specs.Meaning.{other}
+use Rattle.extraction.proofs.Using.{cube-asc, cube-proper, cubes-loose, sum-parts, part-asc, use-out, use-partner, hit-inside, hit-gone}
 
 -- ---- the cubes of a rewriting
 

@@ -19,12 +19,12 @@ use Rattle.expression.specs.Expression.{expression, literalsOf}
 use Rattle.expression.proofs.Sorting.{total-sort}
 use Rattle.network.specs.Net.{Net, nodes, variables, cubeCount, literalCount}
 use Rattle.network.specs.Meaning.{Reads}
-use Rattle.extract.specs.Divisor.{Divisor, pair, sum, own, small, sound, useOf, part, hit, gone, found, bases, uses, swap, rewrite}
-use Rattle.extract.specs.Extract.{step, allUses, allBases, weight}
-use Rattle.extract.specs.Meaning.{Good, Parts, other, Partner}
-use Rattle.extract.proofs.Using.{cube-asc, cubes-differ, differ-in, differ-out, sum-parts, part-asc, use-out, use-partner, hit-inside, use-one-way}
-use Rattle.extract.proofs.Replacing.{new-absent}
-use Rattle.extract.proofs.Making.{step-total}
+use Rattle.extraction.specs.Divisor.{Divisor, pair, sum, own, small, sound, useOf, part, hit, gone, found, bases, uses, swap, rewrite}
+use Rattle.extraction.specs.Extract.{step, allUses, allBases, weight}
+use Rattle.extraction.specs.Meaning.{Good, Parts, other, Partner}
+use Rattle.extraction.proofs.Using.{cube-asc, cubes-differ, differ-in, differ-out, sum-parts, part-asc, use-out, use-partner, hit-inside, use-one-way}
+use Rattle.extraction.proofs.Replacing.{new-absent}
+use Rattle.extraction.proofs.Making.{step-total}
 
 -- as many as there are
 pub total-one : (l : List (List ℕ)) → total (λ c. 1) l ≡ length l

@@ -1,1 +1,0 @@
-// Fast extract: the divisors of a network, and runs of steps.
