@@ -10,3 +10,4 @@ pub mod Ordering
 pub mod Removal
 pub mod Halves
 pub mod Places
+pub mod Packing

@@ -1,6 +1,6 @@
 -- The kinds of lines.
 use Prim.Native.Nat.{ℕ, suc, _*_, _+_}
-use mathlib.Core.Bool.{Bool, true, false, cond, _&&_, _||_}
+use mathlib.Core.Bool.{Bool, true, false, cond, not, _&&_, _||_}
 use mathlib.Core.List.{List, [], _∷_, map}
 use mathlib.Core.Option.{Option, none, some}
 use lib.Dec.{eqb}
@@ -66,3 +66,12 @@ rowsIn l = length (keep (λ b. b) (l .marks))
 
 abbrev pub cubeOf : CubeLine → List ℕ
 cubeOf l = cubeFrom 0 (l .places)
+
+-- the setting a agrees with the place b of variable v: `1` wants the variable true, `0` false, `-` takes either
+abbrev pub agrees : (ℕ → Bool) → ℕ → ℕ → Bool
+agrees a v b = cond (eqb b 49) (a v) (cond (eqb b 48) (not (a v)) (eqb b 45))
+
+-- the setting a covers the places from variable v on
+unfoldable pub covers : (ℕ → Bool) → ℕ → List ℕ → Bool
+covers a v [] = true
+covers a v (b ∷ t) = agrees a v b && covers a (suc v) t
