@@ -5,14 +5,14 @@ use mathlib.Core.Logic.{inl, inr}
 use mathlib.Core.Bool.{Bool, true}
 use mathlib.Core.List.{List, map, List·Memᴰ·head as here, Memᴰ·append-left, Memᴰ·append-right}
 use native.Mathlib.Omega.{arith}
-use Rattle.sets.specs.Masks.{bit}
+use Rattle.sets.specs.Masks.{bit, packed}
 use Rattle.sets.proofs.Lists.{_∈_, map-in, map-cong, map-map}
 use Rattle.expression.specs.Expression.{ordered}
 use Rattle.expression.specs.Value.{lit, value}
 use Rattle.expression.proofs.Values.{lit-plain}
 use Rattle.network.specs.Net.{Net, nodes, variables}
 use Rattle.network.specs.Listing.{listing}
-use Rattle.network.specs.Evaluation.{settle, answers, numberOf, evaluate}
+use Rattle.network.specs.Evaluation.{settle, answers, evaluate}
 use Rattle.network.specs.Meaning.{Reads, Consistent}
 use Rattle.network.proofs.Evaluating.{evaluate-settled, evaluate-read}
 use Rattle.extraction.specs.Divisor.{Divisor, pair, sum, own, sound, rewrite}
@@ -79,5 +79,5 @@ module _ (n : Net) (g : Good n) (d : Divisor) (m : d ∈ candidates n) where
       let a = settle (step n d) (listing (step n d)) (bit s) in
       let c = evaluate-settled (step n d) (good-sound (step n d) step-good) s in
       evaluate-read (step n d) (good-sound (step n d) step-good) s a c
-      ∙ ap numberOf (step-answers (bit s) a c)
+      ∙ ap packed (step-answers (bit s) a c)
       ∙ sym (evaluate-read n (good-sound n g) s a (step-consistent (bit s) a c))

@@ -12,14 +12,15 @@ use lib.ListN.{length, getD, length-map, List·getD-map}
 use borrow.Author.Tests.{eq-eqb, ne-eqb}
 use Rattle.sets.specs.Lists.{all, pairwise}
 use Rattle.sets.specs.Sets.{mem}
-use Rattle.sets.specs.Masks.{bit, nonzero}
+use Rattle.sets.specs.Masks.{bit, nonzero, packed}
 use Rattle.sets.proofs.Truth.{iff}
 use Rattle.sets.proofs.Lists.{_∈_, any-in, any-out, all-in, all-out, all-cong, any-cong, map-cong}
 use Rattle.sets.proofs.Digits.{bit-zero, bit-suc, bit-none, bit-high}
+use Rattle.sets.proofs.Packing.{packed-bit, packed-lt}
 use Rattle.expression.specs.Value.{lit, value}
 use Rattle.network.specs.Net.{Node, Net, cubesAt}
 use Rattle.network.specs.Listing.{ready, nextReady, listMore, listing}
-use Rattle.network.specs.Evaluation.{assign, settle, answers, numberOf, evaluate}
+use Rattle.network.specs.Evaluation.{assign, settle, answers, evaluate}
 use Rattle.network.specs.Meaning.{differ, Reads, Consistent, Known, Closed, Distinct, Sound, SameCubes, Along, SameNode, Reordered}
 use Rattle.network.specs.Meaning.Along.{none as end, more as on}
 use Rattle.network.proofs.Places.{split-in, once-apart}
@@ -115,9 +116,9 @@ module _ (n : Net) (o : Sound n) where
   evaluate-settled s = settled n (o .distinct) (o .whole) (bit s) (bit s) (λ i h. refl)
 
   -- the answer is read off any assignment that fits the setting
-  pub evaluate-read : (s : ℕ) (a : ℕ → Bool) → Consistent n (bit s) a → evaluate n s ≡ numberOf (answers n a)
+  pub evaluate-read : (s : ℕ) (a : ℕ → Bool) → Consistent n (bit s) a → evaluate n s ≡ packed (answers n a)
   unfolding evaluate
-  evaluate-read s a c = ap numberOf (answers-unique n (o .whole) (bit s) (settle n (listing n) (bit s)) a (evaluate-settled s) c (o .closed))
+  evaluate-read s a c = ap packed (answers-unique n (o .whole) (bit s) (settle n (listing n) (bit s)) a (evaluate-settled s) c (o .closed))
 
   -- bits past the inputs are ignored
   pub evaluate-inputs : (s t : ℕ) → ((i : ℕ) → i < n .inputs → bit s i ≡ bit t i) → evaluate n s ≡ evaluate n t
@@ -126,30 +127,16 @@ module _ (n : Net) (o : Sound n) where
 
 -- ---- the bits of the answer
 
-pub number-bit : (l : List Bool) (j : ℕ) → bit (numberOf l) j ≡ getD l j false
-unfolding numberOf
-number-bit [] j = bit-none j
-number-bit (true ∷ l) zero = let e : (1 + 2 * numberOf l) % 2 ≡ 1 = omega arith in bit-zero (1 + 2 * numberOf l) ∙ ap nonzero e
-number-bit (false ∷ l) zero = let e : (0 + 2 * numberOf l) % 2 ≡ 0 = omega arith in bit-zero (0 + 2 * numberOf l) ∙ ap nonzero e
-number-bit (true ∷ l) (suc j) = let e : (1 + 2 * numberOf l) / 2 ≡ numberOf l = omega arith in bit-suc (1 + 2 * numberOf l) j ∙ rw e (number-bit l j)
-number-bit (false ∷ l) (suc j) = let e : (0 + 2 * numberOf l) / 2 ≡ numberOf l = omega arith in bit-suc (0 + 2 * numberOf l) j ∙ rw e (number-bit l j)
-
-pub number-lt : (l : List Bool) → numberOf l < 2 ^ length l
-unfolding numberOf
-number-lt [] = omega arith
-number-lt (true ∷ l) = omega (arith, number-lt l, pow-suc 2 (length l))
-number-lt (false ∷ l) = omega (arith, number-lt l, pow-suc 2 (length l))
-
 module _ (n : Net) (s : ℕ) where
   -- output j is bit j of the answer
   pub evaluate-bit : (j : ℕ) → bit (evaluate n s) j ≡ value (lit (settle n (listing n) (bit s))) (getD (n .outputs) j [])
   unfolding evaluate
-  evaluate-bit j = number-bit (answers n (settle n (listing n) (bit s))) j ∙ List·getD-map (value (lit (settle n (listing n) (bit s)))) (n .outputs) j []
+  evaluate-bit j = packed-bit (answers n (settle n (listing n) (bit s))) j ∙ List·getD-map (value (lit (settle n (listing n) (bit s)))) (n .outputs) j []
 
   -- other bits are zero
   pub evaluate-lt : evaluate n s < 2 ^ length (n .outputs)
   unfolding evaluate
-  evaluate-lt = rw (← (length-map (n .outputs) (value (lit (settle n (listing n) (bit s)))))) (number-lt (answers n (settle n (listing n) (bit s))))
+  evaluate-lt = rw (← (length-map (n .outputs) (value (lit (settle n (listing n) (bit s)))))) (packed-lt (answers n (settle n (listing n) (bit s))))
 
   pub evaluate-past : (j : ℕ) → length (n .outputs) ≤ j → bit (evaluate n s) j ≡ false
   evaluate-past j h = bit-high (length (n .outputs)) (evaluate n s) j evaluate-lt h
@@ -215,5 +202,5 @@ module _ (n m : Net) (r : Reordered n m) where
   -- and answer alike
   pub evaluate-order : (s : ℕ) → evaluate n s ≡ evaluate m s
   unfolding evaluate
-  evaluate-order s = ap numberOf (ap (answers n) (settle-alike (listing n) (bit s) ∙ ap (λ (l : List ℕ). settle m l (bit s)) listing-order)
+  evaluate-order s = ap packed (ap (answers n) (settle-alike (listing n) (bit s) ∙ ap (λ (l : List ℕ). settle m l (bit s)) listing-order)
       ∙ outputs-same (lit (settle m (listing m) (bit s))) (r .outputs))

@@ -11,14 +11,14 @@ use lib.ListN.{length, getD, take, drop, length-drop, take-append-drop}
 use lib.Seq.{length-take-le, take-nil, getD-take, getD-drop, take-take, drop-drop, take-add}
 use borrow.Author.Tests.{leb-true, le-leb, eqb-true, eq-eqb}
 use Rattle.sets.specs.Lists.{all, total}
-use Rattle.sets.specs.Masks.{bit}
+use Rattle.sets.specs.Masks.{bit, packed}
 use Rattle.sets.proofs.Truth.{both, together}
 use Rattle.sets.proofs.Lists.{all-in, all-out, total-append}
 use Rattle.expression.specs.Words.{cubesOf}
 use Rattle.expression.specs.Expression.{expression, literalsOf}
 use Rattle.network.specs.Net.{Net, cubesAt, nodes, variables, cubeCount, literalCount}
 use Rattle.network.specs.Listing.{listing}
-use Rattle.network.specs.Evaluation.{settle, answers, numberOf, evaluate}
+use Rattle.network.specs.Evaluation.{settle, answers, evaluate}
 use Rattle.network.specs.Meaning.{Consistent, Distinct, Sound}
 use Rattle.network.specs.Held.{cut, numbered, used, netOf, sized, upTo, reach, lawful, rules, mostInputs, mostOutputs, mostVariables, mostCubes, mostLiterals}
 use Rattle.network.specs.Rules.{Alike, Follows}
@@ -216,7 +216,7 @@ module _ (n : Network) where
   rules-sound h = let t = rules-tested h in record { distinct = held-distinct; closed = reach-closed (netOf n) fs refl (t .reached); whole = t .whole }
 
   -- the answer is read off any assignment that fits the setting
-  pub rules-read : rules n ≡ true → (s : ℕ) (a : ℕ → Bool) → Consistent (netOf n) (bit s) a → evaluated n s ≡ Is (numberOf (answers (netOf n) a))
+  pub rules-read : rules n ≡ true → (s : ℕ) (a : ℕ → Bool) → Consistent (netOf n) (bit s) a → evaluated n s ≡ Is (packed (answers (netOf n) a))
   unfolding evaluated
   rules-read h s a c = rw h (ap Is (evaluate-read (netOf n) (rules-sound h) s a c))
 
@@ -263,7 +263,7 @@ module _ (n : Network) where
     -- on each setting one assignment of the variables fits, and the answer is read off it
     pub rules-evaluate : rules n ≡ true → (s : ℕ) → (a : ℕ → Bool) × Consistent (netOf n) (bit s) a
         × ((b : ℕ → Bool) → Consistent (netOf n) (bit s) b → (v : ℕ) → v < n .inputs + n .divisors → a v ≡ b v)
-        × (evaluated n s ≡ Is (numberOf (answers (netOf n) a)))
+        × (evaluated n s ≡ Is (packed (answers (netOf n) a)))
     rules-evaluate h s =
         let o = rules-sound h in
         let c = evaluate-settled (netOf n) o s in (

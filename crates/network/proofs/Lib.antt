@@ -4,3 +4,9 @@ pub mod Listings
 pub mod Evaluating
 pub mod Holding
 pub mod Handing
+pub mod Parts
+pub mod Knowing
+pub mod Limits
+pub mod Turns
+pub mod Settling
+pub mod Answering

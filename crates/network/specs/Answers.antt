@@ -1,10 +1,15 @@
 -- What the operations on networks answer. A refusal is by 10.
-use Prim.Native.Nat.{ℕ}
-use mathlib.Core.Bool.{cond}
-use Rattle.network.specs.Net.{literalCount}
+use Prim.Native.Nat.{ℕ, _+_, _-_}
+use mathlib.Core.Bool.{Bool, cond, _&&_}
+use mathlib.Core.List.{List, [], _++_}
+use lib.ListN.{length, replicate}
+use Rattle.sets.specs.Lists.{all, total}
+use Rattle.network.specs.Net.{nodes, variables, literalCount}
+use Rattle.network.specs.Listing.{listing}
 use Rattle.network.specs.Evaluation.{evaluate}
-use Rattle.network.specs.Held.{netOf, rules}
+use Rattle.network.specs.Held.{used, netOf, sized, reach, rules, mostVariables}
 use Rattle.network.specs.declared.Network.{Network}
+use Rattle.network.specs.declared.Listed.{Listed}
 use Rattle.network.specs.declared.Judged.{Judged}
 use Rattle.network.specs.declared.Judged.the-variants.{Accepted, Refused}
 use Rattle.network.specs.declared.Number.{Number}
@@ -18,3 +23,18 @@ counted n = cond (rules n) (Is (literalCount (netOf n))) (No 10)
 
 unfoldable pub evaluated : Network → ℕ → Number
 evaluated n s = cond (rules n) (Is (evaluate (netOf n) s)) (No 10)
+
+-- numbers in as many places as there may be variables, zeros after them
+abbrev pub padded : List ℕ → List ℕ
+padded l = l ++ replicate (mostVariables - length l) 0
+
+-- within the limits, and every literal of a variable
+unfoldable pub listable : Network → Bool
+listable n = sized (n .inputs) (n .outputs) (n .divisors) (total (λ c. c) (used n)) && all (reach (variables (netOf n))) (nodes (netOf n))
+
+-- no number is listed where that does not hold
+unfoldable pub numbersOf : Network → List ℕ
+numbersOf n = cond (listable n) (listing (netOf n)) []
+
+unfoldable pub listedOf : Network → Listed
+listedOf n = record { count = length (numbersOf n); order = padded (numbersOf n) }

@@ -1,9 +1,9 @@
 -- A network under a setting of its inputs.
-use Prim.Native.Nat.{ℕ, _+_, _*_}
+use Prim.Native.Nat.{ℕ}
 use mathlib.Core.Bool.{Bool, cond}
 use mathlib.Core.List.{List, [], _∷_, map}
 use lib.Dec.{eqb}
-use Rattle.sets.specs.Masks.{bit}
+use Rattle.sets.specs.Masks.{bit, packed}
 use Rattle.expression.specs.Value.{lit, value}
 use Rattle.network.specs.Net.{Net, cubesAt}
 use Rattle.network.specs.Listing.{listing}
@@ -21,11 +21,6 @@ settle n (v ∷ l) a = settle n l (assign a v (value (lit a) (cubesAt v (n .divi
 abbrev pub answers : Net → (ℕ → Bool) → List Bool
 answers n a = map (value (lit a)) (n .outputs)
 
--- a number with these bits, the lowest first
-unfoldable pub numberOf : List Bool → ℕ
-numberOf [] = 0
-numberOf (b ∷ l) = cond b 1 0 + 2 * numberOf l
-
 -- input i is bit i of the setting, output j bit j of the answer
 unfoldable pub evaluate : Net → ℕ → ℕ
-evaluate n s = numberOf (answers n (settle n (listing n) (bit s)))
+evaluate n s = packed (answers n (settle n (listing n) (bit s)))

@@ -4,5 +4,6 @@ pub mod Evaluation
 pub mod Meaning
 pub mod Held
 pub mod Handed
-pub mod Rules
 pub mod Answers
+pub mod Rules
+pub mod Parts
