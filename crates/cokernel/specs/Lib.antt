@@ -1,2 +1,3 @@
 pub mod Cokernels
 pub mod Answers
+pub mod Parts

@@ -1,0 +1,6 @@
+pub mod Closing
+pub mod Walking
+pub mod Exactly
+pub mod Steps
+pub mod Placing
+pub mod Telling

@@ -1,0 +1,160 @@
+-- The steps of the search: closing a cube in one pass, opening a branch, going on to the next literal. Assumes nothing.
+use Prim.Native.Nat.{ℕ, suc, zero-le, _+_, _-_, _*_, _<_, _≤_, min}
+use mathlib.Core.Path.{_≡_, refl, sym, _∙_, ap, subst}
+use mathlib.Core.Logic.{inl, inr}
+use mathlib.Core.Bool.{Bool, true, false, cond, not, _&&_}
+use mathlib.Core.List.{List, [], _∷_, _++_, append-nil}
+use mathlib.Core.Option.{none, some}
+use native.Mathlib.Numerals.{add-one}
+use native.Mathlib.Omega.{arith}
+use lib.Dec.{leb, ltb, eqb}
+use lib.ListN.{length, getD, drop, drop-of-length-le, length-append}
+use borrow.Author.Tests.{leb-true, le-leb, lt-ltb, ltb-true, ltb-false, ne-eqb, not-true}
+use Rattle.sets.specs.Lists.{all}
+use Rattle.sets.specs.Sets.{mem, sub, asc, insert, without, meet, same, firstFrom}
+use Rattle.sets.proofs.Truth.{iff, both, together, decided, clash}
+use Rattle.sets.proofs.First.{none-first, some-first, IsFirst}
+use Rattle.sets.proofs.Places.{drop-next}
+use Rattle.sets.proofs.Sets.{without-mem, all-mem, mem-all, sub-out}
+use Rattle.cube.specs.Cube.{width, joined}
+use Rattle.cokernel.specs.Cokernels.{above, common, isCokernel, opens, beyond}
+use Rattle.cokernel.specs.Parts.{only, Closed, Branched, Walks}
+use Rattle.cokernel.proofs.Closing.{Cubes, Held, above-asc, common-above}
+use Rattle.cokernel.proofs.Walking.{Prefix, prefix-on, prefix-with, prefix-past, Alike, opens-out, opens-in}
+use Rattle.cokernel.proofs.Exactly.{beyond-none}
+
+-- ---- closing a cube, from the last cube to the first
+
+common-cons : (d : List ℕ) (a : Cubes) (n : ℕ) (m : List ℕ) → n ≡ length a → m ≡ common a → cond (eqb n 0) d (meet d m) ≡ common (d ∷ a)
+unfolding common
+common-cons d [] n m e h = rw e
+common-cons d (x ∷ a) n m e h = rw (ne-eqb n 0 (λ t. omega arith), h)
+
+pub closed-none : (f : Cubes) (c : List ℕ) (i : ℕ) (m : List ℕ) → i ≡ length f → m ≡ [] → Closed (drop i f) c 0 m
+unfolding common
+closed-none f c i m e h = let past : length f ≤ i = omega arith in rw (drop-of-length-le f past) (record { number = refl; common = h })
+
+module _ (f : Cubes) (c : List ℕ) (i n : ℕ) (m : List ℕ) (s : i < length f) (k : Closed (drop (i + 1) f) c n m) (d : List ℕ) (e : d ≡ getD f i []) where
+  pub closed-more : sub c d ≡ true → (r : List ℕ) → r ≡ cond (eqb n 0) d (meet d m) → Closed (drop i f) c (n + 1) r
+  closed-more t r u = rw (drop-next f i [] s, ← e) (record {
+    number = rw t (omega (arith, k .number));
+    common = rw t (u ∙ common-cons d (above (drop (i + 1) f) c) n m (k .number) (k .common));
+  })
+
+  pub closed-same : sub c d ≡ false → Closed (drop i f) c n m
+  closed-same t = rw (drop-next f i [] s, ← e) (record { number = rw t (k .number); common = rw t (k .common) })
+
+-- ---- no literal below j that the other lacks
+
+pub none-low : (j : ℕ) (x : List ℕ) → none ≡ firstFrom 0 x → true ≡ all (leb j) x
+none-low j x e = sym (all-mem (leb j) x (λ l m. clash m (none-first 0 x (sym e) l zero-le)))
+
+pub first-low : (j : ℕ) (x : List ℕ) (l : ℕ) → asc x ≡ true → some l ≡ firstFrom 0 x → leb j l ≡ all (leb j) x
+first-low j x l a e = iff
+    (λ h. all-mem (leb j) x (λ z m. elim (decided (ltb z l)) [ inl t ↦ clash m (r .least z zero-le (ltb-true z l t)) | inr t ↦ omega (arith, leb-true j l h, ltb-false z l t, le-leb) ]))
+    (λ h. mem-all (leb j) x l h (r .isIn))
+  where
+    r : IsFirst 0 x l
+    r = some-first 0 x l a (sym e)
+
+-- ---- whether a branch is open
+
+module _ (n : ℕ) (f : Cubes) (g : Held n f) (j : ℕ) (q : List ℕ) (a : asc q ≡ true) where
+  abbrev m : List ℕ
+  m = common (above f q)
+
+  pub opens-test : (leb 2 (length (above f q)) && all (leb j) (without m q)) ≡ opens f j q
+  opens-test = iff
+      (λ h. let w = both (leb 2 (length (above f q))) (all (leb j) (without m q)) h in opens-in f j q (above-asc f n q g) a (leb-true _ _ (w .0)) (alike (leb-true _ _ (w .0)) (w .1)))
+      (λ h. let w = opens-out f j q h in together _ _ (le-leb _ _ (w .0)) (all-mem (leb j) (without m q) (λ l i. from-j (w .1) l (both (mem l m) (not (mem l q)) (sym (without-mem l m q) ∙ i)))))
+    where
+      alike : 2 ≤ length (above f q) → all (leb j) (without m q) ≡ true → Alike j m q
+      alike two h l s = iff
+          (λ i. elim (decided (mem l q)) [ inl t ↦ t | inr t ↦ absurd (omega (arith, leb-true j l (mem-all (leb j) (without m q) l h (without-mem l m q ∙ rw (i, t))))) ])
+          (λ i. sub-out q m l (common-above f q (omega arith)) i)
+
+      from-j : Alike j m q → (l : ℕ) → (mem l m ≡ true) × (not (mem l q) ≡ true) → leb j l ≡ true
+      from-j k l (i, t) = elim (decided (ltb l j)) [
+        | inl u ↦ clash (sym (k l (ltb-true l j u)) ∙ i) (not-true (mem l q) t)
+        | inr u ↦ omega (arith, ltb-false l j u, le-leb)
+      ]
+
+pub cokernel-test : (f : Cubes) (q : List ℕ) → (leb 2 (length (above f q)) && same (common (above f q)) q) ≡ isCokernel f q
+unfolding isCokernel
+cokernel-test f q = refl
+
+-- ---- the cube q with the literals of p and j
+
+-- a literal that a cube has a place for is added
+pub joined-inside : (j : ℕ) (p : List ℕ) → j < 2 * width → joined j p ≡ insert j p
+joined-inside j p h = rw (lt-ltb j (2 * width) h)
+
+module _ (n : ℕ) (f : Cubes) (g : Held n f) (p : List ℕ) (j : ℕ) (q : List ℕ) (e : q ≡ insert j p) (k : ℕ) (m : List ℕ) (c : Closed f q k m) where
+  pub branched : asc q ≡ true → (o b : Bool) → o ≡ (leb 2 k && all (leb j) (without m q)) → b ≡ (leb 2 k && same m q) → Branched f p j q m o b
+  branched a o b t u = record { cube = e; common = c .common; opened = t ∙ opening; closed = u ∙ closing }
+    where
+      opening : (leb 2 k && all (leb j) (without m q)) ≡ opens f j q
+      opening = rw (c .number, c .common) (opens-test n f g j q a)
+
+      closing : (leb 2 k && same m q) ≡ isCokernel f q
+      closing = rw (c .number, c .common) (cokernel-test f q)
+
+-- ---- from one literal to the next
+
+-- those with j as their next literal, q being the cube that has it
+abbrev pub withIt : Cubes → ℕ → List ℕ → Bool → Bool → Cubes
+withIt f j q o e = cond o (only e q ++ beyond (2 * width - (j + 1)) f q (j + 1)) []
+
+module _ (f : Cubes) (p : List ℕ) (j : ℕ) where
+  pub beyond-end : j ≡ 2 * width → beyond (2 * width - j) f p j ≡ []
+  unfolding beyond
+  beyond-end e = rw e
+
+  -- first those with j, and then those without it
+  pub beyond-next : j < 2 * width → (q m : List ℕ) (o e : Bool) → Branched f p j q m o e
+      → beyond (2 * width - j) f p j ≡ withIt f j q o e ++ beyond (2 * width - (j + 1)) f p (j + 1)
+  unfolding beyond
+  beyond-next h q m o e b =
+      let k : 2 * width - j ≡ suc (2 * width - (j + 1)) = omega arith in
+      rw (k, b .closed, b .opened, b .cube, add-one j)
+
+  module _ (h : j < 2 * width) (q m : List ℕ) (o e : Bool) (b : Branched f p j q m o e) where
+    pub beyond-length : length (beyond (2 * width - j) f p j) ≡ length (withIt f j q o e) + length (beyond (2 * width - (j + 1)) f p (j + 1))
+    beyond-length = ap length (beyond-next h q m o e b) ∙ length-append (withIt f j q o e) (beyond (2 * width - (j + 1)) f p (j + 1))
+
+    pub with-length : o ≡ true → length (withIt f j q o e) ≡ length (only e q) + length (beyond (2 * width - (j + 1)) f q (j + 1))
+    with-length t = rw t (length-append (only e q) (beyond (2 * width - (j + 1)) f q (j + 1)))
+
+module _ (f : Cubes) (p m : List ℕ) (j : ℕ) (w : Walks f p m j) where
+  pub walks-on : j < 2 * width → Walks f p m (j + 1)
+  walks-on h = record { inside = omega arith; low = λ l i. omega (arith, w .low l i); common = w .common }
+
+  module _ (a : asc p ≡ true) where
+    prefix : Prefix p j
+    prefix = record { rising = a; low = w .low }
+
+    pub walks-with : (q r : List ℕ) (o e : Bool) → j < 2 * width → Branched f p j q r o e → Walks f q r (j + 1)
+    walks-with q r o e h b = record {
+      inside = omega arith;
+      low = λ l i. omega (arith, (prefix-with p j prefix) .low l (subst (λ z. mem l z ≡ true) (b .cube) i));
+      common = b .common;
+    }
+
+    -- where all cubes above p have j, so has each co-kernel beyond p
+    pub beyond-last : (q r : List ℕ) (o e : Bool) → j < 2 * width → Branched f p j q r o e → mem j m ≡ true → beyond (2 * width - j) f p j ≡ withIt f j q o e
+    beyond-last q r o e h b i = beyond-next f p j h q r o e b ∙ rw (none, append-nil)
+      where
+        none : beyond (2 * width - (j + 1)) f p (j + 1) ≡ []
+        none = rw (add-one j) (beyond-none (2 * width - suc j) f p (suc j) j (prefix-on p j prefix) (omega arith) (prefix-past p j prefix j (omega arith)) (subst (λ z. mem j z ≡ true) (w .common) i))
+
+-- ---- counting, up to a most
+
+module _ (most : ℕ) where
+  -- one cube or none, and then those beyond it
+  pub count-open : (b : Bool) (q : List ℕ) (l : Cubes) (here n : ℕ) → 0 < most → here ≡ cond b 1 0 → n ≡ min (most - here) (length l) → here + n ≡ min most (length (only b q ++ l))
+  count-open true q l here n h e k = omega arith
+  count-open false q l here n h e k = omega arith
+
+  pub count-next : (f : Cubes) (p : List ℕ) (j : ℕ) (q r : List ℕ) (o e : Bool) (n k : ℕ) → j < 2 * width → Branched f p j q r o e → n ≡ min most (length (withIt f j q o e))
+      → k ≡ min (most - n) (length (beyond (2 * width - (j + 1)) f p (j + 1))) → n + k ≡ min most (length (beyond (2 * width - j) f p j))
+  count-next f p j q r o e n k h b t u = rw (beyond-next f p j h q r o e b) (omega (arith, length-append (withIt f j q o e) (beyond (2 * width - (j + 1)) f p (j + 1))))

@@ -1,0 +1,36 @@
+-- `cokernel::agrees` meets its contract: the first literal that c lacks tells. Assumes nothing.
+use borrow.Author.Needs.{needs}
+use mathlib.Core.Path.{sym, ap, _∙_}
+use Rattle.sets.specs.Sets.{firstFrom}
+use Rattle.sets.proofs.Literals.{literals-asc}
+use Rattle.sets.proofs.Sets.{without-asc}
+use Rattle.cube.specs.Cube.{answer}
+use Rattle.cokernel.proofs.Steps.{none-low, first-low}
+use Rattle.cokernel.proofs.agrees.Statement.{statement}
+use Rattle.cokernel.proofs.agrees.Tie as tie
+
+without-requires : tie.Need-without-requires
+without-requires c κs = search needs
+
+first-from-requires : tie.Need-first-from-requires
+first-from-requires c κs = search needs
+
+enum-known-x : tie.Need-enum-known-x
+enum-known-x c = search needs
+
+enum-told : tie.Need-enum-told
+enum-told c = search needs
+
+returns : tie.Need-returns
+returns c =
+    let a = c .before .before .before .before .before .before .args in
+    first-low (a .j) _ _ (without-asc _ _ (literals-asc _ (a .m .plain) (a .m .negated)))
+    (ap answer (sym (c .before .before .x .given .1)) ∙ c .before .before .before .before .first-from .ensures ∙ ap (firstFrom 0) (c .before .before .before .before .before .without .ensures))
+
+returns-2 : tie.Need-returns-2
+returns-2 c = none-low _ _ (ap answer (sym (c .enum-told .given .1)) ∙ c .before .before .first-from .ensures ∙ ap (firstFrom 0) (c .before .before .before .without .ensures))
+
+pub agrees-spec : {M : Type 1} → statement M
+agrees-spec =
+    tie.close
+    (tie.spec without-requires first-from-requires enum-known-x enum-told returns returns-2)

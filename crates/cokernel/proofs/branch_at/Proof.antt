@@ -1,0 +1,30 @@
+-- `cokernel::branch_at` meets its contract. Assumes nothing.
+use borrow.Author.Needs.{needs}
+use mathlib.Core.Path.{_∙_}
+use Rattle.sets.proofs.Literals.{literals-asc}
+use Rattle.cokernel.proofs.Exactly.{held-words}
+use Rattle.cokernel.proofs.Steps.{joined-inside, branched}
+use Rattle.cokernel.proofs.branch_at.Statement.{statement}
+use Rattle.cokernel.proofs.branch_at.Tie as tie
+
+with-requires : tie.Need-with-requires
+with-requires c κs = search needs
+
+close-requires : tie.Need-close-requires
+close-requires c κs = search needs
+
+is-open-requires : tie.Need-is-open-requires
+is-open-requires c κs = search needs
+
+is-closed-requires : tie.Need-is-closed-requires
+is-closed-requires c κs = search needs
+
+returns : tie.Need-returns
+returns c =
+    let w = c .before .before .before .before in
+    branched _ _ (held-words _) _ _ _ (w .with .ensures ∙ joined-inside _ _ (w .before .before .pre)) _ _ (c .before .before .before .close .ensures)
+    (literals-asc _ (w .with .result .plain) (w .with .result .negated)) _ _ (c .before .is-open .ensures) (c .is-closed .ensures)
+
+pub branch-at-spec : {M : Type 1} → statement M
+branch-at-spec =
+    tie.close (tie.spec with-requires close-requires is-open-requires is-closed-requires returns)

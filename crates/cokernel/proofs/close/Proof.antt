@@ -1,0 +1,91 @@
+-- `cokernel::close` meets its contract. The loop's invariant: the number and the common part are those of the cubes from i on. Assumes nothing.
+use borrow.Author.Needs.{needs}
+use Prim.Native.Nat.{_+_, _-_, _≤_}
+use mathlib.Core.Path.{_≡_, sym, _∙_}
+use lib.ListN.{length, drop}
+use native.Mathlib.Omega.{arith}
+use Rattle.cube.specs.Cube.{lits}
+use Rattle.expression.specs.Words.{cubesOf}
+use Rattle.cokernel.specs.Parts.{Closed}
+use Rattle.cokernel.proofs.Steps.{closed-none, closed-more, closed-same}
+use Rattle.cokernel.proofs.close.Statement.{statement}
+use Rattle.cokernel.proofs.close.Tie as tie
+
+abbrev Inv-loop : tie.InvT-loop
+Inv-loop f c number₀ m₀ i₀ number m i =
+    (number + i ≤ length (cubesOf f)) × Closed (drop i (cubesOf f)) (lits c) number (lits m)
+
+abbrev μ-loop : tie.MeasureT-loop
+μ-loop f c number₀ m₀ i₀ number m i = i
+
+empty-requires : tie.Need-empty-requires Inv-loop μ-loop
+empty-requires c κs = search needs
+
+number-requires : tie.Need-number-requires Inv-loop μ-loop
+number-requires c κs = search needs
+
+loop-holds : tie.Need-loop-holds Inv-loop μ-loop
+loop-holds c = (omega arith, closed-none _ _ _ _ (c .number .ensures) (c .before .empty .ensures))
+
+sub-i : tie.Need-sub-i Inv-loop μ-loop
+sub-i c = search needs
+
+cube-at-requires : tie.Need-cube-at-requires Inv-loop μ-loop
+cube-at-requires c κs = search needs
+
+contains-requires : tie.Need-contains-requires Inv-loop μ-loop
+contains-requires c κs = search needs
+
+narrowed-requires : tie.Need-narrowed-requires Inv-loop μ-loop
+narrowed-requires c κs = search needs
+
+add-number : tie.Need-add-number Inv-loop μ-loop
+add-number c = search needs
+
+loop-less : tie.Need-loop-less Inv-loop μ-loop
+loop-less c = search needs
+
+loop-again : tie.Need-loop-again Inv-loop μ-loop
+loop-again c =
+    let h = c .before .before .before .before .before in
+    let f = cubesOf (h .before .before .before .before .args .f .now) in
+    let back : h .loop .i - 1 + 1 ≡ h .loop .i = omega arith in
+    let k : Closed (drop (h .loop .i - 1 + 1) f) (lits (h .before .before .before .before .args .c)) (h .loop .number) (lits (h .loop .m)) = rw back (h .loop .inv .1) in
+    (omega arith, closed-more f _ (h .loop .i - 1) _ _ (omega arith) k _ (c .before .before .before .cube-at .ensures) (sym (c .before .before .contains .ensures) ∙ c .before .if1 .taken) _ (c .narrowed .ensures))
+
+loop-less-2 : tie.Need-loop-less-2 Inv-loop μ-loop
+loop-less-2 c = search needs
+
+loop-again-2 : tie.Need-loop-again-2 Inv-loop μ-loop
+loop-again-2 c =
+    let h = c .before .before .before .before in
+    let f = cubesOf (h .before .before .before .before .args .f .now) in
+    let back : h .loop .i - 1 + 1 ≡ h .loop .i = omega arith in
+    let k : Closed (drop (h .loop .i - 1 + 1) f) (lits (h .before .before .before .before .args .c)) (h .loop .number) (lits (h .loop .m)) = rw back (h .loop .inv .1) in
+    (omega arith, closed-same f _ (h .loop .i - 1) _ _ (omega arith) k _ (c .before .before .cube-at .ensures) (sym (c .before .contains .ensures) ∙ c .if1 .left))
+
+returns : tie.Need-returns Inv-loop μ-loop
+returns c =
+    let h = c .before in
+    let none : h .loop .i ≡ 0 = omega arith in
+    rw none at (h .loop .inv .1)
+
+pub close-spec : {M : Type 1} → statement M
+close-spec =
+    tie.close
+    (tie.spec
+    Inv-loop
+    μ-loop
+    empty-requires
+    number-requires
+    loop-holds
+    sub-i
+    cube-at-requires
+    contains-requires
+    narrowed-requires
+    add-number
+    loop-less
+    loop-again
+    loop-less-2
+    loop-again-2
+    returns)
