@@ -1,5 +1,253 @@
-// Weak division of lent expressions.
+// Weak division of lent expressions. The dividend is put in cube order first, so that a cube of it is found by halving.
+use cube::Cube;
+use expression::Place;
+use expression::Verdict;
+ghost use mathlib.Core.Path.{_≡_};
+ghost use mathlib.Core.Bool.{true, _&&_};
+ghost use Prim.Native.Nat.{_≤_};
+ghost use lib.ListN.{length};
+ghost use Rattle.sets.specs.Lists.{keep, orElse};
+ghost use Rattle.sets.specs.Sets.{sub, apart, union, without};
+ghost use Rattle.cube.specs.Cube.{lits};
+ghost use Rattle.expression.specs.Words.{cubesOf};
+ghost use Rattle.expression.specs.Expression.{has, sort, ordered};
+ghost use Rattle.expression.specs.Answers.{refusedBy as refusalOf};
+ghost use Rattle.division.specs.Division.{divides};
+ghost use Rattle.division.specs.Answers.{either, refusedBy, Told};
+ghost use Rattle.division.specs.Parts.{noCubes, admitted, Ready, Listed, divisors, spared, cramped, Handed};
+
+// Two words for each of 1,024 cubes.
+const WORDS: usize = 2048;
+
 pub enum Division {
     Done(usize, usize),
     Refused(u32),
+}
+
+// The refusal of either, the smaller number first.
+fn lesser(a: Verdict, b: Verdict) -> Verdict
+    ensures { λ r. ⌜ refusalOf r ≡ either (refusalOf a) (refusalOf b) ⌝ }
+{
+    let Verdict::Refused(k) = a else {
+        return b;
+    };
+    let Verdict::Refused(l) = b else {
+        return a;
+    };
+    if l < k {
+        Verdict::Refused(l)
+    } else {
+        Verdict::Refused(k)
+    }
+}
+
+// A refusal, or else another.
+fn first_of(a: Verdict, b: Verdict) -> Verdict
+    ensures { λ r. ⌜ refusalOf r ≡ orElse (refusalOf a) (refusalOf b) ⌝ }
+{
+    let Verdict::Refused(k) = a else {
+        return b;
+    };
+    Verdict::Refused(k)
+}
+
+// 8 for a divisor with no cubes.
+fn accept_divisor(d: &[u64]) -> Verdict
+    ensures { λ r. ⌜ refusalOf r ≡ noCubes (now (d .entry)) ⌝ }
+{
+    if expression::number(d) == 0 {
+        return Verdict::Refused(8);
+    }
+    Verdict::Accepted
+}
+
+// 6 for either one, 7 for either one, then 8.
+fn admit(f: &[u64], d: &[u64]) -> Verdict
+    ensures { λ r. ⌜ refusalOf r ≡ admitted (now (f .entry)) (now (d .entry)) ⌝ }
+{
+    let a = expression::accept(f);
+    let b = expression::accept(d);
+    let both = lesser(a, b);
+    let empty = accept_divisor(d);
+    first_of(both, empty)
+}
+
+// The cubes of s at the front of `to`, in their order, and their number.
+fn copy(s: &[u64], to: &mut [u64]) -> usize
+    requires { ⌜ length (cubesOf (now s)) ≤ length (cubesOf (now to)) ⌝ }
+    ensures { λ r. ⌜ Listed (now (to .entry)) (now (to .exit)) r (cubesOf (now (s .entry))) ⌝ }
+{
+    let n = expression::number(s);
+    let mut i = 0;
+    while i < n {
+        expression::put_cube(to, i, expression::cube_at(s, i));
+        i += 1;
+    }
+    n
+}
+
+// The same, in cube order.
+fn copy_sorted(s: &[u64], to: &mut [u64]) -> usize
+    requires { ⌜ length (cubesOf (now s)) ≤ length (cubesOf (now to)) ⌝ }
+    ensures { λ r. ⌜ Listed (now (to .entry)) (now (to .exit)) r (sort (cubesOf (now (s .entry)))) ⌝ }
+{
+    let n = copy(s, to);
+    expression::sort_part(to, 0, n);
+    n
+}
+
+// Whether c is one of the cubes, which stand in cube order.
+fn holds(s: &[u64], c: Cube) -> bool
+    requires { ⌜ ordered (cubesOf (now s)) ≡ true ⌝ }
+    ensures { λ r. ⌜ r ≡ has (lits c) (cubesOf (now (s .entry))) ⌝ }
+{
+    let p = expression::find(s, c);
+    match p {
+        Place::At(_) => true,
+        Place::Nothing => false,
+    }
+}
+
+// Whether c and b share no literal and their union is in f.
+fn fits(f: &[u64], c: Cube, b: Cube) -> bool
+    requires { ⌜ ordered (cubesOf (now f)) ≡ true ⌝ }
+    ensures { λ r. ⌜ r ≡ (apart (lits c) (lits b) && has (union (lits c) (lits b)) (cubesOf (now (f .entry)))) ⌝ }
+{
+    if !cube::is_empty(cube::common(c, b)) {
+        return false;
+    }
+    holds(f, cube::union(c, b))
+}
+
+// Whether c fits each cube of d.
+fn fits_all(f: &[u64], d: &[u64], c: Cube) -> bool
+    requires { ⌜ ordered (cubesOf (now f)) ≡ true ⌝ }
+    ensures { λ r. ⌜ r ≡ divides (cubesOf (now (f .entry))) (cubesOf (now (d .entry))) (lits c) ⌝ }
+{
+    let mut i = 0;
+    while i < expression::number(d) {
+        if !fits(f, c, expression::cube_at(d, i)) {
+            return false;
+        }
+        i += 1;
+    }
+    true
+}
+
+// What is left of each cube of f without the first cube of d, where it fits all of d.
+fn list_quotient(f: &[u64], d: &[u64], to: &mut [u64]) -> usize
+    requires { ⌜ Ready (now f) (now to) ⌝ }
+    ensures { λ r. ⌜ Listed (now (to .entry)) (now (to .exit)) r (divisors (cubesOf (now (f .entry))) (cubesOf (now (d .entry)))) ⌝ }
+{
+    let first = expression::cube_at(d, 0);
+    let n = expression::number(f);
+    let mut kept = 0;
+    let mut i = 0;
+    while i < n {
+        let e = expression::cube_at(f, i);
+        i += 1;
+        if !cube::contains(e, first) {
+            continue;
+        }
+        let c = cube::without(e, first);
+        if !fits_all(f, d, c) {
+            continue;
+        }
+        expression::put_cube(to, kept, c);
+        kept += 1;
+    }
+    kept
+}
+
+// The same, in cube order.
+fn list_quotient_sorted(f: &[u64], d: &[u64], to: &mut [u64]) -> usize
+    requires { ⌜ Ready (now f) (now to) ⌝ }
+    ensures { λ r. ⌜ Listed (now (to .entry)) (now (to .exit)) r (sort (divisors (cubesOf (now (f .entry))) (cubesOf (now (d .entry))))) ⌝ }
+{
+    let k = list_quotient(f, d, to);
+    expression::sort_part(to, 0, k);
+    k
+}
+
+// Whether e contains b and what is left of it is in q.
+fn is_made_with(q: &[u64], b: Cube, e: Cube) -> bool
+    requires { ⌜ ordered (cubesOf (now q)) ≡ true ⌝ }
+    ensures { λ r. ⌜ r ≡ (sub (lits b) (lits e) && has (without (lits e) (lits b)) (cubesOf (now (q .entry)))) ⌝ }
+{
+    if !cube::contains(e, b) {
+        return false;
+    }
+    holds(q, cube::without(e, b))
+}
+
+// Whether that is so of no cube of d.
+fn is_spared(q: &[u64], d: &[u64], e: Cube) -> bool
+    requires { ⌜ ordered (cubesOf (now q)) ≡ true ⌝ }
+    ensures { λ r. ⌜ r ≡ spared (cubesOf (now (q .entry))) (cubesOf (now (d .entry))) (lits e) ⌝ }
+{
+    let mut i = 0;
+    while i < expression::number(d) {
+        if is_made_with(q, expression::cube_at(d, i), e) {
+            return false;
+        }
+        i += 1;
+    }
+    true
+}
+
+// The cubes of f that are spared, in their order.
+fn list_spared(f: &[u64], q: &[u64], d: &[u64], to: &mut [u64]) -> usize
+    requires { ⌜ length (cubesOf (now f)) ≤ length (cubesOf (now to)) ⌝ ∗ ⌜ ordered (cubesOf (now q)) ≡ true ⌝ }
+    ensures { λ r. ⌜ Listed (now (to .entry)) (now (to .exit)) r (keep (spared (cubesOf (now (q .entry))) (cubesOf (now (d .entry)))) (cubesOf (now (f .entry)))) ⌝ }
+{
+    let n = expression::number(f);
+    let mut kept = 0;
+    let mut i = 0;
+    while i < n {
+        let e = expression::cube_at(f, i);
+        i += 1;
+        if !is_spared(q, d, e) {
+            continue;
+        }
+        expression::put_cube(to, kept, e);
+        kept += 1;
+    }
+    kept
+}
+
+// The cubes of a and of b into the rooms q and r, or 9 where one of them is too long.
+fn hand_over(a: &[u64], b: &[u64], q: &mut [u64], r: &mut [u64]) -> Division
+    ensures { λ t. ⌜ Handed (cramped (cubesOf (now (a .entry))) (cubesOf (now (b .entry))) (now (q .entry)) (now (r .entry))) (cubesOf (now (a .entry))) (cubesOf (now (b .entry))) (now (q .entry)) (now (r .entry)) (now (q .exit)) (now (r .exit)) t ⌝ }
+{
+    let k = expression::number(a);
+    let m = expression::number(b);
+    if expression::number(q) < k {
+        return Division::Refused(9);
+    }
+    if expression::number(r) < m {
+        return Division::Refused(9);
+    }
+    copy(a, q);
+    copy(b, r);
+    Division::Done(k, m)
+}
+
+// Quotient and remainder of f by d, in cube order, into the rooms q and r.
+pub fn divide(f: &[u64], d: &[u64], q: &mut [u64], r: &mut [u64]) -> Division
+    ensures { λ a. ⌜ Told (refusedBy (now (f .entry)) (now (d .entry)) (now (q .entry)) (now (r .entry))) (now (f .entry)) (now (d .entry)) (now (q .entry)) (now (r .entry)) (now (q .exit)) (now (r .exit)) a ⌝ }
+{
+    let v = admit(f, d);
+    if let Verdict::Refused(k) = v {
+        return Division::Refused(k);
+    }
+    let mut dividend = [0u64; WORDS];
+    let n = copy_sorted(f, &mut dividend);
+    let cubes = expression::part(&dividend, 0, n);
+    let mut quotient = [0u64; WORDS];
+    let k = list_quotient_sorted(cubes, d, &mut quotient);
+    let whole = expression::part(&quotient, 0, k);
+    let mut remainder = [0u64; WORDS];
+    let m = list_spared(cubes, whole, d, &mut remainder);
+    let rest = expression::part(&remainder, 0, m);
+    hand_over(whole, rest, q, r)
 }

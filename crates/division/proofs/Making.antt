@@ -1,0 +1,116 @@
+-- What the parts of a division compute is the quotient and the remainder: the search of a cube, the tests of one, the lists made of the dividend in cube order. Assumes nothing.
+use Prim.Native.Nat.{ℕ, _+_, _<_, _≤_}
+use mathlib.Core.Path.{_≡_, refl, sym, _∙_, ap, subst}
+use mathlib.Core.Bool.{Bool, true, false, cond, not, _&&_}
+use mathlib.Core.List.{List, [], _∷_, Memᴰ·cast}
+use mathlib.Core.Option.{none, some}
+use native.Mathlib.Omega.{arith}
+use lib.ListN.{length, getD, drop, length-map}
+use borrow.Author.Tests.{not-true}
+use Rattle.sets.specs.Lists.{all, keep, isNil}
+use Rattle.sets.specs.Sets.{mem, sub, apart, asc, without, meet, before}
+use Rattle.sets.proofs.Truth.{iff, both, together, clash, refuted}
+use Rattle.sets.proofs.First.{some-not-none}
+use Rattle.sets.proofs.Lists.{all-in, all-out, keep-in, keep-out, keep-all, keep-le, pairwise-keep}
+use Rattle.sets.proofs.Places.{at-in, in-at, drop-next}
+use Rattle.sets.proofs.Orders.{before-order, ext-in}
+use Rattle.sets.proofs.Sets.{rejoin, unjoin, union-right}
+use Rattle.expression.specs.Expression.{expression, has, sort, ordered, findIn}
+use Rattle.expression.proofs.Members.{has-in, has-out}
+use Rattle.expression.proofs.Searching.{find-iff}
+use Rattle.expression.proofs.Sorting.{sort-in, sort-out, expression-sort}
+use Rattle.division.specs.Division.{divides, leftOver, quotient, product, remainder}
+use Rattle.division.specs.Parts.{divisors, spared}
+use Rattle.division.proofs.Quotients.{cube-asc, quotient-in, quotient-out, quotient-form, product-in, product-out, remainder-in, remainder-out, remainder-form}
+
+-- ---- a search among cubes in order tells whether a cube is one of them
+
+module _ (c : List ℕ) (f : List (List ℕ)) (o : ordered f ≡ true) where
+  pub found-has : (i : ℕ) → findIn c f ≡ some i → has c f ≡ true
+  found-has i e = let r = (find-iff c f i o) .0 e in has-in (Memᴰ·cast (sym (r .1)) (at-in f i [] (r .0)))
+
+  pub missed-has : findIn c f ≡ none → has c f ≡ false
+  missed-has e = refuted (λ h. let r = in-at [] (has-out c f h) in some-not-none (findIn c f) ((find-iff c f (r .0) o) .1 (r .1, r .2)) e)
+
+-- two cubes share no literal where they have none in common
+pub meet-none : (a b : List ℕ) → isNil (meet a b) ≡ apart a b
+unfolding meet apart
+meet-none [] b = refl
+meet-none (x ∷ a) b = elim (mem x b) as (λ t. isNil (cond t (x ∷ keep (λ z. mem z b) a) (keep (λ z. mem z b) a)) ≡ (not t && all (λ z. not (mem z b)) a))
+    [ true ↦ refl | false ↦ meet-none a b ]
+
+-- ---- the lists, one cube of the dividend after the other
+
+pub keep-length : {A : Type 0} (p : A → Bool) (l : List A) → length (keep p l) ≤ length l
+keep-length p l = rw (keep-all (λ x. true) l (all-in (λ x. true) l (λ x m. refl))) at (keep-le p (λ x. true) l (λ x m h. refl))
+
+module _ (f d : List (List ℕ)) (first : List ℕ) where
+  -- the divisors that the cubes l give
+  abbrev pub given : List (List ℕ) → List (List ℕ)
+  given l = keep (divides f d) (leftOver l first)
+
+  pub given-length : (l : List (List ℕ)) → length (given l) ≤ length l
+  given-length l =
+      omega (arith, keep-length (divides f d) (leftOver l first), length-map (keep (sub first) l) (λ e. without e first), keep-length (sub first) l)
+
+  module _ (l : List (List ℕ)) (i : ℕ) (h : i < length l) (e : List ℕ) (at : e ≡ getD l i []) where
+    pub given-lacks : sub first e ≡ false → given (drop i l) ≡ given (drop (i + 1) l)
+    given-lacks s = rw (drop-next l i [] h, ← at, s)
+
+    module _ (s : sub first e ≡ true) (c : List ℕ) (left : c ≡ without e first) where
+      pub given-none : divides f d c ≡ false → given (drop i l) ≡ given (drop (i + 1) l)
+      given-none t = rw (drop-next l i [] h, ← at, s, ← left, t)
+
+      pub given-one : divides f d c ≡ true → given (drop i l) ≡ c ∷ given (drop (i + 1) l)
+      given-one t = rw (drop-next l i [] h, ← at, s, ← left, t)
+
+module _ (p : List ℕ → Bool) (l : List (List ℕ)) (i : ℕ) (h : i < length l) (e : List ℕ) (at : e ≡ getD l i []) where
+  pub kept-none : p e ≡ false → keep p (drop i l) ≡ keep p (drop (i + 1) l)
+  kept-none s = rw (drop-next l i [] h, ← at, s)
+
+  pub kept-one : p e ≡ true → keep p (drop i l) ≡ e ∷ keep p (drop (i + 1) l)
+  kept-one s = rw (drop-next l i [] h, ← at, s)
+
+-- ---- the quotient and the remainder, of the dividend in cube order
+
+pub divisors-sorted : (f d : List (List ℕ)) → 0 < length d → sort (divisors f d) ≡ quotient f d
+unfolding quotient
+divisors-sorted f [] n = absurd (omega arith)
+divisors-sorted f (c ∷ d) n = refl
+
+module _ (f d : List (List ℕ)) (ef : expression f ≡ true) (ed : expression d ≡ true) (n : 0 < length d) where
+  es : expression (sort f) ≡ true
+  es = (expression-sort f ef) .0
+
+  -- the order of the dividend does not matter
+  quotient-sort : quotient (sort f) d ≡ quotient f d
+  quotient-sort = ext-in before before-order (quotient (sort f) d) (quotient f d) ((quotient-form (sort f) d es ed) .1) ((quotient-form f d ef ed) .1)
+      (λ c m. quotient-in f d c ef ed n (cube-asc (quotient (sort f) d) ((quotient-form (sort f) d es ed) .0) m)
+      (λ b i. let r = quotient-out (sort f) d c m b i in (r .0, sort-out f (r .1))))
+      (λ c m. quotient-in (sort f) d c es ed n (cube-asc (quotient f d) ((quotient-form f d ef ed) .0) m)
+      (λ b i. let r = quotient-out f d c m b i in (r .0, sort-in (r .1))))
+
+  pub made-quotient : sort (divisors (sort f) d) ≡ quotient f d
+  made-quotient = divisors-sorted (sort f) d n ∙ quotient-sort
+
+  -- a cube is spared where it is no union
+  spared-product : (e : List ℕ) → asc e ≡ true → spared (quotient f d) d e ≡ not (product (quotient f d) d e)
+  unfolding spared
+  spared-product e a = iff
+      (λ h. ap not (refuted (λ t.
+      let (c, b, i, j, u) = product-out (quotient f d) d e t in
+      let w : without e b ≡ c = ap (λ z. without z b) u ∙ unjoin c b (cube-asc (quotient f d) ((quotient-form f d ef ed) .0) i) (cube-asc d ed j) ((quotient-out f d c i b j) .0) in
+      clash (together (sub b e) (has (without e b) (quotient f d)) (subst (λ z. sub b z ≡ true) (sym u) (union-right c b)) (rw w (has-in i)))
+      (not-true _ (all-out (λ b. not (sub b e && has (without e b) (quotient f d))) j h)))))
+      (λ h. all-in (λ b. not (sub b e && has (without e b) (quotient f d))) d (λ b j. ap not (refuted (λ t.
+      let q = both (sub b e) (has (without e b) (quotient f d)) t in
+      clash (product-in (quotient f d) d e (without e b) b (has-out _ _ (q .1)) j (sym (rejoin e b a (cube-asc d ed j) (q .0)))) (not-true _ h)))))
+
+  pub made-remainder : keep (spared (quotient f d) d) (sort f) ≡ remainder f d
+  made-remainder = ext-in before before-order (keep (spared (quotient f d) d) (sort f)) (remainder f d)
+      (pairwise-keep before (spared (quotient f d) d) (sort f) ((expression-sort f ef) .1)) ((remainder-form f d ef) .1)
+      (λ e m. let q = keep-out (spared (quotient f d) d) (sort f) m in
+      let i = sort-out f (q .0) in
+      remainder-in f d e i (not-true _ (sym (spared-product e (cube-asc f ef i)) ∙ q .1)))
+      (λ e m. let q = remainder-out f d e m in
+      keep-in (spared (quotient f d) d) (sort-in (q .0)) (spared-product e (cube-asc f ef (q .0)) ∙ ap not (q .1)))

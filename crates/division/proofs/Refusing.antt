@@ -1,0 +1,167 @@
+-- Which divisions are refused, and with which number; what is known of the expressions where none is. Assumes nothing.
+use Prim.Native.Nat.{ℕ, _*_, _<_, _≤_}
+use mathlib.Core.Path.{_≡_, refl, sym, subst}
+use mathlib.Core.Bool.{Bool, true, false, cond, _&&_}
+use mathlib.Core.List.{List, [], _∷_}
+use mathlib.Core.Option.{Option, none, some}
+use native.Mathlib.Omega.{arith}
+use lib.Dec.{ltb}
+use lib.ListN.{length}
+use borrow.Author.Tests.{ltb-false, lt-ltb, le-ltb}
+use Rattle.sets.specs.Lists.{isNil, orElse}
+use Rattle.sets.proofs.Truth.{both, or-right}
+use Rattle.sets.proofs.First.{some-not-none}
+use Rattle.expression.specs.Words.{cubesOf, spareOf, Written}
+use Rattle.expression.specs.Expression.{expression}
+use Rattle.expression.specs.Answers.{mostCubes, refusal, refusedBy as refusalOf}
+use Rattle.expression.specs.declared.Verdict.{Verdict}
+use Rattle.expression.specs.declared.Verdict.the-variants.{Accepted, Refused}
+use Rattle.expression.proofs.Words.{cubes-length}
+use Rattle.division.specs.Division.{quotient, remainder}
+use Rattle.division.specs.Answers.{either, roomed, refusedBy, Told}
+use Rattle.division.specs.Parts.{noCubes, admitted, cramped, Handed}
+use Rattle.division.specs.declared.Division.{Division}
+use Rattle.division.specs.declared.Division.the-variants.{Done, Refused as Turned}
+
+-- ---- the smaller of two refusals
+
+module _ (a b : Verdict) (k : ℕ) (e : a ≡ Refused k) where
+  pub lesser-one : b ≡ Accepted → some k ≡ either (refusalOf a) (refusalOf b)
+  lesser-one h = rw (e, h)
+
+  module _ (l : ℕ) (h : b ≡ Refused l) where
+    pub lesser-second : l < k → some l ≡ either (refusalOf a) (refusalOf b)
+    lesser-second s = rw (e, h, lt-ltb l k s)
+
+    pub lesser-first : k ≤ l → some k ≡ either (refusalOf a) (refusalOf b)
+    lesser-first s = rw (e, h, le-ltb l k s)
+
+pub first-refused : (a b : Verdict) (k : ℕ) → a ≡ Refused k → some k ≡ orElse (refusalOf a) (refusalOf b)
+first-refused a b k e = rw e
+
+-- ---- 6, 7, then 8
+
+nil-empty : {A : Type 0} (l : List A) → length l ≡ 0 → isNil l ≡ true
+nil-empty [] h = refl
+nil-empty (x ∷ l) h = absurd (omega arith)
+
+nil-some : {A : Type 0} (l : List A) → (length l ≡ 0 → ⊥) → isNil l ≡ false
+nil-some [] h = absurd (h refl)
+nil-some (x ∷ l) h = refl
+
+some-nil : {A : Type 0} (l : List A) → isNil l ≡ false → 0 < length l
+some-nil [] h = absurd (mathlib.Core.Bool.true≢false h)
+some-nil (x ∷ l) h = omega arith
+
+module _ (d : List ℕ) where
+  pub no-cubes : length (cubesOf d) ≡ 0 → some 8 ≡ noCubes d
+  unfolding noCubes
+  no-cubes z = rw (nil-empty (cubesOf d) z)
+
+  pub some-cubes : (length (cubesOf d) ≡ 0 → ⊥) → none ≡ noCubes d
+  unfolding noCubes
+  some-cubes z = rw (nil-some (cubesOf d) z)
+
+-- ---- what is known where neither is refused
+
+pub record Accepting (ws : List ℕ) : Type 0 where
+  pub cubes : expression (cubesOf ws) ≡ true
+  pub few : length (cubesOf ws) ≤ mostCubes
+
+accepting : (ws : List ℕ) → refusal ws ≡ none → Accepting ws
+unfolding refusal
+accepting ws h = go (ltb (2 * mostCubes) (length ws)) refl (isNil (spareOf ws) && expression (cubesOf ws)) refl h
+  where
+    go : (s : Bool) → ltb (2 * mostCubes) (length ws) ≡ s → (t : Bool) → (isNil (spareOf ws) && expression (cubesOf ws)) ≡ t
+        → cond {A = Option ℕ} s (some 6) (cond t none (some 7)) ≡ none → Accepting ws
+    go true e t k h = some-not-none (some 6) refl h
+    go false e true k h = record {
+      cubes = (both (isNil (spareOf ws)) (expression (cubesOf ws)) k) .1;
+      few = omega (arith, ltb-false (2 * mostCubes) (length ws) e, cubes-length ws);
+    }
+    go false e false k h = some-not-none (some 7) refl h
+
+pub record Admitted (f d : List ℕ) : Type 0 where
+  pub dividend : Accepting f
+  pub divisor : Accepting d
+  pub some : 0 < length (cubesOf d)
+  pub neither : either (refusal f) (refusal d) ≡ none
+
+either-none : (a b : Option ℕ) → either a b ≡ none → (a ≡ none) × (b ≡ none)
+either-none none b h = (refl, h)
+either-none (some k) none h = some-not-none (some k) refl h
+either-none (some k) (some l) h = elim (ltb l k) as (λ t. cond {A = Option ℕ} t (some l) (some k) ≡ none → (some k ≡ none) × (some l ≡ none)) [
+  | true ↦ λ e. some-not-none (some l) refl e
+  | false ↦ λ e. some-not-none (some k) refl e
+] h
+
+pub admitted-known : (f d : List ℕ) → admitted f d ≡ none → Admitted f d
+unfolding admitted noCubes
+admitted-known f d h = go (either (refusal f) (refusal d)) refl (isNil (cubesOf d)) refl h
+  where
+    go : (o : Option ℕ) → either (refusal f) (refusal d) ≡ o → (t : Bool) → isNil (cubesOf d) ≡ t → orElse o (cond t (some 8) none) ≡ none → Admitted f d
+    go (some k) e t n h = some-not-none (some k) refl h
+    go none e true n h = some-not-none (some 8) refl h
+    go none e false n h = let q = either-none (refusal f) (refusal d) e in
+        record { dividend = accepting f (q .0); divisor = accepting d (q .1); some = some-nil (cubesOf d) n; neither = e }
+
+-- ---- too little room
+
+module _ (a b : List (List ℕ)) (q r : List ℕ) where
+  pub cramped-first : length (cubesOf q) < length a → cramped a b q r ≡ true
+  unfolding cramped
+  cramped-first h = rw (lt-ltb (length (cubesOf q)) (length a) h)
+
+  pub cramped-second : length (cubesOf r) < length b → cramped a b q r ≡ true
+  unfolding cramped
+  cramped-second h = or-right (ltb (length (cubesOf q)) (length a)) (ltb (length (cubesOf r)) (length b)) (lt-ltb (length (cubesOf r)) (length b) h)
+
+  pub cramped-none : length a ≤ length (cubesOf q) → length b ≤ length (cubesOf r) → cramped a b q r ≡ false
+  unfolding cramped
+  cramped-none h k = rw (le-ltb (length (cubesOf q)) (length a) h, le-ltb (length (cubesOf r)) (length b) k)
+
+  -- a refusal leaves the rooms as they were
+  pub handed-none : cramped a b q r ≡ true → Handed (cramped a b q r) a b q r q r (Turned 9)
+  handed-none h = rw h (refl, refl, refl)
+
+  pub handed-all : {q′ r′ : List ℕ} {t : Division} → cramped a b q r ≡ false → t ≡ Done (length a) (length b) → Written q q′ a → Written r r′ b
+      → Handed (cramped a b q r) a b q r q′ r′ t
+  handed-all h e u w = rw h (e, u, w)
+
+-- ---- the whole refusal, and the answer
+
+-- the first, or else the second
+abbrev after : Option ℕ → Option ℕ → Option ℕ
+after o p = elim o [ some k ↦ some k | none ↦ p ]
+
+module _ (f d q r : List ℕ) where
+  abbrev tight : Bool
+  tight = cramped (quotient (cubesOf f) (cubesOf d)) (remainder (cubesOf f) (cubesOf d)) q r
+
+  early : (k : ℕ) → admitted f d ≡ some k → refusedBy f d q r ≡ some k
+  unfolding admitted noCubes refusedBy roomed cramped
+  early k h = go (either (refusal f) (refusal d)) (isNil (cubesOf d)) h
+    where
+      go : (o : Option ℕ) (t : Bool) → orElse o (cond t (some 8) none) ≡ some k → after o (cond t (some 8) (cond tight (some 9) none)) ≡ some k
+      go (some l) t h = h
+      go none true h = h
+      go none false h = some-not-none none h refl
+
+  -- a refusal before the rooms are looked at
+  pub told-early : (k : ℕ) → some k ≡ admitted f d → Told (refusedBy f d q r) f d q r q r (Turned k)
+  told-early k h = rw (early k (sym h)) (refl, refl, refl)
+
+  late : Admitted f d → refusedBy f d q r ≡ cond tight (some 9) none
+  unfolding refusedBy roomed cramped
+  late m = subst (λ o. after o (roomed f d q r) ≡ cond tight (some 9) none) (sym (m .neither)) (rw (nil-some (cubesOf d) (λ z. omega (arith, m .some))))
+
+  -- what is handed over is the answer
+  pub told-late : {a b : List (List ℕ)} (q′ r′ : List ℕ) (t : Division) → Admitted f d → a ≡ quotient (cubesOf f) (cubesOf d) → b ≡ remainder (cubesOf f) (cubesOf d)
+      → Handed (cramped a b q r) a b q r q′ r′ t → Told (refusedBy f d q r) f d q r q′ r′ t
+  told-late {a} {b} q′ r′ t m e g h =
+      rw (late m) (go tight (subst (λ x. Handed (cramped x (remainder (cubesOf f) (cubesOf d)) q r) x (remainder (cubesOf f) (cubesOf d)) q r q′ r′ t) e
+      (subst (λ x. Handed (cramped a x q r) a x q r q′ r′ t) g h)))
+    where
+      go : (s : Bool) → Handed s (quotient (cubesOf f) (cubesOf d)) (remainder (cubesOf f) (cubesOf d)) q r q′ r′ t → Told (cond s (some 9) none) f d q r q′ r′ t
+      go true h = h
+      go false h = h

@@ -1,0 +1,48 @@
+-- What the steps of a division leave: the dividend in cube order, the quotient and the remainder, each in a room of its own. Assumes nothing.
+use Prim.Native.Nat.{ℕ, _≤_}
+use mathlib.Core.Path.{_≡_, sym, _∙_, ap, subst}
+use mathlib.Core.Bool.{true}
+use mathlib.Core.List.{List}
+use lib.ListN.{length, replicate}
+use Rattle.sets.specs.Lists.{keep}
+use Rattle.expression.specs.Words.{cubesOf}
+use Rattle.expression.specs.Expression.{sort, ordered}
+use Rattle.expression.proofs.Words.{cubes-length}
+use Rattle.expression.proofs.Sorting.{sort-length, expression-sort}
+use Rattle.division.specs.Division.{quotient, remainder}
+use Rattle.division.specs.Parts.{Ready, Listed, divisors, spared}
+use Rattle.division.proofs.Quotients.{quotient-form}
+use Rattle.division.proofs.Making.{made-quotient, made-remainder}
+use Rattle.division.proofs.Refusing.{Admitted}
+
+-- a room of 1,024 cubes
+abbrev pub blank : List ℕ
+blank = replicate 2048 0
+
+pub blank-length : length (cubesOf blank) ≡ 1024
+blank-length = cubes-length blank
+
+module _ {f d : List ℕ} (m : Admitted f d) where
+  pub blank-room : length (cubesOf f) ≤ length (cubesOf blank)
+  blank-room = subst (λ n. length (cubesOf f) ≤ n) (sym blank-length) (m .dividend .few)
+
+  module _ (s : List ℕ) (e : cubesOf s ≡ sort (cubesOf f)) where
+    pub sorted-room : length (cubesOf s) ≤ length (cubesOf blank)
+    sorted-room = subst (λ g. length g ≤ length (cubesOf blank)) (sym e) (subst (λ n. n ≤ length (cubesOf blank)) (sym (sort-length (cubesOf f))) blank-room)
+
+    pub sorted-ready : Ready s blank
+    sorted-ready = record { order = rw e ((expression-sort (cubesOf f) (m .dividend .cubes)) .1); room = sorted-room }
+
+    pub listed-quotient : {old new : List ℕ} {n : ℕ} → Listed old new n (sort (divisors (cubesOf s) (cubesOf d))) → Listed old new n (quotient (cubesOf f) (cubesOf d))
+    listed-quotient {old} {new} {n} l =
+        subst (λ g. Listed old new n g) (ap (λ g. sort (divisors g (cubesOf d))) e ∙ made-quotient (cubesOf f) (cubesOf d) (m .dividend .cubes) (m .divisor .cubes) (m .some)) l
+
+    module _ (q : List ℕ) (h : cubesOf q ≡ quotient (cubesOf f) (cubesOf d)) where
+      pub quotient-order : ordered (cubesOf q) ≡ true
+      quotient-order = rw h ((quotient-form (cubesOf f) (cubesOf d) (m .dividend .cubes) (m .divisor .cubes)) .1)
+
+      pub listed-remainder : {old new : List ℕ} {n : ℕ} → Listed old new n (keep (spared (cubesOf q) (cubesOf d)) (cubesOf s)) → Listed old new n (remainder (cubesOf f) (cubesOf d))
+      listed-remainder {old} {new} {n} l =
+          subst (λ g. Listed old new n g)
+          (ap (λ g. keep (spared g (cubesOf d)) (cubesOf s)) h ∙ ap (keep (spared (quotient (cubesOf f) (cubesOf d)) (cubesOf d))) e
+          ∙ made-remainder (cubesOf f) (cubesOf d) (m .dividend .cubes) (m .divisor .cubes) (m .some)) l

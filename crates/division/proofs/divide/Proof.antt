@@ -1,0 +1,145 @@
+-- `division::divide` meets its contract: the refusals in their order, then what the steps leave. Assumes nothing.
+use Prim.Native.Nat.{ℕ}
+use mathlib.Core.Path.{_≡_, sym, _∙_, ap}
+use mathlib.Core.List.{List}
+use borrow.Author.Needs.{needs}
+use Rattle.expression.specs.Words.{cubesOf}
+use Rattle.expression.specs.Expression.{sort}
+use Rattle.expression.specs.Answers.{refusedBy as refusalOf}
+use Rattle.division.specs.Division.{quotient, remainder}
+use Rattle.division.specs.Parts.{Listed}
+use Rattle.division.proofs.Listing.{front-part}
+use Rattle.division.proofs.Refusing.{Admitted, admitted-known, told-early, told-late}
+use Rattle.division.proofs.Whole.{blank, blank-room, sorted-room, sorted-ready, listed-quotient, quotient-order, listed-remainder}
+use Rattle.division.proofs.divide.Statement.{statement}
+use Rattle.division.proofs.divide.Tie as tie
+
+admit-requires : tie.Need-admit-requires
+admit-requires c κs = search needs
+
+enum-known-v : tie.Need-enum-known-v
+enum-known-v c = search needs
+
+returns : tie.Need-returns
+returns c = told-early _ _ _ _ _ (sym (ap refusalOf (c .before .v .given .1)) ∙ c .before .before .before .admit .ensures)
+
+enum-told : tie.Need-enum-told
+enum-told c = search needs
+
+abbrev start : tie.After-enum-told → tie.Start
+start c = c .before .before .before .before .before .before .before
+
+-- neither expression is refused, and the divisor has a cube
+admission : (c : tie.After-enum-told) → Admitted (start c .args .f .now) (start c .args .d .now)
+admission c = admitted-known _ _ (sym (c .before .before .admit .ensures) ∙ ap refusalOf (c .enum-told .given .1))
+
+abbrev opening : tie.After-part → tie.After-enum-told
+opening c = c .before .before .before .before .before
+
+-- the dividend, in cube order
+dividend : (c : tie.After-part) → cubesOf (c .part .result .now) ≡ sort (cubesOf (start (opening c) .args .f .now))
+dividend c = front-part (c .before .before .before .copy-sorted .ensures) _ (c .part .ensures .0)
+
+abbrev over : tie.After-enum-told → (List (List ℕ) → List (List ℕ) → List (List ℕ)) → List (List ℕ)
+over c op = op (cubesOf (start c .args .f .now)) (cubesOf (start c .args .d .now))
+
+-- the quotient, listed
+quotients : (c : tie.After-list-quotient-sorted) → Listed blank (c .list-quotient-sorted .last .1 .1 .0) (c .list-quotient-sorted .result) (over (opening (c .before .before)) quotient)
+quotients c = listed-quotient (admission (opening (c .before .before))) _ (dividend (c .before .before)) (c .list-quotient-sorted .ensures)
+
+abbrev listing : tie.After-part2 → tie.After-list-quotient-sorted
+listing c = c .before .before .before
+
+abbrev opened : tie.After-part2 → tie.After-enum-told
+opened c = opening (listing c .before .before)
+
+whole : (c : tie.After-part2) → cubesOf (c .part2 .result .now) ≡ over (opened c) quotient
+whole c = front-part (quotients (listing c)) _ (c .part2 .ensures .0)
+
+-- the remainder, listed
+remainders : (c : tie.After-list-spared) → Listed blank (c .list-spared .last .1 .1 .1 .0) (c .list-spared .result) (over (opened (c .before .before)) remainder)
+remainders c =
+    let p = c .before .before in
+    listed-remainder (admission (opened p)) _ (dividend (listing p .before .before)) _ (whole p) (c .list-spared .ensures)
+
+rest : (c : tie.After-part3) → cubesOf (c .part3 .result .now) ≡ over (opened (c .before .before .before .before .before)) remainder
+rest c = front-part (remainders (c .before .before .before)) _ (c .part3 .ensures .0)
+
+slice-aggregate-copy-sorted : tie.Need-slice-aggregate-copy-sorted
+slice-aggregate-copy-sorted c = search needs
+
+copy-sorted-requires : tie.Need-copy-sorted-requires
+copy-sorted-requires c κs = blank-room (admission (c .before))
+
+slice-aggregate-part : tie.Need-slice-aggregate-part
+slice-aggregate-part c = search needs
+
+part-requires : tie.Need-part-requires
+part-requires c κs = search needs
+
+slice-aggregate-list-quotient-sorted : tie.Need-slice-aggregate-list-quotient-sorted
+slice-aggregate-list-quotient-sorted c = search needs
+
+list-quotient-sorted-requires : tie.Need-list-quotient-sorted-requires
+list-quotient-sorted-requires c κs = sorted-ready (admission (opening (c .before))) _ (dividend (c .before))
+
+slice-aggregate-part-2 : tie.Need-slice-aggregate-part-2
+slice-aggregate-part-2 c = search needs
+
+part-requires-2 : tie.Need-part-requires-2
+part-requires-2 c κs = search needs
+
+slice-aggregate-list-spared : tie.Need-slice-aggregate-list-spared
+slice-aggregate-list-spared c = search needs
+
+list-spared-requires : tie.Need-list-spared-requires
+list-spared-requires c κs =
+    let p = c .before in
+    let e = dividend (listing p .before .before) in
+    (sorted-room (admission (opened p)) _ e, quotient-order (admission (opened p)) _ e _ (whole p))
+
+slice-aggregate-part-3 : tie.Need-slice-aggregate-part-3
+slice-aggregate-part-3 c = search needs
+
+part-requires-3 : tie.Need-part-requires-3
+part-requires-3 c κs = search needs
+
+hand-over-requires : tie.Need-hand-over-requires
+hand-over-requires c κs = search needs
+
+same-length : tie.Need-same-length
+same-length c = search needs
+
+same-length-2 : tie.Need-same-length-2
+same-length-2 c = search needs
+
+returns-2 : tie.Need-returns-2
+returns-2 c =
+    let t = c .before .before .before .before .before .before .before in
+    let p = t .before .before .before .before .before in
+    told-late _ _ _ _ _ _ _ (admission (opened p)) (whole p) (rest t) (c .before .before .before .before .hand-over .ensures)
+
+pub divide-spec : {M : Type 1} → statement M
+divide-spec =
+    tie.close
+    (tie.spec
+    admit-requires
+    enum-known-v
+    returns
+    enum-told
+    slice-aggregate-copy-sorted
+    copy-sorted-requires
+    slice-aggregate-part
+    part-requires
+    slice-aggregate-list-quotient-sorted
+    list-quotient-sorted-requires
+    slice-aggregate-part-2
+    part-requires-2
+    slice-aggregate-list-spared
+    list-spared-requires
+    slice-aggregate-part-3
+    part-requires-3
+    hand-over-requires
+    same-length
+    same-length-2
+    returns-2)

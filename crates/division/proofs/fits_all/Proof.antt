@@ -1,0 +1,84 @@
+-- `division::fits_all` meets its contract. The loop's invariant: the test of the cubes from i on is the test of all. Assumes nothing.
+use Prim.Native.Nat.{ℕ, _≤_, _-_}
+use mathlib.Core.Path.{_≡_, sym, _∙_, ap}
+use mathlib.Core.Bool.{Bool, _&&_}
+use mathlib.Core.List.{List, []}
+use native.Mathlib.Omega.{arith}
+use lib.ListN.{length, drop, getD}
+use borrow.Author.Needs.{needs}
+use borrow.Author.Tests.{not-true, not-false}
+use Rattle.sets.specs.Sets.{apart, union}
+use Rattle.sets.proofs.Places.{all-stop, all-on, all-done}
+use Rattle.cube.specs.Cube.{lits}
+use Rattle.expression.specs.Words.{cubesOf}
+use Rattle.expression.specs.Expression.{has}
+use Rattle.division.specs.Division.{divides}
+use Rattle.division.proofs.fits_all.Statement.{statement}
+use Rattle.division.proofs.fits_all.Tie as tie
+
+abbrev Inv-loop : tie.InvT-loop
+Inv-loop f d c i₀ i = (i ≤ length (cubesOf d)) × (divides (cubesOf f) (drop i (cubesOf d)) (lits c) ≡ divides (cubesOf f) (cubesOf d) (lits c))
+
+abbrev μ-loop : tie.MeasureT-loop
+μ-loop f d c i₀ i = length (cubesOf d) - i
+
+-- the test of one cube of d
+abbrev test : tie.Start Inv-loop μ-loop → List ℕ → Bool
+test c b = apart (lits (c .args .c)) b && has (union (lits (c .args .c)) b) (cubesOf (c .args .f .now))
+
+-- what the test says of the cube at place i
+tested : (c : tie.After-fits2 Inv-loop μ-loop)
+    → test (c .before .before .before .before .before .before .before) (getD (cubesOf (c .before .before .before .before .before .before .before .args .d .now)) (c .before .before .before .before .loop .i) []) ≡ c .fits2 .result
+tested c = ap (test (c .before .before .before .before .before .before .before)) (sym (c .before .cube-at .ensures)) ∙ sym (c .fits2 .ensures)
+
+loop-holds : tie.Need-loop-holds Inv-loop μ-loop
+loop-holds c = search needs
+
+number-requires : tie.Need-number-requires Inv-loop μ-loop
+number-requires c κs = search needs
+
+cube-at-requires : tie.Need-cube-at-requires Inv-loop μ-loop
+cube-at-requires c κs = search needs
+
+fits-requires : tie.Need-fits-requires Inv-loop μ-loop
+fits-requires c κs = search needs
+
+returns : tie.Need-returns Inv-loop μ-loop
+unfolding divides
+returns c =
+    let l = c .before .before .before .before .before in
+    sym (all-stop (cubesOf (l .before .before .before .args .d .now)) (l .loop .i) [] (omega arith) (test (l .before .before .before)) (tested (c .before) ∙ not-true _ (c .if2 .taken))) ∙ l .loop .inv .1
+
+add-i : tie.Need-add-i Inv-loop μ-loop
+add-i c = search needs
+
+loop-less : tie.Need-loop-less Inv-loop μ-loop
+loop-less c = search needs
+
+loop-again : tie.Need-loop-again Inv-loop μ-loop
+unfolding divides
+loop-again c =
+    let l = c .before .before .before .before .before in
+    (search needs, sym (all-on (cubesOf (l .before .before .before .args .d .now)) (l .loop .i) [] (omega arith) (test (l .before .before .before)) (tested (c .before) ∙ not-false _ (c .if2 .left))) ∙ l .loop .inv .1)
+
+returns-2 : tie.Need-returns-2 Inv-loop μ-loop
+unfolding divides
+returns-2 c =
+    let l = c .before .before in
+    sym (all-done (cubesOf (l .before .before .before .args .d .now)) (l .loop .i) (omega arith) (test (l .before .before .before))) ∙ l .loop .inv .1
+
+pub fits-all-spec : {M : Type 1} → statement M
+fits-all-spec =
+    tie.close
+    (tie.spec
+    Inv-loop
+    μ-loop
+    loop-holds
+    number-requires
+    cube-at-requires
+    fits-requires
+    returns
+    add-i
+    loop-less
+    loop-again
+    returns-2)
