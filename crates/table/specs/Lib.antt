@@ -1,2 +1,4 @@
 pub mod Table
+pub mod Meaning
 pub mod Answers
+pub mod Parts

@@ -1,14 +1,33 @@
 // Table texts in the Espresso PLA format, read into networks.
+use cube::Cube;
 use network::Network;
-ghost use Rattle.table.specs.Table.{readText};
+use text::Kind;
+use text::Parsed;
+ghost use mathlib.Core.Path.{_≡_};
+ghost use mathlib.Core.List.{[]};
+ghost use Prim.Native.Nat.{_+_, _-_, _<_, _≤_};
+ghost use lib.ListN.{length, replicate};
+ghost use Rattle.sets.specs.Masks.{bit};
+ghost use Rattle.cube.specs.Cube.{lits};
+ghost use Rattle.expression.specs.Words.{cubesOf, Placed};
+ghost use Rattle.network.specs.Handed.{Holds, Blank};
+ghost use Rattle.text.specs.Text.{linesOf};
+ghost use Rattle.text.specs.Lines.{kindOf};
+ghost use Rattle.table.specs.Table as table;
+ghost use Rattle.table.specs.Table.{start, readLines, readText, cubeLine, byKind, setWide, setTall, setStated, finish};
 ghost use Rattle.table.specs.Answers.{Told};
+ghost use Rattle.table.specs.Parts.{Answers, Roomy, Keeps, Leaves, Ready, stoppedAt, Scans, pick, Room, Taken, Vacant, Filled, formed, Buildable, netFrom};
 
 // The limits of a table.
 const BYTES: usize = 65536;
 
+const INPUTS: u32 = 32;
+
+const OUTPUTS: u32 = 32;
+
 const PRODUCTS: u32 = 32768;
 
-const ROWS: usize = 1024;
+const ROWS: u64 = 1024;
 
 // A refusal has its number and its line.
 pub enum Answer {
@@ -20,4 +39,338 @@ pub enum Answer {
 pub struct Table {
     pub answer: Answer,
     pub network: Network,
+}
+
+// What has been read: the numbers of inputs and outputs, 0 while missing; one more than the number of `.p`, 0 while missing; the
+// cube lines, the rows that they make, and how many of the lines make one.
+struct State {
+    inputs: usize,
+    outputs: usize,
+    stated: usize,
+    lines: usize,
+    rows: u64,
+    kept: usize,
+}
+
+// A line goes on, ends the table, or is refused by a number.
+enum Step {
+    Next(State),
+    Done(State),
+    Refused(u32),
+}
+
+// `.i N`.
+fn set_inputs(s: State, n: u32) -> Step
+    ensures { λ r. ⌜ Answers (setWide n) s r ⌝ }
+{
+    if s.inputs != 0 {
+        return Step::Refused(2);
+    }
+    if s.lines != 0 {
+        return Step::Refused(2);
+    }
+    if n == 0 {
+        return Step::Refused(3);
+    }
+    if n > INPUTS {
+        return Step::Refused(3);
+    }
+    let mut t = s;
+    t.inputs = n as usize;
+    Step::Next(t)
+}
+
+// `.o N`.
+fn set_outputs(s: State, n: u32) -> Step
+    ensures { λ r. ⌜ Answers (setTall n) s r ⌝ }
+{
+    if s.outputs != 0 {
+        return Step::Refused(2);
+    }
+    if s.lines != 0 {
+        return Step::Refused(2);
+    }
+    if n == 0 {
+        return Step::Refused(3);
+    }
+    if n > OUTPUTS {
+        return Step::Refused(3);
+    }
+    let mut t = s;
+    t.outputs = n as usize;
+    Step::Next(t)
+}
+
+// `.p N`.
+fn set_stated(s: State, n: u32) -> Step
+    ensures { λ r. ⌜ Answers (setStated n) s r ⌝ }
+{
+    if s.stated != 0 {
+        return Step::Refused(2);
+    }
+    if s.lines != 0 {
+        return Step::Refused(2);
+    }
+    if n > PRODUCTS {
+        return Step::Refused(3);
+    }
+    let mut t = s;
+    t.stated = n as usize + 1;
+    Step::Next(t)
+}
+
+// `.e`.
+fn finish(s: State) -> Step
+    ensures { λ r. ⌜ Answers finish s r ⌝ }
+{
+    if s.inputs == 0 {
+        return Step::Refused(2);
+    }
+    if s.outputs == 0 {
+        return Step::Refused(2);
+    }
+    if s.stated == 0 {
+        return Step::Done(s);
+    }
+    if s.stated - 1 != s.lines {
+        return Step::Refused(4);
+    }
+    Step::Done(s)
+}
+
+// One more cube line; its cube and mask are kept where it makes a row.
+fn keep_line(
+    s: State,
+    cube: Cube,
+    mask: u64,
+    rows: u64,
+    words: &mut [u64],
+    marks: &mut [u64],
+) -> State
+    requires { ⌜ Roomy s (now words) (now marks) ⌝ }
+    requires { ⌜ s .rows + rows ≤ 1024 ⌝ }
+    ensures { λ r. ⌜ Keeps s (lits cube) mask rows r (now (words .entry)) (now (marks .entry)) (now (words .exit)) (now (marks .exit)) ⌝ }
+{
+    let mut t = s;
+    t.lines = s.lines + 1;
+    t.rows = s.rows + rows;
+    if rows == 0 {
+        return t;
+    }
+    let kept = s.kept;
+    expression::put_cube(words, kept, cube);
+    marks[kept] = mask;
+    t.kept = kept + 1;
+    t
+}
+
+// A cube line: 2 while `.i` or `.o` is missing, or where it is none; 6 where its rows pass the limit.
+fn add_line(c: &[u8], s: State, words: &mut [u64], marks: &mut [u64]) -> Step
+    requires { ⌜ Roomy s (now words) (now marks) ⌝ }
+    ensures { λ r. ⌜ Leaves (λ (t : table.State). cubeLine (t .wide) (t .tall) (now (c .entry)) t) s r (now (words .entry)) (now (marks .entry)) (now (words .exit)) (now (marks .exit)) ⌝ }
+{
+    if s.inputs == 0 {
+        return Step::Refused(2);
+    }
+    if s.outputs == 0 {
+        return Step::Refused(2);
+    }
+    let Parsed::Line(cube, mask, rows) = text::cube_line(c, s.inputs, s.outputs) else {
+        return Step::Refused(2);
+    };
+    if rows > ROWS - s.rows {
+        return Step::Refused(6);
+    }
+    Step::Next(keep_line(s, cube, mask, rows, words, marks))
+}
+
+// What is left of a line, by its kind.
+fn take_line(c: &[u8], s: State, words: &mut [u64], marks: &mut [u64]) -> Step
+    requires { ⌜ Roomy s (now words) (now marks) ⌝ }
+    ensures { λ r. ⌜ Leaves (byKind (kindOf (now (c .entry))) (now (c .entry))) s r (now (words .entry)) (now (marks .entry)) (now (words .exit)) (now (marks .exit)) ⌝ }
+{
+    let kind = text::kind_of(c);
+    match kind {
+        Kind::Empty => Step::Next(s),
+        Kind::Inputs(n) => set_inputs(s, n),
+        Kind::Outputs(n) => set_outputs(s, n),
+        Kind::Products(n) => set_stated(s, n),
+        Kind::End => finish(s),
+        Kind::Other => add_line(c, s, words, marks),
+    }
+}
+
+// What was read up to the line that ends the table, or the refusal.
+struct Scanned {
+    answer: Answer,
+    state: State,
+}
+
+// The answer to a line that is the last to be read.
+fn stopped(step: Step, line: u32, s: State) -> Scanned
+    ensures { λ r. ⌜ r ≡ stoppedAt step line s ⌝ }
+{
+    match step {
+        Step::Next(t) => Scanned {
+            answer: Answer::Read,
+            state: t,
+        },
+        Step::Done(t) => Scanned {
+            answer: Answer::Read,
+            state: t,
+        },
+        Step::Refused(k) => Scanned {
+            answer: Answer::Refused(k, line),
+            state: s,
+        },
+    }
+}
+
+// The lines in turn, each taken apart as it is read; a refusal leaves at once.
+fn scan(text: &[u8], words: &mut [u64], marks: &mut [u64]) -> Scanned
+    requires { ⌜ Ready (now text) (now words) (now marks) ⌝ }
+    ensures { λ r. ⌜ Scans (readLines 1 (linesOf (now (text .entry))) start) r (now (words .exit)) (now (marks .exit)) ⌝ }
+{
+    let mut s = State {
+        inputs: 0,
+        outputs: 0,
+        stated: 0,
+        lines: 0,
+        rows: 0,
+        kept: 0,
+    };
+    let mut line: u32 = 1;
+    let mut at = 0;
+    while at <= text.len() {
+        let e = text::line_end(text, at);
+        let step = take_line(text::content_of(&text[at..e]), s, words, marks);
+        let Step::Next(t) = step else {
+            return stopped(step, line, s);
+        };
+        s = t;
+        at = e + 1;
+        line += 1;
+    }
+    Scanned {
+        answer: Answer::Refused(5, 0),
+        state: s,
+    }
+}
+
+// Whether output j is marked.
+fn is_marked(mask: u64, j: usize) -> bool
+    requires { ⌜ j < 64 ⌝ }
+    ensures { λ r. ⌜ r ≡ bit mask j ⌝ }
+{
+    (mask >> j) & 1 == 1
+}
+
+// The kept cubes of output j are put from place `at` on, and their number is returned.
+fn collect(words: &[u64], marks: &[u64], kept: usize, j: usize, out: &mut [u64], at: usize) -> usize
+    requires { ⌜ Room (now words) (now marks) kept j at (now out) ⌝ }
+    ensures { λ r. ⌜ Taken (pick j (now (words .entry)) (now (marks .entry)) kept) (now (out .entry)) (now (out .exit)) at r ⌝ }
+{
+    let mut n = 0;
+    let mut i = 0;
+    while i < kept {
+        if is_marked(marks[i], j) {
+            expression::put_cube(out, at + n, expression::cube_at(words, i));
+            n += 1;
+        }
+        i += 1;
+    }
+    n
+}
+
+// Places a up to e become the empty cube.
+fn clear(out: &mut [u64], a: usize, e: usize)
+    requires { ⌜ (a ≤ e) × (e ≤ length (cubesOf (now out))) ⌝ }
+    ensures { λ r. ⌜ Placed (now (out .entry)) (now (out .exit)) a (replicate (e - a) []) ⌝ }
+{
+    let mut i = a;
+    while i < e {
+        expression::put_cube(out, i, cube::empty());
+        i += 1;
+    }
+}
+
+// Output j's expression is put from place `at` on: cubes dropped, the rest in cube order; their number is returned.
+fn fill_output(
+    words: &[u64],
+    marks: &[u64],
+    kept: usize,
+    j: usize,
+    out: &mut [u64],
+    at: usize,
+) -> usize
+    requires { ⌜ Room (now words) (now marks) kept j at (now out) ⌝ }
+    requires { ⌜ Vacant (now out) at ⌝ }
+    ensures { λ r. ⌜ Filled (formed (now (words .entry)) (now (marks .entry)) kept j) (now (out .entry)) (now (out .exit)) at r ⌝ }
+{
+    let n = collect(words, marks, kept, j, out, at);
+    let k = expression::absorb_part(out, at, at + n);
+    expression::sort_part(out, at, at + k);
+    clear(out, at + k, at + n);
+    k
+}
+
+// The network of the kept cubes.
+fn build(inputs: usize, outputs: usize, words: &[u64], marks: &[u64], kept: usize) -> Network
+    requires { ⌜ Buildable (now words) (now marks) kept outputs ⌝ }
+    ensures { λ r. ⌜ Holds r (netFrom inputs outputs (now (words .entry)) (now (marks .entry)) kept) ⌝ }
+{
+    let mut counts = [0usize; 96];
+    let mut out = [0u64; 2176];
+    let mut at = 0;
+    let mut j = 0;
+    while j < outputs {
+        let k = fill_output(words, marks, kept, j, &mut out, at);
+        counts[j] = k;
+        at += k;
+        j += 1;
+    }
+    Network {
+        inputs,
+        outputs,
+        divisors: 0,
+        counts,
+        words: out,
+    }
+}
+
+// A refusal, with a network of zeros.
+fn refused(answer: Answer) -> Table
+    ensures { λ r. ⌜ (r .answer ≡ answer) × Blank (r .network) ⌝ }
+{
+    Table {
+        answer,
+        network: Network {
+            inputs: 0,
+            outputs: 0,
+            divisors: 0,
+            counts: [0usize; 96],
+            words: [0u64; 2176],
+        },
+    }
+}
+
+// The network of a table text, or the number and line of its refusal.
+pub fn read(text: &[u8]) -> Table
+    ensures { λ r. ⌜ Told (readText (now (text .entry))) r ⌝ }
+{
+    if text.len() > BYTES {
+        return refused(Answer::Refused(1, 0));
+    }
+    let mut words = [0u64; 2048];
+    let mut marks = [0u64; 1024];
+    let scanned = scan(text, &mut words, &mut marks);
+    let answer = scanned.answer;
+    let Answer::Read = answer else {
+        return refused(answer);
+    };
+    let s = scanned.state;
+    Table {
+        answer,
+        network: build(s.inputs, s.outputs, &words, &marks, s.kept),
+    }
 }

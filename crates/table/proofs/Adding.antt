@@ -1,0 +1,151 @@
+-- One more cube line: what stands for it, and what the parts of its reading say. Assumes nothing.
+use Prim.Native.Nat.{ℕ, _+_, _-_, _<_, _≤_}
+use mathlib.Core.Path.{_≡_, refl, sym, ap, ap₂, _∙_}
+use mathlib.Core.Bool.{Bool, true, false, cond}
+use mathlib.Core.List.{List, [], _∷_, _++_, map, append-nil}
+use mathlib.Core.Option.{Option, none, some}
+use native.Mathlib.Numerals.{add-one}
+use native.Mathlib.Omega.{arith}
+use lib.Dec.{ltb}
+use lib.ListN.{length, take, set, length-append}
+use lib.Seq.{take-suc-set}
+use borrow.Author.Tests.{lt-ltb, le-ltb, le-leb, lt-leb}
+use Rattle.sets.specs.Lists.{keep, total}
+use Rattle.sets.specs.Masks.{packed}
+use Rattle.sets.proofs.Lists.{total-append}
+use Rattle.expression.specs.Words.{cubesOf, Put}
+use Rattle.text.specs.Lines.{CubeLine, cubeLineOf, cubeOf, rowsIn}
+use Rattle.text.specs.Answers.{Told, parsedOf, toldOf, parsing}
+use Rattle.text.specs.declared.Parsed.{Parsed}
+use Rattle.text.specs.declared.Parsed.the-variants.{Line, Nothing}
+use Rattle.cube.specs.Cube.{lits}
+use Rattle.cube.specs.declared.Cube.{Cube}
+use Rattle.table.specs.Table as table
+use Rattle.table.specs.Meaning.{Good}
+use Rattle.table.specs.Parts.{marked, Stands, withLine}
+use Rattle.table.specs.declared.State.{State}
+use Rattle.table.proofs.Building.{map-append}
+use Rattle.table.proofs.Standing.{wide-none, tall-none, wide-some, tall-some, wide-most, tall-most}
+
+keep-append : {A : Type 0} (p : A → Bool) (l m : List A) → keep p (l ++ m) ≡ keep p l ++ keep p m
+keep-append p [] m = refl
+keep-append p (x ∷ l) m = go (p x) (keep-append p l m)
+  where
+    go : (b : Bool) → keep p (l ++ m) ≡ keep p l ++ keep p m → cond b (x ∷ keep p (l ++ m)) (keep p (l ++ m)) ≡ cond b (x ∷ keep p l) (keep p l) ++ keep p m
+    go true e = ap (x ∷_) e
+    go false e = e
+
+-- ---- one more cube line
+
+module _ {t : table.State} {s : State} {words marks : List ℕ} (h : Stands t s words marks) (l : CubeLine) where
+  plain : rowsIn l ≡ 0 → marked (t .lines ++ (l ∷ [])) ≡ marked (t .lines)
+  plain e = keep-append (λ (c : CubeLine). ltb 0 (rowsIn c)) (t .lines) (l ∷ []) ∙ rw (le-ltb 0 (rowsIn l) (omega arith)) (append-nil (marked (t .lines)))
+
+  more : (rowsIn l ≡ 0 → ⊥) → marked (t .lines ++ (l ∷ [])) ≡ marked (t .lines) ++ (l ∷ [])
+  more f = keep-append (λ (c : CubeLine). ltb 0 (rowsIn c)) (t .lines) (l ∷ []) ∙ rw (lt-ltb 0 (rowsIn l) (omega arith))
+
+  longer : s .lines + 1 ≡ length (t .lines ++ (l ∷ []))
+  longer = ap (_+ 1) (h .lines) ∙ sym (length-append (t .lines) (l ∷ []))
+
+  further : (rows : ℕ) → rows ≡ rowsIn l → s .rows + rows ≡ total rowsIn (t .lines ++ (l ∷ []))
+  further rows e = sym (total-append rowsIn (t .lines) (l ∷ []) ∙ omega (arith, h .rows))
+
+  -- a line that makes no row
+  pub stands-plain : (rows : ℕ) → rows ≡ rowsIn l → rows ≡ 0
+      → Stands (withLine t l) (record { inputs = s .inputs; outputs = s .outputs; stated = s .stated; lines = s .lines + 1; rows = s .rows + rows; kept = s .kept }) words marks
+  stands-plain rows e z =
+      let m = plain (sym e ∙ z) in
+      record {
+        wide = h .wide;
+        tall = h .tall;
+        stated = h .stated;
+        lines = longer;
+        rows = further rows e;
+        kept = h .kept ∙ ap length (sym m);
+        cubes = h .cubes ∙ ap (map cubeOf) (sym m);
+        masks = h .masks ∙ ap (map (λ (c : CubeLine). packed (c .marks))) (sym m);
+      }
+
+  -- one that makes some
+  pub stands-kept : {words' : List ℕ} {cube : List ℕ} (rows mask : ℕ) → rows ≡ rowsIn l → (rows ≡ 0 → ⊥) → s .kept < length (cubesOf words) → s .kept < length marks
+      → cube ≡ cubeOf l → mask ≡ packed (l .marks) → Put words words' (s .kept) cube
+      → Stands (withLine t l) (record { inputs = s .inputs; outputs = s .outputs; stated = s .stated; lines = s .lines + 1; rows = s .rows + rows; kept = s .kept + 1 }) words' (set marks (s .kept) mask)
+  stands-kept {words'} {cube} rows mask e f a b c k p =
+      let m = more (λ z. f (e ∙ z)) in
+      record {
+        wide = h .wide;
+        tall = h .tall;
+        stated = h .stated;
+        lines = longer;
+        rows = further rows e;
+        kept = ap (_+ 1) (h .kept) ∙ sym (ap length m ∙ length-append (marked (t .lines)) (l ∷ []));
+        cubes =
+            ap₂ take (add-one (s .kept)) (p .cubes)
+            ∙ take-suc-set (cubesOf words) (s .kept) cube a
+            ∙ ap₂ (λ (x : List (List ℕ)) (y : List ℕ). x ++ (y ∷ [])) (h .cubes) c
+            ∙ sym (ap (map cubeOf) m ∙ map-append cubeOf (marked (t .lines)) (l ∷ []));
+        masks =
+            ap (λ (n : ℕ). take n (set marks (s .kept) mask)) (add-one (s .kept))
+            ∙ take-suc-set marks (s .kept) mask b
+            ∙ ap₂ (λ (x : List ℕ) (y : ℕ). x ++ (y ∷ [])) (h .masks) k
+            ∙ sym (ap (map (λ (d : CubeLine). packed (d .marks))) m ∙ map-append (λ (d : CubeLine). packed (d .marks)) (marked (t .lines)) (l ∷ []));
+      }
+
+-- ---- what the reading of a cube line says
+
+told-none : (o : Option CubeLine) → none ≡ toldOf o → o ≡ none
+told-none none e = refl
+told-none (some l) e = let z : _≡_ {A = ℕ} 0 1 = cc in absurd (omega arith)
+
+-- the line behind a cube, a mask and a number of rows
+pub record Behind (o : Option CubeLine) (k : List ℕ) (m r : ℕ) : Type 0 where
+  pub line : CubeLine
+  pub is : o ≡ some line
+  pub cube : k ≡ cubeOf line
+  pub mask : m ≡ packed (line .marks)
+  pub rows : r ≡ rowsIn line
+
+told-some : (o : Option CubeLine) (k : List ℕ) (m r : ℕ) → some (record { cube = k; marks = m; rows = r }) ≡ toldOf o → Behind o k m r
+told-some none k m r e = let z : _≡_ {A = ℕ} 0 1 = cc in absurd (omega arith)
+told-some (some l) k m r e =
+    let q : _≡_ {A = Told} (record { cube = k; marks = m; rows = r }) (record { cube = cubeOf l; marks = packed (l .marks); rows = rowsIn l }) = cc in
+    record { line = l; is = refl; cube = ap (λ (x : Told). x .cube) q; mask = ap (λ (x : Told). x .marks) q; rows = ap (λ (x : Told). x .rows) q }
+
+module _ {t : table.State} {s : State} {words marks : List ℕ} (g : Good t) (h : Stands t s words marks) (c : List ℕ) where
+  abbrev result : table.Step
+  result = table.cubeLine (t .wide) (t .tall) c t
+
+  pub cube-early : s .inputs ≡ 0 → result ≡ table.refuse 2
+  cube-early e = ap (λ (o : Option ℕ). table.cubeLine o (t .tall) c t) (wide-none g h e)
+
+  pub cube-early-too : s .outputs ≡ 0 → result ≡ table.refuse 2
+  cube-early-too e = ap (λ (o : Option ℕ). table.cubeLine (t .wide) o c t) (tall-none g h e) ∙ go (t .wide)
+    where
+      go : (o : Option ℕ) → table.cubeLine o none c t ≡ table.refuse 2
+      go none = refl
+      go (some n) = refl
+
+  module _ (i : s .inputs ≡ 0 → ⊥) (o : s .outputs ≡ 0 → ⊥) where
+    cube-there : result ≡ table.addLine (cubeLineOf (s .inputs) (s .outputs) c) t
+    cube-there = ap₂ (λ (a b : Option ℕ). table.cubeLine a b c t) (wide-some g h i) (tall-some g h o)
+
+    parsing-there : parsing (s .inputs) (s .outputs) c ≡ toldOf (cubeLineOf (s .inputs) (s .outputs) c)
+    unfolding parsing
+    parsing-there = rw (le-leb (s .inputs) 32 (wide-most g h), le-leb (s .outputs) 32 (tall-most g h))
+
+    module _ {p : Parsed} (e : parsedOf p ≡ parsing (s .inputs) (s .outputs) c) where
+      pub cube-other : p ≡ Nothing → result ≡ table.refuse 2
+      cube-other q = cube-there ∙ ap (λ (x : Option CubeLine). table.addLine x t) (told-none (cubeLineOf (s .inputs) (s .outputs) c) (ap parsedOf (sym q) ∙ e ∙ parsing-there))
+
+      pub cube-behind : (k : Cube) (m r : ℕ) → p ≡ Line k m r → Behind (cubeLineOf (s .inputs) (s .outputs) c) (lits k) m r
+      cube-behind k m r q = told-some (cubeLineOf (s .inputs) (s .outputs) c) (lits k) m r (ap parsedOf (sym q) ∙ e ∙ parsing-there)
+
+    module _ {k : List ℕ} {m r : ℕ} (b : Behind (cubeLineOf (s .inputs) (s .outputs) c) k m r) where
+      added : result ≡ table.addLine (some (b .line)) t
+      added = cube-there ∙ ap (λ (x : Option CubeLine). table.addLine x t) (b .is)
+
+      pub cube-over : 1024 - s .rows < r → result ≡ table.refuse 6
+      cube-over l = added ∙ rw (lt-leb (total rowsIn (t .lines) + rowsIn (b .line)) 1024 (omega (arith, h .rows, b .rows)))
+
+      pub cube-within : r ≤ 1024 - s .rows → s .rows ≤ 1024 → result ≡ table.next (withLine t (b .line))
+      cube-within l w = added ∙ rw (le-leb (total rowsIn (t .lines) + rowsIn (b .line)) 1024 (omega (arith, h .rows, b .rows)))

@@ -1,0 +1,166 @@
+-- A table that is accepted is a network by the rules, which every operation on networks takes. Assumes nothing.
+use Prim.Native.Nat.{ℕ, _-_, _*_, _/_, _<_, _≤_}
+use mathlib.Core.Path.{_≡_, refl, ap, _∙_, subst}
+use mathlib.Core.Bool.{true, false, _&&_}
+use mathlib.Core.List.{List, [], _∷_, map, append-nil, List·Memᴰ·not-nil}
+use native.Mathlib.Nat.{mul-le-mul-left}
+use native.Mathlib.Omega.{arith}
+use lib.ListN.{length, getD, replicate, length-append, length-map, length-replicate}
+use Rattle.sets.specs.Lists.{any, total, from}
+use Rattle.sets.specs.Masks.{bit}
+use Rattle.sets.proofs.Lists.{_∈_, total-map, total-times}
+use Rattle.expression.specs.Expression.{literalsOf, ordered, absorbed}
+use Rattle.expression.proofs.Absorbing.{absorbed-length}
+use Rattle.expression.proofs.Sorting.{sort-length}
+use Rattle.network.specs.Net.{Node, Net, nodes, cubeCount, literalCount}
+use Rattle.network.specs.Evaluation.{evaluate}
+use Rattle.network.specs.Meaning.{Through, itself, others}
+use Rattle.network.specs.Held.{numbered, netOf, rules}
+use Rattle.network.specs.Handed.{Holds}
+use Rattle.network.specs.Rules.{Follows}
+use Rattle.network.specs.Answers.{evaluated}
+use Rattle.network.specs.declared.Network.{Network}
+use Rattle.network.specs.declared.Number.the-variants.{Is}
+use Rattle.network.proofs.Evaluating.{evaluate-past}
+use Rattle.network.proofs.Handing.{used-held, holds-net}
+use Rattle.network.proofs.Holding.{rules-iff}
+use Rattle.text.specs.Lines.{CubeLine, covers}
+use Rattle.table.specs.Table.{State, cubesFor, outputFor, tableNet, orZero, accepted, readText}
+use Rattle.table.specs.Answers.{Told}
+use Rattle.table.specs.Meaning.{Complete}
+use Rattle.table.specs.declared.Table.{Table}
+use Rattle.table.proofs.Building.{from-length}
+use Rattle.table.proofs.Marking.{rows-exchange}
+use Rattle.table.proofs.Refusals.{accepted-complete}
+use Rattle.table.proofs.Outputs.{output-reads, output-literals, outputs-are, outputs-ordered, outputs-rows}
+
+-- ---- sums over the outputs
+
+total-le : (f g : ℕ → ℕ) (l : List ℕ) → ((x : ℕ) → f x ≤ g x) → total f l ≤ total g l
+total-le f g [] h = omega arith
+total-le f g (x ∷ l) h = omega (arith, h x, total-le f g l h)
+
+module _ (s : State) (n m : ℕ) (c : Complete s n m) where
+  tall : orZero (s .tall) ≡ m
+  tall = ap orZero (c .tall)
+
+  outputs-list : (tableNet s) .outputs ≡ map (outputFor (s .lines)) (from 0 m)
+  unfolding tableNet
+  outputs-list = ap (λ (k : ℕ). map (outputFor (s .lines)) (from 0 k)) tall
+
+  nodes-list : nodes (tableNet s) ≡ map (outputFor (s .lines)) (from 0 m)
+  unfolding tableNet
+  nodes-list = append-nil ((tableNet s) .outputs) ∙ outputs-list
+
+  outputs-number : length ((tableNet s) .outputs) ≡ m
+  outputs-number = ap length outputs-list ∙ length-map (from 0 m) (outputFor (s .lines)) ∙ from-length 0 m
+
+  rows : total (λ j. length (cubesFor j (s .lines))) (from 0 m) ≤ 1024
+  rows = omega (arith, rows-exchange m (s .lines) (λ l i. c .shaped l i .marks), c .rows)
+
+  -- at most 1,024 cubes
+  pub table-cubes : cubeCount (tableNet s) ≤ 1024
+  table-cubes =
+      omega (
+        arith,
+        ap (total length) nodes-list,
+        total-map length (outputFor (s .lines)) (from 0 m),
+        total-le (λ j. length (outputFor (s .lines) j)) (λ j. length (cubesFor j (s .lines))) (from 0 m) (λ j. omega (arith, sort-length (absorbed (cubesFor j (s .lines))), absorbed-length (cubesFor j (s .lines)))),
+        rows,
+      )
+
+  -- at most 32,768 literals
+  pub table-literals : literalCount (tableNet s) ≤ 32768
+  table-literals =
+      omega (
+        arith,
+        ap (total literalsOf) nodes-list,
+        total-map literalsOf (outputFor (s .lines)) (from 0 m),
+        total-le (λ j. literalsOf (outputFor (s .lines) j)) (λ j. length (cubesFor j (s .lines)) * n) (from 0 m) (λ j. output-literals n (s .lines) j (λ l i. c .shaped l i .places)),
+        total-times (λ j. length (cubesFor j (s .lines))) n (from 0 m),
+        mul-le-mul-left (total (λ j. length (cubesFor j (s .lines))) (from 0 m)) (c .inputs .1),
+        rows,
+      )
+
+  -- ---- the struct that holds it
+
+  module _ (r : Network) (h : Holds r (tableNet s)) where
+    pub table-net : netOf r ≡ tableNet s
+    unfolding tableNet numbered
+    table-net = holds-net r (tableNet s) h refl
+
+    slots : length (r .counts) ≡ 96
+    slots =
+        let k : length (map length (nodes (tableNet s))) ≡ m = length-map (nodes (tableNet s)) length ∙ ap length nodes-list ∙ length-map (from 0 m) (outputFor (s .lines)) ∙ from-length 0 m in
+        let j : length (nodes (tableNet s)) ≡ m = ap length nodes-list ∙ length-map (from 0 m) (outputFor (s .lines)) ∙ from-length 0 m in
+        ap length (h .counts) ∙ length-append (map length (nodes (tableNet s))) (replicate (96 - length (nodes (tableNet s))) 0) ∙ omega (arith, length-replicate {A = ℕ} (96 - length (nodes (tableNet s))) 0, c .outputs)
+
+    inputs-number : r .inputs ≡ n
+    unfolding tableNet
+    inputs-number = h .inputs ∙ ap orZero (c .wide)
+
+    divisors-number : r .divisors ≡ 0
+    unfolding tableNet
+    divisors-number = h .divisors
+
+    in-outputs : (f : List (List ℕ)) → f ∈ nodes (netOf r) → f ∈ (tableNet s) .outputs
+    unfolding tableNet
+    in-outputs f i = subst (λ (l : List (List (List ℕ))). f ∈ l) (ap nodes table-net ∙ append-nil ((tableNet s) .outputs)) i
+
+    no-divisors : (netOf r) .divisors ≡ []
+    unfolding tableNet
+    no-divisors = ap (λ (k : Net). k .divisors) table-net
+
+    through-none : {u v : ℕ} → Through (netOf r) u v → ⊥
+    through-none (itself {e = e} i j d) = List·Memᴰ·not-nil (subst (λ (l : List Node). e ∈ l) no-divisors i)
+    through-none (others {e = e} i j d t) = List·Memᴰ·not-nil (subst (λ (l : List Node). e ∈ l) no-divisors i)
+
+    follows : Follows r
+    follows = record {
+      inputs = (omega (arith, inputs-number, c .inputs), omega (arith, inputs-number, c .inputs));
+      outputs = (omega (arith, h .outputs, outputs-number, c .outputs), omega (arith, h .outputs, outputs-number, c .outputs));
+      variables = omega (arith, inputs-number, divisors-number, c .inputs);
+      cubes = omega (arith, ap (total (λ k. k)) (used-held r (tableNet s) h), total-map (λ k. k) length (nodes (tableNet s)), table-cubes);
+      literals = omega (arith, ap literalCount table-net, table-literals);
+      expressions = λ f i. outputs-ordered s f (in-outputs f i) .0;
+      known = λ f i v d. omega (arith, inputs-number, divisors-number, reads f (in-outputs f i) (d .0) (d .1) (d .2 .0) (d .2 .1), d .2 .2);
+      acyclic = λ v t. through-none t;
+    }
+      where
+        reads : (f : List (List ℕ)) → f ∈ (tableNet s) .outputs → (k : List ℕ) → k ∈ f → (x : ℕ) → x ∈ k → x / 2 < n
+        reads f i k j x d = let o = outputs-are s f i in output-reads n (s .lines) (o .0) (λ l e. c .shaped l e .places) k (subst (λ (g : List (List ℕ)). k ∈ g) (o .1) j) x d
+
+    pub table-rules : rules r ≡ true
+    table-rules = (rules-iff r slots) .1 follows
+
+-- ---- what reading a table hands back
+
+module _ (t : List ℕ) (r : Table) (o : Told (readText t) r) (s : State) (e : readText t ≡ accepted s) where
+  holds : Holds (r .network) (tableNet s)
+  holds = (subst (λ z. Told z r) e o) .1
+
+  -- it keeps the rules
+  pub read-rules : rules (r .network) ≡ true
+  read-rules = let c = accepted-complete t s e in table-rules s (c .0) (c .1) (c .2) (r .network) holds
+
+  -- so that it is evaluated on every setting
+  pub read-evaluated : (x : ℕ) → evaluated (r .network) x ≡ Is (evaluate (tableNet s) x)
+  unfolding evaluated
+  read-evaluated x = let c = accepted-complete t s e in rw read-rules (ap (λ (k : Net). Is (evaluate k x)) (table-net s (c .0) (c .1) (c .2) (r .network) holds))
+
+  -- the answer has output j at bit j: on exactly when some row of output j, as written, covers the setting; other bits are zero
+  pub read-outputs : (x : ℕ) → (y : ℕ) × (evaluated (r .network) x ≡ Is y)
+      × ((j : ℕ) → j < r .network .outputs → bit y j ≡ any (λ (l : CubeLine). getD (l .marks) j false && covers (bit x) 0 (l .places)) (s .lines))
+      × ((j : ℕ) → r .network .outputs ≤ j → bit y j ≡ false)
+  read-outputs x =
+      let c = accepted-complete t s e in
+      let k : r .network .outputs ≡ c .1 = holds .outputs ∙ outputs-number s (c .0) (c .1) (c .2) in (
+        evaluate (tableNet s) x,
+        read-evaluated x,
+        λ j h. outputs-rows s (c .0) (c .1) (c .2) x j (omega arith),
+        λ j h. evaluate-past (tableNet s) x j (omega (arith, holds .outputs)),
+      )
+
+  -- its cubes stand in cube order
+  pub read-ordered : (f : List (List ℕ)) → f ∈ nodes (netOf (r .network)) → ordered f ≡ true
+  read-ordered f i = let c = accepted-complete t s e in outputs-ordered s f (in-outputs s (c .0) (c .1) (c .2) (r .network) holds f i) .1

@@ -1,0 +1,13 @@
+pub mod Placing
+pub mod Picking
+pub mod Building
+pub mod Turns
+pub mod Reasons
+pub mod Refusals
+pub mod Standing
+pub mod Adding
+pub mod Marking
+pub mod Scanning
+pub mod Outputs
+pub mod Keeping
+pub mod Telling

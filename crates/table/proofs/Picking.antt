@@ -1,0 +1,79 @@
+-- The cubes picked by a bit of their masks: one more place, and how many. Assumes nothing.
+use Prim.Native.Nat.{ℕ, zero, suc, _+_, _<_, _≤_}
+use mathlib.Core.Path.{_≡_, refl, ap, sym, _∙_, subst}
+use mathlib.Core.Bool.{Bool, true, false, cond}
+use mathlib.Core.List.{List, [], _∷_, _++_, append-nil}
+use native.Mathlib.Numerals.{add-one}
+use native.Mathlib.Omega.{arith}
+use lib.ListN.{length, getD, take, length-append}
+use Rattle.sets.specs.Masks.{bit}
+use Rattle.expression.specs.Words.{cubesOf, Put}
+use Rattle.table.specs.Parts.{picked, pick, Source, Taken}
+use Rattle.table.proofs.Placing.{placed-none, placed-put}
+
+onto : (b : Bool) (c : List ℕ) (f g : List (List ℕ)) → cond b (c ∷ (f ++ g)) (f ++ g) ≡ cond b (c ∷ f) f ++ g
+onto true c f g = refl
+onto false c f g = refl
+
+module _ (j : ℕ) where
+  next : (f : List (List ℕ)) (ms : List ℕ) (i : ℕ) → i < length f → i < length ms
+      → picked j (take (suc i) f) (take (suc i) ms) ≡ picked j (take i f) (take i ms) ++ cond (bit (getD ms i 0) j) (getD f i [] ∷ []) []
+  unfolding picked
+  next [] ms i h k = absurd (omega arith)
+  next (c ∷ f) [] i h k = absurd (omega arith)
+  next (c ∷ f) (m ∷ ms) zero h k = refl
+  next (c ∷ f) (m ∷ ms) (suc i) h k = rw (next f ms i (omega arith) (omega arith)) (onto (bit m j) c (picked j (take i f) (take i ms)) (cond (bit (getD ms i 0) j) (getD f i [] ∷ []) []))
+
+  -- one more place
+  pub picked-next : (f : List (List ℕ)) (ms : List ℕ) (i : ℕ) → i < length f → i < length ms
+      → picked j (take (i + 1) f) (take (i + 1) ms) ≡ picked j (take i f) (take i ms) ++ cond (bit (getD ms i 0) j) (getD f i [] ∷ []) []
+  picked-next f ms i h k = rw add-one (next f ms i h k)
+
+  -- from fewer places no more are picked
+  pub picked-fewer : (f : List (List ℕ)) (ms : List ℕ) (i k : ℕ) → i ≤ k → length (picked j (take i f) (take i ms)) ≤ length (picked j (take k f) (take k ms))
+  unfolding picked
+  picked-fewer f ms zero k h = omega arith
+  picked-fewer f ms (suc i) zero h = absurd (omega arith)
+  picked-fewer [] ms (suc i) (suc k) h = omega arith
+  picked-fewer (c ∷ f) [] (suc i) (suc k) h = omega arith
+  picked-fewer (c ∷ f) (m ∷ ms) (suc i) (suc k) h = go (bit m j) (picked-fewer f ms i k (omega arith))
+    where
+      go : (b : Bool) → length (picked j (take i f) (take i ms)) ≤ length (picked j (take k f) (take k ms))
+          → length (cond b (c ∷ picked j (take i f) (take i ms)) (picked j (take i f) (take i ms))) ≤ length (cond b (c ∷ picked j (take k f) (take k ms)) (picked j (take k f) (take k ms)))
+      go true e = omega arith
+      go false e = e
+
+-- ---- the cubes picked, put one after the other
+
+module _ (j : ℕ) {words marks : List ℕ} {kept : ℕ} (o : Source words marks kept) where
+  pub taken-none : (ws : List ℕ) (a : ℕ) → Taken (pick j words marks 0) ws ws a 0
+  unfolding picked
+  taken-none ws a = record { number = refl; placed = placed-none ws a }
+
+  module _ (i : ℕ) {old mid : List ℕ} {a n : ℕ} (h : i < kept) (t : Taken (pick j words marks i) old mid a n) where
+    more : {b : Bool} → bit (getD marks i 0) j ≡ b → pick j words marks (i + 1) ≡ pick j words marks i ++ cond b (getD (cubesOf words) i [] ∷ []) []
+    more e = picked-next j (cubesOf words) marks i (omega (arith, o .cubes)) (omega (arith, o .masks)) ∙ ap (λ (b : Bool). pick j words marks i ++ cond b (getD (cubesOf words) i [] ∷ []) []) e
+
+    pub taken-skip : bit (getD marks i 0) j ≡ false → Taken (pick j words marks (i + 1)) old mid a n
+    taken-skip e = subst (λ (f : List (List ℕ)). Taken f old mid a n) (sym (more e ∙ append-nil (pick j words marks i))) t
+
+    pub taken-put : {new : List ℕ} {c : List ℕ} → bit (getD marks i 0) j ≡ true → a + length (pick j words marks kept) ≤ length (cubesOf old) → c ≡ getD (cubesOf words) i []
+        → Put mid new (a + n) c → Taken (pick j words marks (i + 1)) old new a (n + 1)
+    taken-put {new} {c} e l k q =
+        let m : pick j words marks (i + 1) ≡ pick j words marks i ++ (c ∷ []) = more e ∙ ap (λ (z : List ℕ). pick j words marks i ++ (z ∷ [])) (sym k) in
+        let w : length (pick j words marks (i + 1)) ≡ n + 1 = ap length m ∙ length-append (pick j words marks i) (c ∷ []) ∙ ap (_+ 1) (sym (t .number)) in
+        record {
+          number = sym w;
+          placed = placed-put m (ap (a +_) (t .number)) (omega (arith, w, picked-fewer j (cubesOf words) marks (i + 1) kept (omega arith))) (t .placed) q;
+        }
+
+    -- there is room for one more
+    pub taken-room : {z : ℕ} → bit (getD marks i 0) j ≡ true → a + length (pick j words marks kept) ≤ z → a + n < z
+    taken-room e l =
+        omega (
+          arith,
+          t .number,
+          ap length (more e),
+          length-append (pick j words marks i) (getD (cubesOf words) i [] ∷ []),
+          picked-fewer j (cubesOf words) marks (i + 1) kept (omega arith),
+        )

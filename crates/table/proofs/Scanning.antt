@@ -1,0 +1,178 @@
+-- The lines in turn: what was read, and what is left, give the outcome of the whole text. Assumes nothing.
+use Prim.Native.Nat.{ℕ, suc, _+_, _-_, _<_, _≤_}
+use mathlib.Core.Path.{_≡_, refl, sym, ap, ap₂, _∙_, subst}
+use mathlib.Core.Bool.{Bool, cond}
+use mathlib.Core.List.{List, [], _∷_}
+use native.Mathlib.Numerals.{add-one}
+use native.Mathlib.Omega.{arith}
+use lib.ListN.{length, take, drop, length-drop}
+use lib.Seq.{drop-drop, take-length}
+use borrow.Author.Tests.{le-leb, lt-leb}
+use Rattle.sets.proofs.Truth.{Stand, below, equal, beyond, stand}
+use Rattle.expression.proofs.Words.{cubes-length}
+use Rattle.network.specs.Handed.{Blank}
+use Rattle.text.specs.Text.{lineOf, linesOf, content}
+use Rattle.text.specs.Lines.{kindOf}
+use Rattle.text.proofs.Lining.{line-take, line-le, lines-next, lines-last}
+use Rattle.table.specs.Table as table
+use Rattle.table.specs.Table.{start, byKind, readLine, readLines, readText}
+use Rattle.table.specs.Meaning.{Good, Sound}
+use Rattle.table.specs.Parts.{Stands, Stepped, Leaves, Roomy, linesFrom, stoppedAt, Scans}
+use Rattle.table.specs.declared.State.{State}
+use Rattle.table.specs.declared.Step.{Step}
+use Rattle.table.specs.declared.Step.the-variants.{Next, Done, Refused}
+use Rattle.table.specs.declared.Answer.the-variants as answer
+use Rattle.table.specs.declared.Scanned.{Scanned}
+use Rattle.table.specs.declared.Table.{Table}
+use Rattle.table.specs.Answers.{Told}
+use Rattle.table.proofs.Marking.{marked-few}
+use Rattle.table.proofs.Turns.{line-turn}
+use Rattle.table.proofs.Refusals.{lines-on, lines-done, lines-refuse, lines-end, start-good, text-lines}
+
+-- ---- the lines of a text, from a byte on
+
+module _ (text : List ℕ) (at : ℕ) where
+  abbrev rest : List ℕ
+  rest = drop at text
+
+  abbrev stop : ℕ
+  stop = at + length (lineOf rest)
+
+  pub from-over : length text < at → linesFrom text at ≡ []
+  from-over h = rw (lt-leb at (length text) h)
+
+  module _ (h : at ≤ length text) where
+    -- a line ends within the text
+    pub stop-le : stop ≤ length text
+    stop-le = omega (arith, line-le rest, length-drop at text)
+
+    pub line-part : (e : ℕ) → e ≡ stop → take (e - at) rest ≡ lineOf rest
+    line-part e q = let n : e - at ≡ length (lineOf rest) = omega arith in ap (λ (k : ℕ). take k rest) n ∙ sym (line-take rest)
+
+  from-next : (e : ℕ) → e ≡ stop → at ≤ length text → linesFrom text at ≡ lineOf rest ∷ linesFrom text (e + 1)
+  from-next e q h = ap (λ (b : Bool). cond b (linesOf rest) []) (le-leb at (length text) h) ∙ go (stand e (length text))
+    where
+      go : Stand e (length text) → linesOf rest ≡ lineOf rest ∷ linesFrom text (e + 1)
+      go (below l _ _) =
+          let n : at + suc (length (lineOf rest)) ≡ e + 1 = omega arith in
+          lines-next rest (omega (arith, length-drop at text))
+          ∙ ap (λ (z : List (List ℕ)). lineOf rest ∷ z)
+          (ap linesOf (drop-drop (suc (length (lineOf rest))) at text ∙ ap (λ (k : ℕ). drop k text) n)
+          ∙ sym (ap (λ (b : Bool). cond b (linesOf (drop (e + 1) text)) []) (le-leb (e + 1) (length text) (omega arith))))
+      go (equal l _ _) =
+          let n : length (lineOf rest) ≡ length rest = omega (arith, length-drop at text) in
+          let w : lineOf rest ≡ rest = line-take rest ∙ ap (λ (k : ℕ). take k rest) n ∙ take-length rest in
+          lines-last rest n ∙ ap₂ (λ (x : List ℕ) (z : List (List ℕ)). x ∷ z) (sym w) (sym (ap (λ (b : Bool). cond b (linesOf (drop (e + 1) text)) []) (lt-leb (e + 1) (length text) (omega arith))))
+      go (beyond l _ _) = absurd (omega (arith, stop-le h))
+
+from-first : (text : List ℕ) → linesFrom text 0 ≡ linesOf text
+from-first text = ap (λ (b : Bool). cond b (linesOf text) []) (le-leb 0 (length text) (omega arith))
+
+-- ---- what was read up to a byte, and what is left
+
+pub record Reading (text words marks : List ℕ) (s : State) (line at : ℕ) : Type 0 where
+  pub now : table.State
+  pub good : Good now
+  pub stands : Stands now s words marks
+  pub few : length (now .lines) ≤ at
+  pub left : readLines line (linesFrom text at) now ≡ readLines 1 (linesOf text) start
+
+pub reading-first : (text words marks : List ℕ) → Reading text words marks (record { inputs = 0; outputs = 0; stated = 0; lines = 0; rows = 0; kept = 0 }) 1 0
+reading-first text words marks = record {
+  now = start;
+  good = start-good;
+  stands = record { wide = refl; tall = refl; stated = refl; lines = refl; rows = refl; kept = refl; cubes = refl; masks = refl };
+  few = omega arith;
+  left = ap (λ (l : List (List ℕ)). readLines 1 l start) (from-first text);
+}
+
+module _ {text words marks : List ℕ} {s : State} {line at : ℕ} (r : Reading text words marks s line at) where
+  pub reading-roomy : at ≤ 65536 → length words ≡ 2048 → length marks ≡ 1024 → Roomy s words marks
+  reading-roomy h p q = record {
+    kept = omega (arith, r .stands .kept, r .stands .rows, marked-few (r .now .lines));
+    rows = omega (arith, r .stands .rows, r .good .rows);
+    lines = omega (arith, r .stands .lines, r .few);
+    places = omega (arith, cubes-length words);
+    masks = q;
+  }
+
+  -- no line is left
+  pub reading-over : length text < at → Scans (readLines 1 (linesOf text) start) (record { answer = answer.Refused 5 0; state = s }) words marks
+  reading-over h =
+      let e : readLines 1 (linesOf text) start ≡ table.refused 5 0 = sym (r .left) ∙ ap (λ (l : List (List ℕ)). readLines line l (r .now)) (from-over text at h) ∙ lines-end line (r .now) in
+      subst (λ (o : table.Outcome). Scans o (record { answer = answer.Refused 5 0; state = s }) words marks) (sym e) refl
+
+  abbrev here : List ℕ
+  here = lineOf (drop at text)
+
+  -- the next line
+  module _ {c : List ℕ} (words' marks' : List ℕ) {e : ℕ} (p : Step) (h : at ≤ length text) (q : e ≡ at + length (lineOf (drop at text))) (k : c ≡ content (take (e - at) (drop at text)))
+      (f : Leaves (byKind (kindOf c) c) s p words marks words' marks') where
+    turn : Stepped (readLine here (r .now)) p words' marks'
+    unfolding readLine
+    turn = subst (λ (l : List ℕ). Stepped (byKind (kindOf l) l (r .now)) p words' marks') (k ∙ ap content (line-part text at h e q)) (f (r .now) (r .good) (r .stands))
+
+    whole : readLines line (here ∷ linesFrom text (e + 1)) (r .now) ≡ readLines 1 (linesOf text) start
+    whole = ap (λ (l : List (List ℕ)). readLines line l (r .now)) (sym (from-next text at e q h)) ∙ r .left
+
+    pub reading-next : (s' : State) → p ≡ Next s' → Reading text words' marks' s' (line + 1) (e + 1)
+    reading-next s' i = go (readLine here (r .now)) refl (subst (λ (z : Step). Stepped (readLine here (r .now)) z words' marks') i turn) (line-turn (r .now) (r .good) here)
+      where
+        go : (x : table.Step) → readLine here (r .now) ≡ x → Stepped x (Next s') words' marks' → Sound (r .now) x → Reading text words' marks' s' (line + 1) (e + 1)
+        go (table.next t) y z w = record {
+          now = t;
+          good = w .0;
+          stands = z;
+          few = omega (arith, r .few, w .1);
+          left = ap (λ (n : ℕ). readLines n (linesFrom text (e + 1)) t) (add-one line) ∙ sym (lines-on line here (linesFrom text (e + 1)) (r .now) y) ∙ whole;
+        }
+        go (table.done t) y z w = absurd z
+        go (table.refuse n) y z w = absurd z
+
+    reading-done : (s' : State) → p ≡ Done s' → Scans (readLines 1 (linesOf text) start) (record { answer = answer.Read; state = s' }) words' marks'
+    reading-done s' i = go (readLine here (r .now)) refl (subst (λ (z : Step). Stepped (readLine here (r .now)) z words' marks') i turn)
+      where
+        go : (x : table.Step) → readLine here (r .now) ≡ x → Stepped x (Done s') words' marks' → Scans (readLines 1 (linesOf text) start) (record { answer = answer.Read; state = s' }) words' marks'
+        go (table.next t) y z = absurd z
+        go (table.done t) y z =
+            subst (λ (o : table.Outcome). Scans o (record { answer = answer.Read; state = s' }) words' marks') (sym (lines-done line here (linesFrom text (e + 1)) (r .now) y) ∙ whole) (refl, z)
+        go (table.refuse n) y z = absurd z
+
+    reading-refuse : (n : ℕ) → p ≡ Refused n → Scans (readLines 1 (linesOf text) start) (record { answer = answer.Refused n line; state = s }) words' marks'
+    reading-refuse n i = go (readLine here (r .now)) refl (subst (λ (z : Step). Stepped (readLine here (r .now)) z words' marks') i turn)
+      where
+        go : (x : table.Step) → readLine here (r .now) ≡ x → Stepped x (Refused n) words' marks' → Scans (readLines 1 (linesOf text) start) (record { answer = answer.Refused n line; state = s }) words' marks'
+        go (table.next t) y z = absurd z
+        go (table.done t) y z = absurd z
+        go (table.refuse m) y z =
+            subst (λ (o : table.Outcome). Scans o (record { answer = answer.Refused n line; state = s }) words' marks') (sym (lines-refuse line here (linesFrom text (e + 1)) (r .now) y) ∙ whole) (ap (λ (v : ℕ). answer.Refused v line) z)
+
+    -- a line that does not go on gives the outcome
+    pub reading-stop : ((s' : State) → p ≡ Next s' → ⊥) → Scans (readLines 1 (linesOf text) start) (stoppedAt p line s) words' marks'
+    reading-stop f = go p refl
+      where
+        go : (z : Step) → p ≡ z → Scans (readLines 1 (linesOf text) start) (stoppedAt z line s) words' marks'
+        go (Next s') i = absurd (f s' i)
+        go (Done s') i = reading-done s' i
+        go (Refused n) i = reading-refuse n i
+
+-- ---- the answer to a whole text
+
+module _ (words marks : List ℕ) where
+  -- what was read, where nothing is refused
+  scans-read : (o : table.Outcome) (x : Scanned) → Scans o x words marks → x .answer ≡ answer.Read → (t : table.State) × (o ≡ table.accepted t) × Stands t (x .state) words marks
+  scans-read (table.accepted t) x h e = (t, refl, h .1)
+  scans-read (table.refused k l) x h e = let z : _≡_ {A = ℕ} 0 1 = cc in absurd (omega arith)
+
+  -- a refusal is handed on
+  scans-refused : (o : table.Outcome) (x : Scanned) (r : Table) → Scans o x words marks → (k l : ℕ) → x .answer ≡ answer.Refused k l → (r .answer ≡ x .answer) × Blank (r .network) → Told o r
+  scans-refused (table.accepted t) x r h k l e b = let q = h .0 in let z : _≡_ {A = ℕ} 0 1 = cc in absurd (omega arith)
+  scans-refused (table.refused n m) x r h k l e b = (b .0 ∙ h, b .1)
+
+  -- a text that is not too long
+  module _ (text : List ℕ) (short : length text ≤ 65536) (x : Scanned) (h : Scans (readLines 1 (linesOf text) start) x words marks) where
+    pub text-read : x .answer ≡ answer.Read → (t : table.State) × (readText text ≡ table.accepted t) × Stands t (x .state) words marks
+    text-read e = let r = scans-read (readLines 1 (linesOf text) start) x h e in (r .0, text-lines text short ∙ r .1, r .2)
+
+    pub text-refused : (r : Table) (k l : ℕ) → x .answer ≡ answer.Refused k l → (r .answer ≡ x .answer) × Blank (r .network) → Told (readText text) r
+    text-refused r k l e b = subst (λ (o : table.Outcome). Told o r) (sym (text-lines text short)) (scans-refused (readLines 1 (linesOf text) start) x r h k l e b)

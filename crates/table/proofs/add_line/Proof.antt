@@ -1,0 +1,72 @@
+-- `table::add_line` meets its contract: what the reading of a cube line says is what the table does with it. Assumes nothing.
+use Rattle.table.proofs.Adding.{cube-early, cube-early-too, cube-other, cube-behind, cube-over, cube-within}
+use borrow.Author.Needs.{needs}
+use Rattle.table.proofs.add_line.Statement.{statement}
+use Rattle.table.proofs.add_line.Tie as tie
+
+returns : tie.Need-returns
+returns c = λ t g h. rw (cube-early g h _ (c .if1 .taken))
+
+returns-2 : tie.Need-returns-2
+returns-2 c = λ t g h. rw (cube-early-too g h _ (c .if2 .taken))
+
+cube-line-requires : tie.Need-cube-line-requires
+cube-line-requires c κs = search needs
+
+enum-known-cube : tie.Need-enum-known-cube
+enum-known-cube c = search needs
+
+enum-told : tie.Need-enum-told
+enum-told c = search needs
+
+returns-3 : tie.Need-returns-3
+returns-3 c =
+    let l = c .before .before in
+    λ t g h. rw (cube-other g h _ (l .before .before .before .if1 .left) (l .before .if2 .left) (l .cube-line .ensures) (c .enum-told .given .1))
+
+sub-if3 : tie.Need-sub-if3
+sub-if3 c = search needs
+
+returns-4 : tie.Need-returns-4
+returns-4 c =
+    let k = c .before .before .before in
+    let l = k .before .before in
+    let i = l .before .before .before .if1 .left in
+    let o = l .before .if2 .left in
+    λ t g h. let b = cube-behind g h _ i o (l .cube-line .ensures) _ _ _ (k .cube .given .1) in
+    rw (cube-over g h _ i o b (c .if3 .taken))
+
+keep-line-requires : tie.Need-keep-line-requires
+keep-line-requires c κs = search needs
+
+same-length : tie.Need-same-length
+same-length c = search needs
+
+same-length-2 : tie.Need-same-length-2
+same-length-2 c = search needs
+
+returns-5 : tie.Need-returns-5
+returns-5 c =
+    let k = c .before .before .before .before .before .before .before .before .before .before in
+    let l = k .before .before in
+    let i = l .before .before .before .if1 .left in
+    let o = l .before .if2 .left in
+    λ t g h. let b = cube-behind g h _ i o (l .cube-line .ensures) _ _ _ (k .cube .given .1) in
+    rw (cube-within g h _ i o b (c .before .before .before .before .before .before .before .if3 .left) (c .before .before .before .before .before .before .before .before .before .before .before .before .before .before .before .before .before .before .before .before .pre .rows)) (c .before .before .before .before .keep-line .ensures t (b .line) h (b .cube) (b .mask) (b .rows))
+
+pub add-line-spec : {M : Type 1} → statement M
+add-line-spec =
+    tie.close
+    (tie.spec
+    returns
+    returns-2
+    cube-line-requires
+    enum-known-cube
+    enum-told
+    returns-3
+    sub-if3
+    returns-4
+    keep-line-requires
+    same-length
+    same-length-2
+    returns-5)

@@ -1,0 +1,106 @@
+-- `table::collect` meets its contract. The loop's invariant: the cubes picked from the places passed stand from place `at` on. Assumes nothing.
+use mathlib.Core.Path.{_≡_, refl, sym, _∙_, subst}
+use mathlib.Core.Logic.{inl, inr}
+use Prim.Native.Nat.{ℕ, _-_, _≤_}
+use native.Mathlib.Omega.{arith}
+use lib.ListN.{length}
+use Rattle.table.specs.Parts.{pick, Taken}
+use Rattle.expression.proofs.Words.{cubes-length}
+use Rattle.table.proofs.Picking.{taken-none, taken-skip, taken-put, taken-room}
+use borrow.Author.Needs.{needs}
+use Rattle.table.proofs.collect.Statement.{statement}
+use Rattle.table.proofs.collect.Tie as tie
+
+abbrev Inv-loop : tie.InvT-loop
+Inv-loop words marks kept j out₀ at n₀ i₀ out n i = (i ≤ kept) × Taken (pick j words marks i) out₀ out at n × (length out ≡ length out₀)
+
+abbrev μ-loop : tie.MeasureT-loop
+μ-loop words marks kept j out₀ at n₀ i₀ out n i = kept - i
+
+loop-holds : tie.Need-loop-holds Inv-loop μ-loop
+loop-holds c = (omega arith, taken-none _ (c .before .before .before .pre .source) _ _, refl)
+
+mul-is-marked : tie.Need-mul-is-marked Inv-loop μ-loop
+mul-is-marked c = search needs
+
+shared-slice-read-is-marked : tie.Need-shared-slice-read-is-marked Inv-loop μ-loop
+shared-slice-read-is-marked c = search needs
+
+is-marked-requires : tie.Need-is-marked-requires Inv-loop μ-loop
+is-marked-requires c κs = search needs
+
+add-put-cube : tie.Need-add-put-cube Inv-loop μ-loop
+add-put-cube c =
+    let m = c .before .before in
+    let h = m .before .before .before in
+    let s = h .before .before .before .before in
+    let r = taken-room _ (s .pre .source) (h .loop .i) (omega arith) (h .loop .inv .1) (sym (m .is-marked .ensures) ∙ c .before .if1 .taken) (s .pre .fits) in
+    record { fits = omega (arith, cubes-length (s .args .out .now)) }
+
+cube-at-requires : tie.Need-cube-at-requires Inv-loop μ-loop
+cube-at-requires c κs = search needs
+
+put-cube-requires : tie.Need-put-cube-requires Inv-loop μ-loop
+put-cube-requires c κs = search needs
+
+add-n : tie.Need-add-n Inv-loop μ-loop
+add-n c =
+    let m = c .before .before .before .before .before .before in
+    let h = m .before .before .before in
+    let s = h .before .before .before .before in
+    let r = taken-room _ (s .pre .source) (h .loop .i) (omega arith) (h .loop .inv .1) (sym (m .is-marked .ensures) ∙ c .before .before .before .before .before .if1 .taken) (s .pre .fits) in
+    record { fits = omega (arith, cubes-length (s .args .out .now)) }
+
+add-i : tie.Need-add-i Inv-loop μ-loop
+add-i c = search needs
+
+loop-less : tie.Need-loop-less Inv-loop μ-loop
+loop-less c = search needs
+
+loop-again : tie.Need-loop-again Inv-loop μ-loop
+loop-again c =
+    let m = c .before in
+    let h = m .before .before .before in
+    let s = h .before .before .before .before in
+    elim (c .if1 .came) [
+      | inl (w, p, q, r, o, k, e, n) ↦ rw (e, n) (
+        omega arith,
+        taken-put _ (s .pre .source) (h .loop .i) (omega arith) (h .loop .inv .1) (sym (m .is-marked .ensures) ∙ w .taken) (s .pre .fits) (q .ensures) (r .ensures),
+        search needs,
+      )
+      | inr (w, e, n) ↦ rw (e, n) (
+        omega arith,
+        taken-skip _ (s .pre .source) (h .loop .i) (omega arith) (h .loop .inv .1) (sym (m .is-marked .ensures) ∙ w .left),
+        h .loop .inv .2,
+      )
+    ]
+
+same-length : tie.Need-same-length Inv-loop μ-loop
+same-length c = search needs
+
+returns : tie.Need-returns Inv-loop μ-loop
+returns c =
+    let h = c .before in
+    let s = h .before .before .before .before in
+    let e : h .loop .i ≡ s .args .kept = omega arith in
+    subst (λ (k : ℕ). Taken (pick (s .args .j) (s .args .words .now) (s .args .marks .now) k) (s .args .out .now) (h .loop .out) (s .args .at) (h .loop .n)) e (h .loop .inv .1)
+
+pub collect-spec : {M : Type 1} → statement M
+collect-spec =
+    tie.close
+    (tie.spec
+    Inv-loop
+    μ-loop
+    loop-holds
+    mul-is-marked
+    shared-slice-read-is-marked
+    is-marked-requires
+    add-put-cube
+    cube-at-requires
+    put-cube-requires
+    add-n
+    add-i
+    loop-less
+    loop-again
+    same-length
+    returns)

@@ -1,0 +1,87 @@
+-- `table::read` meets its contract: the lines scanned, and the network built of what they hold. Assumes nothing.
+use mathlib.Core.Path.{_≡_, sym, subst}
+use native.Mathlib.Omega.{arith}
+use lib.ListN.{length}
+use Rattle.expression.proofs.Words.{cubes-length}
+use Rattle.network.specs.Handed.{Holds}
+use Rattle.table.specs.Table.{Outcome}
+use Rattle.table.specs.Answers.{Told}
+use Rattle.table.proofs.Refusals.{text-long, accepted-complete}
+use Rattle.table.proofs.Marking.{buildable, net-same}
+use Rattle.table.proofs.Scanning.{text-read, text-refused}
+use borrow.Author.Needs.{needs}
+use Rattle.table.proofs.read.Statement.{statement}
+use Rattle.table.proofs.read.Tie as tie
+
+refused-requires : tie.Need-refused-requires
+refused-requires c κs = search needs
+
+returns : tie.Need-returns
+returns c = subst (λ (o : Outcome). Told o (c .refused .result)) (sym (text-long _ (c .before .if1 .taken))) (c .refused .ensures)
+
+slice-aggregate-scan : tie.Need-slice-aggregate-scan
+slice-aggregate-scan c = search needs
+
+slice-aggregate-scan-2 : tie.Need-slice-aggregate-scan-2
+slice-aggregate-scan-2 c = search needs
+
+scan-requires : tie.Need-scan-requires
+scan-requires c κs = search needs
+
+enum-told : tie.Need-enum-told
+enum-told c = search needs
+
+enum-told-2 : tie.Need-enum-told-2
+enum-told-2 c = search needs
+
+refused-requires-2 : tie.Need-refused-requires-2
+refused-requires-2 c κs = search needs
+
+returns-2 : tie.Need-returns-2
+returns-2 c =
+    let n = c .before .before .before .before .before in
+    let t = n .before .before .before .before .before .args .text .now in
+    let q = c .before .enum-told2 .given in
+    text-refused _ _ t (n .before .before .before .if1 .left) (n .scan .result) (n .scan .ensures) (c .refused2 .result) _ _ (q .1) (c .refused2 .ensures)
+
+slice-aggregate-build : tie.Need-slice-aggregate-build
+slice-aggregate-build c = search needs
+
+slice-aggregate-build-2 : tie.Need-slice-aggregate-build-2
+slice-aggregate-build-2 c = search needs
+
+build-requires : tie.Need-build-requires
+build-requires c κs =
+    let n = c .before .before .before .before .before .before .before in
+    let t = n .before .before .before .before .before .args .text .now in
+    let q = c .before .before .before .enum-told .given in
+    let r = text-read _ _ t (n .before .before .before .if1 .left) (n .scan .result) (n .scan .ensures) (q .1) in
+    let w : length (n .scan .last .1 .0) ≡ 2048 = search needs in
+    let m : length (n .scan .last .1 .1 .0) ≡ 1024 = search needs in
+    buildable (accepted-complete t (r .0) (r .1) .2) (r .2) (omega (arith, cubes-length (n .scan .last .1 .0))) m
+
+returns-3 : tie.Need-returns-3
+returns-3 c =
+    let n = c .before .before .before .before .before .before .before .before in
+    let t = n .before .before .before .before .before .args .text .now in
+    let q = c .before .before .before .before .enum-told .given in
+    let r = text-read _ _ t (n .before .before .before .if1 .left) (n .scan .result) (n .scan .ensures) (q .1) in
+    subst (λ (o : Outcome). Told o (record { answer = n .scan .result .answer; network = c .build .result })) (sym (r .1)) (q .1, subst (Holds (c .build .result)) (net-same (r .2)) (c .build .ensures))
+
+pub read-spec : {M : Type 1} → statement M
+read-spec =
+    tie.close
+    (tie.spec
+    refused-requires
+    returns
+    slice-aggregate-scan
+    slice-aggregate-scan-2
+    scan-requires
+    enum-told
+    enum-told-2
+    refused-requires-2
+    returns-2
+    slice-aggregate-build
+    slice-aggregate-build-2
+    build-requires
+    returns-3)

@@ -1,0 +1,106 @@
+-- What holds of a table as its lines are read, and of one that is accepted.
+use Prim.Native.Nat.{ℕ, _+_, _<_, _≤_}
+use mathlib.Core.Path.{_≡_}
+use mathlib.Core.Logic.{_⊎_}
+use mathlib.Core.Bool.{Bool, true, false}
+use mathlib.Core.List.{List, [], _∷_, _++_, List·Memᴰ}
+use mathlib.Core.Option.{Option, none, some}
+use lib.ListN.{length}
+use Rattle.sets.specs.Lists.{all, total, isNil}
+use Rattle.sets.specs.Sets.{mem}
+use Rattle.network.specs.Held.{mostInputs, mostOutputs, upTo}
+use Rattle.text.specs.Text.{content}
+use Rattle.text.specs.Lines.{kindOf, CubeLine, isPlace, cubeLineOf, rowsIn}
+use Rattle.text.specs.declared.Kind.the-variants.{Inputs, Outputs, Products, End, Other}
+use Rattle.table.specs.Table.{State, Step, next, done, refuse, readLine, missing, agrees, Outcome, accepted, refused, orZero, mostProducts, mostRows}
+
+-- n places, each one of `0 1 -`, and m marks
+pub record Shaped (n m : ℕ) (l : CubeLine) : Type 0 where
+  pub places : length (l .places) ≡ n
+  pub bytes : all isPlace (l .places) ≡ true
+  pub marks : length (l .marks) ≡ m
+
+-- from 1 to the most, where it is there
+abbrev pub within : ℕ → Option ℕ → Bool
+within most none = true
+within most (some n) = upTo most n
+
+-- what holds after each line
+pub record Good (s : State) : Type 0 where
+  pub wide : within mostInputs (s .wide) ≡ true
+  pub tall : within mostOutputs (s .tall) ≡ true
+  pub rows : total rowsIn (s .lines) ≤ mostRows
+  pub shaped : (l : CubeLine) → List·Memᴰ l (s .lines) → Shaped (orZero (s .wide)) (orZero (s .tall)) l
+
+-- the numbers of refusals that a line can have
+abbrev pub isLine : ℕ → Bool
+isLine k = mem k (2 ∷ 3 ∷ 4 ∷ 6 ∷ [])
+
+-- a line adds one cube line at most; the last leaves what was read, in which nothing is missing; or it has the number of a refusal
+abbrev pub Sound : State → Step → Type 0
+Sound s (next t) = Good t × (length (t .lines) ≤ length (s .lines) + 1)
+Sound s (done t) = (t ≡ s) × (missing (s .wide) ≡ false) × (missing (s .tall) ≡ false) × (agrees (s .stated) (s .lines) ≡ true)
+Sound s (refuse k) = isLine k ≡ true
+
+-- a table that is accepted: n inputs, m outputs, at most 1,024 rows, every cube line of n places and m marks, and `.p`, if it is there, says how many
+pub record Complete (s : State) (n m : ℕ) : Type 0 where
+  pub wide : s .wide ≡ some n
+  pub inputs : (1 ≤ n) × (n ≤ mostInputs)
+  pub tall : s .tall ≡ some m
+  pub outputs : (1 ≤ m) × (m ≤ mostOutputs)
+  pub stated : agrees (s .stated) (s .lines) ≡ true
+  pub rows : total rowsIn (s .lines) ≤ mostRows
+  pub shaped : (l : CubeLine) → List·Memᴰ l (s .lines) → Shaped n m l
+
+-- lines read in turn from s to t, none of which is the last or refused
+pub data Read : State → List (List ℕ) → State → Type 0 where
+  nothing : {s : State} → Read s [] s
+  line : {s t u : State} {l : List ℕ} {ls : List (List ℕ)} → readLine l s ≡ next t → Read t ls u → Read s (l ∷ ls) u
+
+-- ---- when a line ends the table or is refused
+
+-- repeated, or after a cube line
+abbrev pub Late : Option ℕ → List CubeLine → Type 0
+Late o l = (missing o ≡ false) ⊎ (isNil l ≡ false)
+
+-- while `.i` or `.o` is missing
+abbrev pub Early : State → Type 0
+Early s = (missing (s .wide) ≡ true) ⊎ (missing (s .tall) ≡ true)
+
+-- in time, but not from 1 to the most
+pub record Outside (o : Option ℕ) (l : List CubeLine) (most n : ℕ) : Type 0 where
+  pub new : missing o ≡ true
+  pub first : isNil l ≡ true
+  pub range : (n ≡ 0) ⊎ (most < n)
+
+-- c is `.e`, nothing is missing, and `.p` says how many cube lines were read, if it is there
+pub record Closes (s : State) (c : List ℕ) : Type 0 where
+  pub kind : kindOf c ≡ End
+  pub wide : missing (s .wide) ≡ false
+  pub tall : missing (s .tall) ≡ false
+  pub stated : agrees (s .stated) (s .lines) ≡ true
+
+-- the numbers of the refusals of what is left of a line
+pub data Refuses (s : State) (c : List ℕ) : ℕ → Type 0 where
+  -- 2: of no kind, repeated, too early or too late; `.e` while `.i` or `.o` is missing
+  lateInputs : (n : ℕ) → kindOf c ≡ Inputs n → Late (s .wide) (s .lines) → Refuses s c 2
+  lateOutputs : (n : ℕ) → kindOf c ≡ Outputs n → Late (s .tall) (s .lines) → Refuses s c 2
+  lateProducts : (n : ℕ) → kindOf c ≡ Products n → Late (s .stated) (s .lines) → Refuses s c 2
+  earlyEnd : kindOf c ≡ End → Early s → Refuses s c 2
+  earlyCube : kindOf c ≡ Other → Early s → Refuses s c 2
+  noKind : (n m : ℕ) → kindOf c ≡ Other → s .wide ≡ some n → s .tall ≡ some m → cubeLineOf n m c ≡ none → Refuses s c 2
+  -- 3: the number of `.i` or `.o` not 1 to 32, or of `.p` over 32,768
+  outInputs : (n : ℕ) → kindOf c ≡ Inputs n → Outside (s .wide) (s .lines) mostInputs n → Refuses s c 3
+  outOutputs : (n : ℕ) → kindOf c ≡ Outputs n → Outside (s .tall) (s .lines) mostOutputs n → Refuses s c 3
+  outProducts : (n : ℕ) → kindOf c ≡ Products n → missing (s .stated) ≡ true → isNil (s .lines) ≡ true → mostProducts < n → Refuses s c 3
+  -- 4: `.p` differs from the cube lines read
+  differs : (p : ℕ) → kindOf c ≡ End → missing (s .wide) ≡ false → missing (s .tall) ≡ false → s .stated ≡ some p → (p ≡ length (s .lines) → ⊥) → Refuses s c 4
+  -- 6: rows pass 1,024, before any is dropped
+  over : (n m : ℕ) (l : CubeLine) → kindOf c ≡ Other → s .wide ≡ some n → s .tall ≡ some m → cubeLineOf n m c ≡ some l → mostRows < total rowsIn (s .lines) + rowsIn l → Refuses s c 6
+
+-- ---- the outcome of lines from number k on: accepted at the line that ends the table, refused at a line, or by 5 where none is left
+
+pub data Ended (k : ℕ) (s : State) : List (List ℕ) → Outcome → Type 0 where
+  whole : (ls : List (List ℕ)) (l : List ℕ) (rest : List (List ℕ)) {t : State} → Read s ls t → Closes t (content l) → Ended k s (ls ++ (l ∷ rest)) (accepted t)
+  stopped : (ls : List (List ℕ)) (l : List ℕ) (rest : List (List ℕ)) {t : State} {r : ℕ} → Read s ls t → Refuses t (content l) r → Ended k s (ls ++ (l ∷ rest)) (refused r (k + length ls))
+  short : (ls : List (List ℕ)) {t : State} → Read s ls t → Ended k s ls (refused 5 0)

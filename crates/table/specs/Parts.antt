@@ -1,0 +1,153 @@
+-- What the private parts of reading and building hold and leave.
+use Prim.Native.Nat.{ℕ, _+_, _-_, _<_, _≤_}
+use mathlib.Core.Option.{Option, none, some}
+use lib.Dec.{leb, ltb}
+use mathlib.Core.Path.{_≡_}
+use mathlib.Core.Bool.{cond}
+use mathlib.Core.List.{List, [], _∷_, _++_, map}
+use lib.ListN.{length, take, drop, replicate}
+use Rattle.sets.specs.Lists.{keep, total, from}
+use Rattle.sets.specs.Masks.{bit, packed}
+use Rattle.expression.specs.Words.{cubesOf, Placed}
+use Rattle.expression.specs.Expression.{sort, absorbed}
+use Rattle.network.specs.Net.{Net}
+use Rattle.text.specs.Text.{linesOf}
+use Rattle.text.specs.Lines.{CubeLine, rowsIn, cubeOf}
+use Rattle.table.specs.Table as table
+use Rattle.table.specs.Meaning.{Good}
+use Rattle.table.specs.declared.Answer.the-variants as Answer
+use Rattle.table.specs.declared.Scanned.{Scanned}
+use Rattle.table.specs.declared.State.{State}
+use Rattle.table.specs.declared.Step.{Step}
+use Rattle.table.specs.declared.Step.the-variants.{Next, Done, Refused}
+
+-- ---- reading
+
+-- one more than the number of `.p`; 0 while it is missing
+abbrev pub oneMore : Option ℕ → ℕ
+oneMore none = 0
+oneMore (some n) = n + 1
+
+-- the cube lines that make a row
+abbrev pub marked : List CubeLine → List CubeLine
+marked l = keep (λ (c : CubeLine). ltb 0 (rowsIn c)) l
+
+-- what has been read, as numbers, and the cubes and masks of the lines that make a row
+pub record Stands (t : table.State) (s : State) (words marks : List ℕ) : Type 0 where
+  pub wide : s .inputs ≡ table.orZero (t .wide)
+  pub tall : s .outputs ≡ table.orZero (t .tall)
+  pub stated : s .stated ≡ oneMore (t .stated)
+  pub lines : s .lines ≡ length (t .lines)
+  pub rows : s .rows ≡ total rowsIn (t .lines)
+  pub kept : s .kept ≡ length (marked (t .lines))
+  pub cubes : take (s .kept) (cubesOf words) ≡ map cubeOf (marked (t .lines))
+  pub masks : take (s .kept) marks ≡ map (λ (c : CubeLine). packed (c .marks)) (marked (t .lines))
+
+-- a line goes on, ends the table or is refused
+abbrev pub Stepped : table.Step → Step → List ℕ → List ℕ → Type 0
+Stepped (table.next t) (Next s) words marks = Stands t s words marks
+Stepped (table.next t) (Done s) words marks = ⊥
+Stepped (table.next t) (Refused k) words marks = ⊥
+Stepped (table.done t) (Next s) words marks = ⊥
+Stepped (table.done t) (Done s) words marks = Stands t s words marks
+Stepped (table.done t) (Refused k) words marks = ⊥
+Stepped (table.refuse r) (Next s) words marks = ⊥
+Stepped (table.refuse r) (Done s) words marks = ⊥
+Stepped (table.refuse r) (Refused k) words marks = k ≡ r
+
+-- of whatever was read and now stands so, the answer is what the line does to it, and the words and marks stay
+abbrev pub Answers : (table.State → table.Step) → State → Step → Type 0
+Answers f s r = (t : table.State) (words marks : List ℕ) → Good t → Stands t s words marks → Stepped (f t) r words marks
+
+-- there are 1,024 places for cubes and for masks, and the numbers leave room in them
+pub record Roomy (s : State) (words marks : List ℕ) : Type 0 where
+  pub kept : s .kept ≤ s .rows
+  pub rows : s .rows ≤ 1024
+  pub lines : s .lines ≤ 65536
+  pub places : length (cubesOf words) ≡ 1024
+  pub masks : length marks ≡ 1024
+
+-- the same where the words and marks may have changed
+abbrev pub Leaves : (table.State → table.Step) → State → Step → List ℕ → List ℕ → List ℕ → List ℕ → Type 0
+Leaves f s r words marks words' marks' = (t : table.State) → Good t → Stands t s words marks → Stepped (f t) r words' marks'
+
+-- one more cube line
+abbrev pub withLine : table.State → CubeLine → table.State
+withLine t l = record { wide = t .wide; tall = t .tall; stated = t .stated; lines = t .lines ++ (l ∷ []) }
+
+-- of a cube line with this cube, mask and number of rows the answer stands for one more
+abbrev pub Keeps : State → List ℕ → ℕ → ℕ → State → List ℕ → List ℕ → List ℕ → List ℕ → Type 0
+Keeps s cube mask rows r words marks words' marks' =
+    (t : table.State) (l : CubeLine) → Stands t s words marks → cube ≡ cubeOf l → mask ≡ packed (l .marks) → rows ≡ rowsIn l → Stands (withLine t l) r words' marks'
+
+-- the lines from a byte on; none past the end
+abbrev pub linesFrom : List ℕ → ℕ → List (List ℕ)
+linesFrom text at = cond (leb at (length text)) (linesOf (drop at text)) []
+
+-- a text that is not too long, and places for its cubes and masks
+pub record Ready (text words marks : List ℕ) : Type 0 where
+  pub short : length text ≤ 65536
+  pub places : length words ≡ 2048
+  pub masks : length marks ≡ 1024
+
+-- the answer to a line that is the last to be read: what was read, or the number and the line
+abbrev pub stoppedAt : Step → ℕ → State → Scanned
+stoppedAt (Next t) line s = record { answer = Answer.Read; state = t }
+stoppedAt (Done t) line s = record { answer = Answer.Read; state = t }
+stoppedAt (Refused k) line s = record { answer = Answer.Refused k line; state = s }
+
+-- the outcome of the lines: what was read, or the number and the line
+abbrev pub Scans : table.Outcome → Scanned → List ℕ → List ℕ → Type 0
+Scans (table.accepted t) r words marks = (r .answer ≡ Answer.Read) × Stands t (r .state) words marks
+Scans (table.refused k l) r words marks = r .answer ≡ Answer.Refused k l
+
+-- ---- building
+
+-- the cubes whose mask has bit j
+unfoldable pub picked : ℕ → List (List ℕ) → List ℕ → List (List ℕ)
+picked j [] ms = []
+picked j (c ∷ f) [] = []
+picked j (c ∷ f) (m ∷ ms) = cond (bit m j) (c ∷ picked j f ms) (picked j f ms)
+
+-- the first so many cubes and masks, of which those of output j
+abbrev pub pick : ℕ → List ℕ → List ℕ → ℕ → List (List ℕ)
+pick j words marks kept = picked j (take kept (cubesOf words)) (take kept marks)
+
+-- there are so many cubes and masks
+pub record Source (words marks : List ℕ) (kept : ℕ) : Type 0 where
+  pub cubes : kept ≤ length (cubesOf words)
+  pub masks : kept ≤ length marks
+
+-- there is room for the cubes of output j from place a on
+pub record Room (words marks : List ℕ) (kept j a : ℕ) (out : List ℕ) : Type 0 where
+  pub source : Source words marks kept
+  pub mark : j < 64
+  pub fits : a + length (pick j words marks kept) ≤ length (cubesOf out)
+
+-- the cubes of an output stand from place a on, and their number is n
+pub record Taken (f : List (List ℕ)) (old new : List ℕ) (a n : ℕ) : Type 0 where
+  pub number : n ≡ length f
+  pub placed : Placed old new a f
+
+-- from place a on all cubes are empty
+abbrev pub Vacant : List ℕ → ℕ → Type 0
+Vacant out a = drop a (cubesOf out) ≡ replicate (length (cubesOf out) - a) []
+
+-- from place a on stand these cubes, n of them, and then empty ones
+pub record Filled (f : List (List ℕ)) (old new : List ℕ) (a n : ℕ) : Type 0 where
+  pub number : n ≡ length f
+  pub cubes : cubesOf new ≡ take a (cubesOf old) ++ (f ++ replicate (length (cubesOf old) - (a + n)) [])
+
+-- an output's expression of the cubes picked
+abbrev pub formed : List ℕ → List ℕ → ℕ → ℕ → List (List ℕ)
+formed words marks kept j = sort (absorbed (pick j words marks kept))
+
+-- there are cubes and masks, few enough outputs, and few enough cubes for them all
+pub record Buildable (words marks : List ℕ) (kept m : ℕ) : Type 0 where
+  pub source : Source words marks kept
+  pub outputs : m ≤ 32
+  pub few : total (λ j. length (pick j words marks kept)) (from 0 m) ≤ 1088
+
+-- the network of n inputs and m outputs of the cubes and masks
+abbrev pub netFrom : ℕ → ℕ → List ℕ → List ℕ → ℕ → Net
+netFrom n m words marks kept = record { inputs = n; outputs = map (formed words marks kept) (from 0 m); divisors = [] }
