@@ -43,10 +43,7 @@ fn on_table(line: &[u8], a: usize, e: usize, out: &mut [u8]) -> usize {
 
 // `literals ; NET`
 fn on_literals(line: &[u8], g: Groups, out: &mut [u8]) -> usize {
-    let s = nets::read_sizes(line, g.from[1], g.to[1]);
-    let c = nets::read_counts(line, g.from[2], g.to[2]);
-    let w = nets::read_words(line, g.from[3], g.to[3]);
-    let got = nets::whole(s, c, w);
+    let got = nets::read_net(line, g);
     if !got.ok {
         return wire::put_none(out);
     }
@@ -56,10 +53,7 @@ fn on_literals(line: &[u8], g: Groups, out: &mut [u8]) -> usize {
 
 // `evaluate SETTING ; NET`
 fn on_evaluate(line: &[u8], g: Groups, setting: u64, out: &mut [u8]) -> usize {
-    let s = nets::read_sizes(line, g.from[1], g.to[1]);
-    let c = nets::read_counts(line, g.from[2], g.to[2]);
-    let w = nets::read_words(line, g.from[3], g.to[3]);
-    let got = nets::whole(s, c, w);
+    let got = nets::read_net(line, g);
     if !got.ok {
         return wire::put_none(out);
     }
@@ -105,6 +99,9 @@ fn answer_without(line: &[u8], g: Groups, out: &mut [u8]) -> usize {
     if groups == 3 {
         if wire::is_word(line, 0, name, b"cokernels") {
             return ask::on_cokernels(line, g, out);
+        }
+        if wire::is_word(line, 0, name, b"factored") {
+            return tell::on_factored(line, g, out);
         }
     }
     wire::put_none(out)

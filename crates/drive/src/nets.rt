@@ -2,6 +2,7 @@
 ghost use Prim.Native.Nat.{_≤_};
 use network::Network;
 use network::Number;
+use wire::Groups;
 use wire::Taken;
 
 // Three numbers, if that is what was given.
@@ -28,7 +29,7 @@ pub struct Given {
     pub network: Network,
 }
 
-pub fn read_sizes(line: &[u8], a: usize, e: usize) -> Sizes {
+fn read_sizes(line: &[u8], a: usize, e: usize) -> Sizes {
     let mut pool = [0u64; 3];
     let got = wire::numbers(line, a, e, &mut pool);
     let Taken::All(n) = got else {
@@ -57,7 +58,7 @@ fn narrow(pool: [u64; 96]) -> [usize; 96] {
     counts
 }
 
-pub fn read_counts(line: &[u8], a: usize, e: usize) -> Counts {
+fn read_counts(line: &[u8], a: usize, e: usize) -> Counts {
     let mut pool = [0u64; 96];
     let got = wire::numbers(line, a, e, &mut pool);
     let Taken::All(n) = got else {
@@ -73,7 +74,7 @@ pub fn read_counts(line: &[u8], a: usize, e: usize) -> Counts {
     }
 }
 
-pub fn read_words(line: &[u8], a: usize, e: usize) -> Words {
+fn read_words(line: &[u8], a: usize, e: usize) -> Words {
     let mut pool = [0u64; 2176];
     let got = wire::numbers(line, a, e, &mut pool);
     let Taken::All(n) = got else {
@@ -93,7 +94,7 @@ fn and(a: bool, b: bool) -> bool {
     if a { b } else { false }
 }
 
-pub fn whole(s: Sizes, c: Counts, w: Words) -> Given {
+fn whole(s: Sizes, c: Counts, w: Words) -> Given {
     let counts = c.counts;
     let words = w.words;
     Given {
@@ -106,6 +107,14 @@ pub fn whole(s: Sizes, c: Counts, w: Words) -> Given {
             words,
         },
     }
+}
+
+// The network of groups 1 to 3.
+pub fn read_net(line: &[u8], g: Groups) -> Given {
+    let s = read_sizes(line, g.from[1], g.to[1]);
+    let c = read_counts(line, g.from[2], g.to[2]);
+    let w = read_words(line, g.from[3], g.to[3]);
+    whole(s, c, w)
 }
 
 // ---- answers

@@ -1,10 +1,10 @@
 -- The factored form of an expression.
-use Prim.Native.Nat.{ℕ, zero, suc, _+_, _*_, _-_}
-use mathlib.Core.Bool.{Bool, cond, not}
+use Prim.Native.Nat.{ℕ, zero, suc, _*_, _-_}
+use mathlib.Core.Bool.{Bool, cond, not, _&&_, _||_}
 use mathlib.Core.List.{List, [], _∷_, _++_, map}
 use lib.Dec.{ltb}
 use lib.ListN.{length}
-use Rattle.sets.specs.Lists.{keep, isNil}
+use Rattle.sets.specs.Lists.{any, all, keep, isNil}
 use Rattle.sets.specs.Sets.{mem, insert, without}
 use Rattle.cube.specs.Cube.{width}
 use Rattle.expression.specs.Expression.{literalsOf, sort}
@@ -54,3 +54,9 @@ unfoldable pub expanded : Form → List (List ℕ)
 expanded (sum f) = f
 expanded (times l q) = map (insert l) (expanded q)
 expanded (plus l q r) = map (insert l) (expanded q) ++ expanded r
+
+-- the value of a form, where v is the value of each literal
+unfoldable pub formValue : (ℕ → Bool) → Form → Bool
+formValue v (sum f) = any (all v) f
+formValue v (times l q) = v l && formValue v q
+formValue v (plus l q r) = (v l && formValue v q) || formValue v r

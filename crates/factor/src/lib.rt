@@ -1,5 +1,254 @@
-// The factored text of a lent expression.
+// The factored text of a lent expression. A sum writer and a product writer call each other; the literal count of the cubes falls.
+// Each writer counts every byte and stores those that there is room for, so that the length is known before a byte is written.
+use cube::Cube;
+use cube::Found;
+use cube::Literal;
+use expression::Verdict;
+ghost use mathlib.Core.Path.{_≡_};
+ghost use mathlib.Core.List.{[], _∷_};
+ghost use Prim.Native.Nat.{_*_, _<_, _≤_};
+ghost use lib.ListN.{length};
+ghost use Rattle.cube.specs.Cube.{lits, width};
+ghost use Rattle.factor.specs.Form.{uses, mostUsed};
+ghost use Rattle.factor.specs.Text.{decimal, literalText, cubeText, sumText, textOf};
+ghost use Rattle.factor.specs.Parts.{Countable, Laid, part, Held, Lent, Parted, Gathered, Copied, sumOf, productOf, Wrought};
+ghost use Rattle.factor.specs.Answers.{refusedBy, Told};
+
+// Literals of the variables that a cube has places for.
+const LITERALS: u32 = 128;
+
+// Words for the most cubes of an expression handed in.
+const WORDS: usize = 2048;
+
 pub enum Wrote {
     Bytes(usize),
     Refused(u32),
+}
+
+// ---- a text in a room
+
+// One byte, where there is room for it; the next place.
+fn put(o: &mut [u8], at: usize, b: u8) -> usize
+    requires { ⌜ Countable at (b ∷ []) ⌝ }
+    ensures { λ r. ⌜ Laid (now (o .entry)) (now (o .exit)) at r (b ∷ []) ⌝ }
+{
+    if at < o.len() {
+        o[at] = b;
+    }
+    at + 1
+}
+
+fn put_number(o: &mut [u8], at: usize, n: u32) -> usize
+    requires { ⌜ (n < 100) × Countable at (decimal n) ⌝ }
+    ensures { λ r. ⌜ Laid (now (o .entry)) (now (o .exit)) at r (decimal n) ⌝ }
+{
+    if n < 10 {
+        return put(o, at, (48 + n) as u8);
+    }
+    let p = put(o, at, (48 + n / 10) as u8);
+    put(o, p, (48 + n % 10) as u8)
+}
+
+fn put_literal(o: &mut [u8], at: usize, l: Literal) -> usize
+    requires { ⌜ (l .0 < 2 * width) × Countable at (literalText (l .0)) ⌝ }
+    ensures { λ r. ⌜ Laid (now (o .entry)) (now (o .exit)) at r (literalText (l .0)) ⌝ }
+{
+    let p = put(o, at, b'x');
+    let q = put_number(o, p, l.0 / 2);
+    if l.0 % 2 == 0 {
+        return q;
+    }
+    put(o, q, b'\'')
+}
+
+// Literals with `*` between them; the empty cube is `1`.
+fn put_product(o: &mut [u8], at: usize, c: Cube) -> usize
+    requires { ⌜ Countable at (cubeText (lits c)) ⌝ }
+    ensures { λ r. ⌜ Laid (now (o .entry)) (now (o .exit)) at r (cubeText (lits c)) ⌝ }
+{
+    let first = cube::first_from(c, Literal(0));
+    let Found::At(l) = first else {
+        return put(o, at, b'1');
+    };
+    let mut p = put_literal(o, at, l);
+    let mut from = l.0 + 1;
+    loop {
+        let found = cube::first_from(c, Literal(from));
+        let Found::At(m) = found else {
+            return p;
+        };
+        p = put(o, p, b'*');
+        p = put_literal(o, p, m);
+        from = m.0 + 1;
+    }
+}
+
+// Cubes a up to e with `+` between them; no cubes is `0`.
+fn put_cubes(o: &mut [u8], at: usize, w: &[u64], a: usize, e: usize) -> usize
+    requires { ⌜ Held (now w) a e × Countable at (sumText (part a e (now w))) ⌝ }
+    ensures { λ r. ⌜ Laid (now (o .entry)) (now (o .exit)) at r (sumText (part a e (now (w .entry)))) ⌝ }
+{
+    if a == e {
+        return put(o, at, b'0');
+    }
+    let mut p = put_product(o, at, expression::cube_at(w, a));
+    let mut i = a + 1;
+    while i < e {
+        p = put(o, p, b'+');
+        p = put_product(o, p, expression::cube_at(w, i));
+        i += 1;
+    }
+    p
+}
+
+// ---- a part of the cubes
+
+// In how many cubes from a up to e the literal is.
+fn uses(w: &[u64], a: usize, e: usize, l: Literal) -> usize
+    requires { ⌜ Held (now w) a e ⌝ }
+    ensures { λ r. ⌜ r ≡ uses (l .0) (part a e (now (w .entry))) ⌝ }
+{
+    let mut n = 0;
+    let mut i = a;
+    while i < e {
+        if cube::has(expression::cube_at(w, i), l) {
+            n += 1;
+        }
+        i += 1;
+    }
+    n
+}
+
+// The literal in most cubes from a up to e, the smallest on a tie.
+fn most_used(w: &[u64], a: usize, e: usize) -> Literal
+    requires { ⌜ Held (now w) a e ⌝ }
+    ensures { λ r. ⌜ r .0 ≡ mostUsed (part a e (now (w .entry))) ⌝ }
+{
+    let mut best = 0;
+    let mut most = uses(w, a, e, Literal(0));
+    let mut l = 1;
+    while l < LITERALS {
+        let n = uses(w, a, e, Literal(l));
+        if most < n {
+            best = l;
+            most = n;
+        }
+        l += 1;
+    }
+    Literal(best)
+}
+
+// The cubes with l come first, without it; the rest go to the spare words. Where the first end.
+fn gather(w: &mut [u64], spare: &mut [u64], a: usize, e: usize, l: Literal) -> usize
+    requires { ⌜ (l .0 < 2 * width) × Lent (now w) (now spare) a e ⌝ }
+    ensures { λ r. ⌜ Gathered (now (w .entry)) (now (w .exit)) (now (spare .exit)) a r e (l .0) ⌝ }
+{
+    let one = cube::with(cube::empty(), l);
+    let mut m = a;
+    let mut i = a;
+    while i < e {
+        let c = expression::cube_at(w, i);
+        if cube::has(c, l) {
+            expression::put_cube(w, m, cube::without(c, one));
+            m += 1;
+        } else {
+            expression::put_cube(spare, i - m, c);
+        }
+        i += 1;
+    }
+    m
+}
+
+// The first cubes of s stand from m up to e.
+fn copy(w: &mut [u64], s: &[u64], m: usize, e: usize)
+    requires { ⌜ Lent (now w) (now s) m e ⌝ }
+    ensures { λ r. ⌜ Copied (now (w .entry)) (now (w .exit)) (now (s .entry)) m e ⌝ }
+{
+    let mut i = m;
+    while i < e {
+        expression::put_cube(w, i, expression::cube_at(s, i - m));
+        i += 1;
+    }
+}
+
+// The cubes from a up to e parted by l: those with it, without it, then the rest. Where the first end.
+fn split(w: &mut [u64], spare: &mut [u64], a: usize, e: usize, l: Literal) -> usize
+    requires { ⌜ (l .0 < 2 * width) × Lent (now w) (now spare) a e ⌝ }
+    ensures { λ r. ⌜ Parted (now (w .entry)) (now (w .exit)) a r e (l .0) ⌝ }
+{
+    let m = gather(w, spare, a, e, l);
+    copy(w, spare, m, e);
+    m
+}
+
+// ---- the writers
+
+// The text of the cubes from a up to e; what stands there afterwards is of no use.
+fn sum(w: &mut [u64], spare: &mut [u64], a: usize, e: usize, o: &mut [u8], at: usize) -> usize
+    requires { ⌜ Lent (now w) (now spare) a e × Countable at (sumOf (part a e (now w))) ⌝ }
+    ensures { λ r. ⌜ Wrought (now (w .entry)) (now (w .exit)) (now (o .entry)) (now (o .exit)) a e at r (sumOf (part a e (now (w .entry)))) ⌝ }
+{
+    let l = most_used(w, a, e);
+    if uses(w, a, e, l) < 2 {
+        return put_cubes(o, at, w, a, e);
+    }
+    let m = split(w, spare, a, e, l);
+    let p = product(l, w, spare, a, m, o, at);
+    if m == e {
+        return p;
+    }
+    let q = put(o, p, b'+');
+    sum(w, spare, m, e, o, q)
+}
+
+// The text of l times the cubes from a up to e.
+fn product(
+    l: Literal,
+    w: &mut [u64],
+    spare: &mut [u64],
+    a: usize,
+    e: usize,
+    o: &mut [u8],
+    at: usize,
+) -> usize
+    requires { ⌜ (l .0 < 2 * width) × Lent (now w) (now spare) a e × Countable at (productOf (l .0) (part a e (now w))) ⌝ }
+    ensures { λ r. ⌜ Wrought (now (w .entry)) (now (w .exit)) (now (o .entry)) (now (o .exit)) a e at r (productOf (l .0) (part a e (now (w .entry)))) ⌝ }
+{
+    let p = put_literal(o, at, l);
+    let q = put(o, p, b'*');
+    let r = put(o, q, b'(');
+    let s = sum(w, spare, a, e, o, r);
+    put(o, s, b')')
+}
+
+// ---- the whole text
+
+// The text of f, as far as there is room, and its length.
+fn text(f: &[u64], o: &mut [u8]) -> usize
+    requires { ⌜ length (now f) ≤ 2048 ⌝ }
+    ensures { λ r. ⌜ Laid (now (o .entry)) (now (o .exit)) 0 r (textOf (now (f .entry))) ⌝ }
+{
+    let mut w = [0u64; WORDS];
+    let mut spare = [0u64; WORDS];
+    let n = expression::number(f);
+    copy(&mut w, f, 0, n);
+    expression::sort_part(&mut w, 0, n);
+    sum(&mut w, &mut spare, 0, n, o, 0)
+}
+
+// The factored text of f into the room o, and its length.
+pub fn factored(f: &[u64], o: &mut [u8]) -> Wrote
+    ensures { λ a. ⌜ Told (refusedBy (now (f .entry)) (now (o .entry))) (now (f .entry)) (now (o .entry)) (now (o .exit)) a ⌝ }
+{
+    let v = expression::accept(f);
+    if let Verdict::Refused(k) = v {
+        return Wrote::Refused(k);
+    }
+    let none = 0;
+    let n = text(f, &mut o[..none]);
+    if o.len() < n {
+        return Wrote::Refused(9);
+    }
+    text(f, o);
+    Wrote::Bytes(n)
 }

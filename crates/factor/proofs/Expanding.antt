@@ -1,0 +1,150 @@
+-- Multiplying a form out gives the cubes of F, each as often as F has it; so the form has the value of F. Assumes nothing.
+use Prim.Native.Nat.{ℕ, zero, suc}
+use mathlib.Core.Path.{_≡_, refl, sym, _∙_, ap, ap₂, subst}
+use mathlib.Core.Bool.{Bool, true, false, cond, not, _&&_, _||_, and-false, and-or-distrib-left}
+use mathlib.Core.List.{List, [], _∷_, _++_, map, append-nil, List·Memᴰ·head as here, List·Memᴰ·tail as there}
+use mathlib.Core.Logic.{_⊎_, inl, inr, _↔_}
+use lib.Dec.{ltb, eqb}
+use lib.ListN.{length}
+use borrow.Author.Tests.{eqb-true, ltb-true, ltb-false}
+use Rattle.sets.specs.Lists.{any, all, keep, pairwise, isNil}
+use Rattle.sets.specs.Sets.{mem, asc, insert, union, without, before, proper}
+use Rattle.sets.proofs.Truth.{both, decided, clash}
+use Rattle.sets.proofs.Lists.{_∈_, all-in, all-out, keep-out, map-out}
+use Rattle.sets.proofs.Sets.{sub-in, without-asc, rejoin, union-comm, insert-all}
+use Rattle.expression.specs.Expression.{isCube, loose, expression, ordered, place, sort}
+use Rattle.expression.proofs.Sorting.{sort-in, sort-out, sort-length, sort-sort, sort-middle, sort-append-comm, all-sort, value-sort, expression-sort}
+use Rattle.expression.proofs.Values.{append-value}
+use Rattle.factor.specs.Form.{uses, mostUsed, over, rest, Form, sum, times, plus, formBy, formOf, expanded, formValue}
+use Rattle.factor.proofs.Falling.{form-plain, form-times, form-plus}
+
+abbrev Cubes : Type 0
+Cubes = List (List ℕ)
+
+-- ---- lists with the same cubes, each as often: their sorts are one
+
+module _ (g : List ℕ → List ℕ) where
+  map-place : (c : List ℕ) (f : Cubes) → sort (map g (place c f)) ≡ place (g c) (sort (map g f))
+  unfolding place sort
+  map-place c [] = refl
+  map-place c (d ∷ f) =
+      elim (before d c) as (λ b. sort (map g (cond b (d ∷ place c f) (c ∷ d ∷ f))) ≡ place (g c) (sort (map g (d ∷ f)))) [
+        | true ↦ ap (place (g d)) (map-place c f) ∙ sort-middle (g d ∷ []) (g c) (map g f)
+        | false ↦ refl
+      ]
+
+  map-sort : (f : Cubes) → sort (map g (sort f)) ≡ sort (map g f)
+  unfolding sort
+  map-sort [] = refl
+  map-sort (c ∷ f) = map-place c (sort f) ∙ ap (place (g c)) (map-sort f)
+
+  pub sort-map : (x y : Cubes) → sort x ≡ sort y → sort (map g x) ≡ sort (map g y)
+  sort-map x y e = sym (map-sort x) ∙ ap (λ s. sort (map g s)) e ∙ map-sort y
+
+append-sort : (f g : Cubes) → sort (f ++ sort g) ≡ sort (f ++ g)
+unfolding sort
+append-sort [] g = sort-sort g
+append-sort (c ∷ f) g = ap (place c) (append-sort f g)
+
+append-second : (f x y : Cubes) → sort x ≡ sort y → sort (f ++ x) ≡ sort (f ++ y)
+append-second f x y e = sym (append-sort f x) ∙ ap (λ s. sort (f ++ s)) e ∙ append-sort f y
+
+pub sort-append : (x x′ y y′ : Cubes) → sort x ≡ sort x′ → sort y ≡ sort y′ → sort (x ++ y) ≡ sort (x′ ++ y′)
+sort-append x x′ y y′ e d = append-second x y y′ d ∙ sort-append-comm x y′ ∙ append-second y′ x x′ e ∙ sort-append-comm y′ x′
+
+pub sort-keep : (p : List ℕ → Bool) (f : Cubes) → sort (keep p f ++ keep (λ c. not (p c)) f) ≡ sort f
+unfolding sort
+sort-keep p [] = refl
+sort-keep p (c ∷ f) =
+    elim (p c) as (λ b. sort (cond b (c ∷ keep p f) (keep p f) ++ cond (not b) (c ∷ keep (λ d. not (p d)) f) (keep (λ d. not (p d)) f)) ≡ place c (sort f)) [
+      | true ↦ ap (place c) (sort-keep p f)
+      | false ↦ sort-middle (keep p f) c (keep (λ d. not (p d)) f) ∙ ap (place c) (sort-keep p f)
+    ]
+
+-- ---- F/l with l put back is the cubes of F that have l
+
+insert-back : (l : ℕ) (c : List ℕ) → asc c ≡ true → mem l c ≡ true → insert l (without c (l ∷ [])) ≡ c
+unfolding union mem
+insert-back l c h m =
+    union-comm (l ∷ []) (without c (l ∷ [])) refl (without-asc c (l ∷ []) h) ∙ rejoin c (l ∷ []) h refl (sub-in (l ∷ []) c (λ z i. only z (decided (eqb z l)) i))
+  where
+    only : (z : ℕ) → (eqb z l ≡ true) ⊎ (eqb z l ≡ false) → (eqb z l || false) ≡ true → mem z c ≡ true
+    only z (inl e) i = rw (eqb-true z l e) m
+    only z (inr e) i = clash i (rw e)
+
+over-back : (l : ℕ) (f : Cubes) → ((c : List ℕ) → c ∈ f → insert l (without c (l ∷ [])) ≡ c) → map (insert l) (map (λ c. without c (l ∷ [])) f) ≡ f
+over-back l [] h = refl
+over-back l (c ∷ f) h = ap₂ _∷_ (h c (here refl)) (over-back l f (λ d m. h d (there m)))
+
+module _ (l : ℕ) (f : Cubes) (h : all asc f ≡ true) where
+  pub over-multiplied : map (insert l) (over l f) ≡ keep (mem l) f
+  over-multiplied = over-back l (keep (mem l) f) (λ c m. let q = keep-out (mem l) f m in insert-back l c (all-out asc (q .0) h) (q .1))
+
+  over-asc : all asc (over l f) ≡ true
+  over-asc = all-in asc (over l f) (λ c m. let q = map-out (λ d. without d (l ∷ [])) (keep (mem l) f) m in
+      ap asc (q .2) ∙ without-asc (q .0) (l ∷ []) (all-out asc ((keep-out (mem l) f (q .1)) .0) h))
+
+  rest-asc : all asc (rest l f) ≡ true
+  rest-asc = all-in asc (rest l f) (λ c m. all-out asc ((keep-out (λ d. not (mem l d)) f m) .0) h)
+
+nil-is : (f : Cubes) → isNil f ≡ true → f ≡ []
+nil-is [] h = refl
+nil-is (c ∷ f) h = clash h refl
+
+-- ---- multiplied out
+
+pub expanded-sort : (k : ℕ) (f : Cubes) → all asc f ≡ true → sort (expanded (formBy k f)) ≡ sort f
+unfolding formBy expanded
+expanded-sort zero f h = refl
+expanded-sort (suc k) f h =
+    go (decided (ltb (uses (mostUsed f) f) 2)) (decided (isNil (rest (mostUsed f) f))) (expanded-sort k (over (mostUsed f) f) (over-asc (mostUsed f) f h)) (expanded-sort k (rest (mostUsed f) f) (rest-asc (mostUsed f) f h))
+  where
+    first : sort (expanded (formBy k (over (mostUsed f) f))) ≡ sort (over (mostUsed f) f) → sort (map (insert (mostUsed f)) (expanded (formBy k (over (mostUsed f) f)))) ≡ sort (keep (mem (mostUsed f)) f)
+    first q = sort-map (insert (mostUsed f)) _ _ q ∙ ap sort (over-multiplied (mostUsed f) f h)
+
+    go : (ltb (uses (mostUsed f) f) 2 ≡ true) ⊎ (ltb (uses (mostUsed f) f) 2 ≡ false) → (isNil (rest (mostUsed f) f) ≡ true) ⊎ (isNil (rest (mostUsed f) f) ≡ false)
+        → sort (expanded (formBy k (over (mostUsed f) f))) ≡ sort (over (mostUsed f) f) → sort (expanded (formBy k (rest (mostUsed f) f))) ≡ sort (rest (mostUsed f) f)
+        → sort (expanded (formBy (suc k) f)) ≡ sort f
+    go (inl t) n q r = ap (λ x. sort (expanded x)) (form-plain f (suc k) (ltb-true _ _ t))
+    go (inr t) (inl n) q r =
+        ap (λ x. sort (expanded x)) (form-times f k (ltb-false _ _ t) n) ∙ first q ∙ ap sort (sym (append-nil _) ∙ ap (keep (mem (mostUsed f)) f ++_) (sym (nil-is _ n)))
+        ∙ sort-keep (mem (mostUsed f)) f
+    go (inr t) (inr n) q r =
+        ap (λ x. sort (expanded x)) (form-plus f k (ltb-false _ _ t) n) ∙ sort-append _ _ _ _ (first q) r ∙ sort-keep (mem (mostUsed f)) f
+
+module _ (f : Cubes) (h : all asc f ≡ true) where
+  -- the cubes of F, each as often
+  pub multiplied : sort (expanded (formOf f)) ≡ sort f
+  multiplied = expanded-sort _ (sort f) (all-sort asc f ∙ h) ∙ sort-sort f
+
+  pub multiplied-length : length (expanded (formOf f)) ≡ length f
+  multiplied-length = sym (sort-length (expanded (formOf f))) ∙ ap length multiplied ∙ sort-length f
+
+  pub multiplied-iff : (c : List ℕ) → (c ∈ expanded (formOf f)) ↔ (c ∈ f)
+  multiplied-iff c = (λ m. sort-out f (subst (λ s. c ∈ s) multiplied (sort-in m)), λ m. sort-out (expanded (formOf f)) (subst (λ s. c ∈ s) (sym multiplied) (sort-in m)))
+
+-- ---- the value
+
+module _ (v : ℕ → Bool) where
+  any-insert : (l : ℕ) (f : Cubes) → any (all v) (map (insert l) f) ≡ (v l && any (all v) f)
+  any-insert l [] = sym (and-false (v l))
+  any-insert l (c ∷ f) = ap₂ _||_ (insert-all v l c) (any-insert l f) ∙ sym (and-or-distrib-left (v l) (all v c) (any (all v) f))
+
+  -- a form has the value of the cubes that multiplying out gives
+  pub form-value : (x : Form) → formValue v x ≡ any (all v) (expanded x)
+  unfolding formValue expanded
+  form-value (sum f) = refl
+  form-value (times l q) = ap (v l &&_) (form-value q) ∙ sym (any-insert l (expanded q))
+  form-value (plus l q r) =
+      ap₂ (λ a b. (v l && a) || b) (form-value q) (form-value r) ∙ ap (_|| any (all v) (expanded r)) (sym (any-insert l (expanded q))) ∙ sym (append-value v (map (insert l) (expanded q)) (expanded r))
+
+  pub factored-value : (f : Cubes) → all asc f ≡ true → formValue v (formOf f) ≡ any (all v) f
+  factored-value f h = form-value (formOf f) ∙ sym (value-sort v (expanded (formOf f))) ∙ ap (any (all v)) (multiplied f h) ∙ value-sort v f
+
+-- ---- an expression's cubes are ascending, and multiplying out gives none twice
+
+pub expression-asc : (f : Cubes) → expression f ≡ true → all asc f ≡ true
+expression-asc f h = all-in asc f (λ c m. (both (asc c) (proper c) (all-out isCube m ((both (all isCube f) (pairwise loose f) h) .0))) .0)
+
+pub multiplied-once : (f : Cubes) → expression f ≡ true → ordered (sort (expanded (formOf f))) ≡ true
+multiplied-once f h = ap ordered (multiplied f (expression-asc f h)) ∙ expression-sort f h .1

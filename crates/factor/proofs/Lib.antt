@@ -1,0 +1,9 @@
+pub mod Laying
+pub mod Texts
+pub mod Walking
+pub mod Choosing
+pub mod Parting
+pub mod Falling
+pub mod Writing
+pub mod Answering
+pub mod Expanding

@@ -1,0 +1,142 @@
+-- The text of a sum as the writers make it: the cubes as they stand, or a product, and after a `+` the rest; and how long it is at most. Assumes nothing.
+use Prim.Native.Nat.{ℕ, zero, suc, _+_, _-_, _*_, _/_, _%_, _<_, _≤_}
+use mathlib.Core.Path.{_≡_, refl, sym, _∙_, ap, ap₂}
+use mathlib.Core.Bool.{true, false, cond, true≢false, false≢true}
+use mathlib.Core.List.{List, [], _∷_, _++_, append-assoc, append-nil}
+use mathlib.Core.Logic.{_⊎_, inl, inr}
+use native.Mathlib.Omega.{arith}
+use lib.Dec.{ltb, eqb}
+use lib.ListN.{length, length-append}
+use borrow.Author.Tests.{ltb-true, ltb-false}
+use Rattle.sets.specs.Lists.{isNil}
+use Rattle.sets.proofs.Truth.{decided}
+use Rattle.expression.specs.Expression.{literalsOf}
+use Rattle.factor.specs.Form.{uses, mostUsed, over, rest, formBy}
+use Rattle.factor.specs.Text.{decimal, literalText, cubeText, sumText, formText}
+use Rattle.factor.specs.Parts.{sumOf, productOf}
+use Rattle.factor.proofs.Falling.{literals-fall, cubes-split, over-length, over-less, rest-less, form-plain, form-times, form-plus, form-enough}
+use Rattle.factor.proofs.Texts.{mark, literal-start}
+
+abbrev Cubes : Type 0
+Cubes = List (List ℕ)
+
+-- ---- the text of a sum, case by case
+
+module _ (f : Cubes) where
+  abbrev l : ℕ
+  l = mostUsed f
+
+  pub sum-plain : uses l f < 2 → sumOf f ≡ sumText f
+  unfolding sumOf formText
+  sum-plain h = ap formText (form-plain f (literalsOf f) h)
+
+  module _ (many : 2 ≤ uses l f) where
+    k : ℕ
+    k = literalsOf f - 1
+
+    turns : literalsOf f ≡ suc k
+    unfolding k
+    turns = omega (arith, literals-fall l f)
+
+    over-enough : formBy k (over l f) ≡ formBy (literalsOf (over l f)) (over l f)
+    unfolding k
+    over-enough = form-enough k _ (over l f) (omega (arith, over-less l f many)) (omega arith)
+
+    rest-enough : formBy k (rest l f) ≡ formBy (literalsOf (rest l f)) (rest l f)
+    unfolding k
+    rest-enough = form-enough k _ (rest l f) (omega (arith, rest-less l f many)) (omega arith)
+
+    pub sum-times : isNil (rest l f) ≡ true → sumOf f ≡ productOf l (over l f)
+    unfolding sumOf productOf formText
+    sum-times e =
+        ap formText (ap (λ n. formBy n f) turns ∙ form-times f k many e) ∙ ap (λ q. literalText l ++ (42 ∷ 40 ∷ (formText q ++ (41 ∷ [])))) over-enough
+
+    pub sum-plus : isNil (rest l f) ≡ false → sumOf f ≡ productOf l (over l f) ++ (43 ∷ sumOf (rest l f))
+    unfolding sumOf productOf formText
+    sum-plus e =
+        ap formText (ap (λ n. formBy n f) turns ∙ form-plus f k many e)
+        ∙ ap₂ (λ q r. literalText l ++ (42 ∷ 40 ∷ (formText q ++ (41 ∷ 43 ∷ formText r)))) over-enough rest-enough
+        ∙ sym (append-assoc (literalText l) _ _ ∙ ap (λ t. literalText l ++ (42 ∷ 40 ∷ t)) (append-assoc (formText (formBy (literalsOf (over l f)) (over l f))) _ _))
+
+-- `+` and the rest, if it has cubes
+pub after : Cubes → List ℕ
+after [] = []
+after (c ∷ f) = 43 ∷ sumOf (c ∷ f)
+
+pub after-none : (f : Cubes) → isNil f ≡ true → after f ≡ []
+unfolding after
+after-none [] h = refl
+after-none (c ∷ f) h = absurd (false≢true h)
+
+pub after-some : (f : Cubes) → isNil f ≡ false → after f ≡ 43 ∷ sumOf f
+unfolding after
+after-some [] h = absurd (true≢false h)
+after-some (c ∷ f) h = refl
+
+-- l chosen and the cubes parted by it
+pub sum-parted : (f : Cubes) (l : ℕ) (q r : Cubes) → l ≡ mostUsed f → 2 ≤ uses l f → q ≡ over l f → r ≡ rest l f → sumOf f ≡ productOf l q ++ after r
+sum-parted f l q r h many a b = rw (a, b, h) (go (decided (isNil (rest (mostUsed f) f))))
+  where
+    go : (isNil (rest (mostUsed f) f) ≡ true) ⊎ (isNil (rest (mostUsed f) f) ≡ false) → sumOf f ≡ productOf (mostUsed f) (over (mostUsed f) f) ++ after (rest (mostUsed f) f)
+    go (inl n) = sum-times f (rw h at many) n ∙ sym (append-nil _) ∙ ap (productOf (mostUsed f) (over (mostUsed f) f) ++_) (sym (after-none _ n))
+    go (inr n) = sum-plus f (rw h at many) n ∙ ap (productOf (mostUsed f) (over (mostUsed f) f) ++_) (sym (after-some _ n))
+
+pub product-start : (l : ℕ) (f : Cubes) → productOf l f ≡ literalText l ++ (42 ∷ 40 ∷ (sumOf f ++ (41 ∷ [])))
+unfolding productOf
+product-start l f = refl
+
+-- ---- at most five bytes for each literal, two for each cube and one more
+
+decimal-length : (n : ℕ) → length (decimal n) ≤ 2
+unfolding decimal
+decimal-length n = elim (ltb n 10) as (λ b. length (cond b ((48 + n) ∷ []) ((48 + n / 10) ∷ (48 + n % 10) ∷ [])) ≤ 2) [ true ↦ omega arith | false ↦ omega arith ]
+
+mark-length : (l : ℕ) → length (mark l) ≤ 1
+mark-length l = elim (eqb (l % 2) 0) as (λ b. length (cond {A = List ℕ} b [] (39 ∷ [])) ≤ 1) [ true ↦ omega arith | false ↦ omega arith ]
+
+literal-length : (l : ℕ) → length (literalText l) ≤ 4
+literal-length l = rw (literal-start l) (omega (arith, length-append (decimal (l / 2)) (mark l), decimal-length (l / 2), mark-length l))
+
+cube-length : (c : List ℕ) → length (cubeText c) ≤ 5 * length c + 1
+unfolding cubeText
+cube-length [] = omega arith
+cube-length (l ∷ []) = omega (arith, literal-length l)
+cube-length (l ∷ m ∷ c) = omega (arith, literal-length l, cube-length (m ∷ c), length-append (literalText l) (42 ∷ cubeText (m ∷ c)))
+
+plain-length : (f : Cubes) → length (sumText f) ≤ 5 * literalsOf f + 2 * length f + 1
+unfolding sumText
+plain-length [] = omega arith
+plain-length (c ∷ []) = omega (arith, cube-length c)
+plain-length (c ∷ d ∷ f) = omega (arith, cube-length c, plain-length (d ∷ f), length-append (cubeText c) (43 ∷ sumText (d ∷ f)))
+
+product-length : (l : ℕ) (f : Cubes) → length (productOf l f) ≤ length (sumOf f) + 7
+unfolding productOf
+product-length l f = omega (arith, literal-length l, length-append (literalText l) (42 ∷ 40 ∷ (sumOf f ++ (41 ∷ []))), length-append (sumOf f) (41 ∷ []))
+
+-- by the number of literals
+pub sum-length : (k : ℕ) (f : Cubes) → literalsOf f ≤ k → length (sumOf f) ≤ 5 * literalsOf f + 2 * length f + 1
+sum-length zero f h = rw (sum-plain f (omega (arith, literals-fall (mostUsed f) f))) (plain-length f)
+sum-length (suc k) f h = go (decided (ltb (uses (mostUsed f) f) 2)) (decided (isNil (rest (mostUsed f) f))) (sum-length k (over (mostUsed f) f)) (sum-length k (rest (mostUsed f) f))
+  where
+    go : (ltb (uses (mostUsed f) f) 2 ≡ true) ⊎ (ltb (uses (mostUsed f) f) 2 ≡ false) → (isNil (rest (mostUsed f) f) ≡ true) ⊎ (isNil (rest (mostUsed f) f) ≡ false)
+        → (literalsOf (over (mostUsed f) f) ≤ k → length (sumOf (over (mostUsed f) f)) ≤ 5 * literalsOf (over (mostUsed f) f) + 2 * length (over (mostUsed f) f) + 1)
+        → (literalsOf (rest (mostUsed f) f) ≤ k → length (sumOf (rest (mostUsed f) f)) ≤ 5 * literalsOf (rest (mostUsed f) f) + 2 * length (rest (mostUsed f) f) + 1)
+        → length (sumOf f) ≤ 5 * literalsOf f + 2 * length f + 1
+    go (inl t) n q r = rw (sum-plain f (ltb-true _ _ t)) (plain-length f)
+    go (inr t) (inl n) q r =
+        let many : 2 ≤ uses (mostUsed f) f = ltb-false _ _ t in
+        rw (sum-times f many n)
+        (omega (arith, product-length (mostUsed f) (over (mostUsed f) f), q (omega (arith, over-less (mostUsed f) f many)), literals-fall (mostUsed f) f, cubes-split (mostUsed f) f, over-length (mostUsed f) f))
+    go (inr t) (inr n) q r =
+        let many : 2 ≤ uses (mostUsed f) f = ltb-false _ _ t in
+        rw (sum-plus f many n)
+        (omega (
+          arith,
+          length-append (productOf (mostUsed f) (over (mostUsed f) f)) (43 ∷ sumOf (rest (mostUsed f) f)),
+          product-length (mostUsed f) (over (mostUsed f) f),
+          q (omega (arith, over-less (mostUsed f) f many)),
+          r (omega (arith, rest-less (mostUsed f) f many)),
+          literals-fall (mostUsed f) f,
+          cubes-split (mostUsed f) f,
+          over-length (mostUsed f) f,
+        ))

@@ -1,0 +1,155 @@
+-- `factor::gather` meets its contract. The loop's invariant: the cubes from a up to i are parted. Assumes nothing.
+use mathlib.Core.Path.{_≡_, refl, sym, _∙_, ap, ap₂}
+use mathlib.Core.List.{List, [], _∷_}
+use mathlib.Core.Logic.{inl, inr}
+use Prim.Native.Nat.{ℕ, _-_, _≤_, _<_}
+use native.Mathlib.Omega.{arith}
+use borrow.Author.Needs.{needs}
+use lib.ListN.{length, getD, set}
+use Rattle.sets.specs.Sets.{mem, without}
+use Rattle.cube.specs.Cube.{lits, joined}
+use Rattle.expression.specs.Words.{cubesOf}
+use Rattle.expression.proofs.Words.{cubes-length}
+use Rattle.factor.proofs.Parting.{Parting, parting-none, parting-yes, parting-no, back-at, joined-one}
+use Rattle.factor.proofs.gather.Statement.{statement}
+use Rattle.factor.proofs.gather.Tie as tie
+
+abbrev Inv-loop : tie.InvT-loop
+Inv-loop w₀ spare₀ a e l one m₀ i₀ w spare m i =
+    (i ≤ e) × Parting (cubesOf w₀) (cubesOf w) (cubesOf spare) a m i (l .0) × (length w ≡ length w₀) × (length spare ≡ length spare₀)
+
+abbrev μ-loop : tie.MeasureT-loop
+μ-loop w₀ spare₀ a e l one m₀ i₀ w spare m i = e - i
+
+-- the cube at the place that the loop has come to, as it was
+abbrev cube : tie.At-loop Inv-loop μ-loop → List ℕ
+cube c = getD (cubesOf (c .before .before .before .before .before .args .w .now)) (c .loop .i) []
+
+empty-requires : tie.Need-empty-requires Inv-loop μ-loop
+empty-requires c κs = search needs
+
+with-requires : tie.Need-with-requires Inv-loop μ-loop
+with-requires c κs = search needs
+
+loop-holds : tie.Need-loop-holds Inv-loop μ-loop
+loop-holds c = (c .before .before .before .before .pre .1 .held .forth, parting-none _ _ _ _, refl, refl)
+
+cube-at-requires : tie.Need-cube-at-requires Inv-loop μ-loop
+cube-at-requires c κs = search needs
+
+has-requires : tie.Need-has-requires Inv-loop μ-loop
+has-requires c κs = search needs
+
+without-requires : tie.Need-without-requires Inv-loop μ-loop
+without-requires c κs = search needs
+
+put-cube-requires : tie.Need-put-cube-requires Inv-loop μ-loop
+put-cube-requires c κs = search needs
+
+add-m : tie.Need-add-m Inv-loop μ-loop
+add-m c =
+    let s = c .before .before .before .before .before .before .before .before .before .before .before .before .before .before .before in
+    omega (arith, c .before .before .before .before .before .before .before .before .before .loop-test .taken, c .before .before .before .before .before .before .before .before .before .before .loop .inv .1 .most, s .pre .1 .held .inside, cubes-length (s .args .w .now))
+
+sub-put-cube : tie.Need-sub-put-cube Inv-loop μ-loop
+sub-put-cube c = omega (arith, c .before .before .before .before .before .before .loop .inv .1 .most)
+
+put-cube-requires-2 : tie.Need-put-cube-requires-2 Inv-loop μ-loop
+put-cube-requires-2 c κs = search needs
+
+add-i : tie.Need-add-i Inv-loop μ-loop
+add-i c =
+    let s = c .before .before .before .before .before .before .before .before .before .before in
+    omega (arith, c .before .before .before .before .loop-test .taken, s .pre .1 .held .inside, cubes-length (s .args .w .now))
+
+loop-less : tie.Need-loop-less Inv-loop μ-loop
+loop-less c = omega (arith, c .before .before .before .before .loop-test .taken)
+
+-- it, and whether it has l
+present : (c : tie.After-cube-at Inv-loop μ-loop) → lits (c .cube-at .result) ≡ cube (c .before .before .before)
+present c =
+    let h = c .before .before .before in
+    c .cube-at .ensures ∙ back-at (cubesOf (c .before .before .before .before .before .before .before .before .args .w .now)) (cubesOf (h .loop .w)) (h .loop .i) (h .loop .inv .1 .back) []
+
+tested : (c : tie.After-has Inv-loop μ-loop) → c .has .result ≡ mem (c .before .before .before .before .before .before .before .before .before .args .l .0) (cube (c .before .before .before .before))
+tested c = c .has .ensures ∙ ap (mem (c .before .before .before .before .before .before .before .before .before .args .l .0)) (present (c .before))
+
+inside : (c : tie.In-loop Inv-loop μ-loop) → (c .before .loop .i < length (cubesOf (c .before .before .before .before .before .before .args .w .now))) × (c .before .loop .i < length (cubesOf (c .before .loop .w))) × (c .before .loop .i < length (cubesOf (c .before .loop .spare)))
+inside c =
+    let s = c .before .before .before .before .before .before in
+    let h = c .before in (
+      omega (arith, c .loop-test .taken, s .pre .1 .held .inside),
+      omega (arith, c .loop-test .taken, s .pre .1 .held .inside, cubes-length (s .args .w .now), cubes-length (h .loop .w), h .loop .inv .2),
+      omega (arith, c .loop-test .taken, s .pre .1 .places, cubes-length (s .args .spare .now), cubes-length (h .loop .spare), h .loop .inv .3),
+    )
+
+-- the cube of l alone
+alone : (c : tie.After-with Inv-loop μ-loop) → lits (c .with .result) ≡ c .before .before .before .before .args .l .0 ∷ []
+alone c =
+    let s = c .before .before .before .before in
+    c .with .ensures ∙ ap (joined (s .args .l .0)) (c .before .empty .ensures) ∙ joined-one (s .args .l .0) (s .pre .0)
+
+loop-again : tie.Need-loop-again Inv-loop μ-loop
+loop-again c =
+    let h = c .before .before .before .before .before in
+    let l = c .before .before .before .before .before .before .before .before .before .before .args .l .0 in
+    let x = cube (c .before .before .before .before .before) in
+    let w₀ = cubesOf (h .loop .w) in
+    let s₀ = cubesOf (h .loop .spare) in
+    let m = h .loop .m in
+    let i = h .loop .i in
+    let inv = h .loop .inv in
+    let n = inside (c .before .before .before .before) in
+    elim (c .if1 .came) [
+      | inl w ↦
+          let q : lits (w .2 .result) ≡ without x (l ∷ []) = w .2 .ensures ∙ ap₂ without (present (c .before .before)) (alone (c .before .before .before .before .before .before)) in
+          let p : cubesOf (w .3 .last .0) ≡ set w₀ m (without x (l ∷ [])) = w .3 .ensures .cubes ∙ ap (set w₀ m) q in (
+            omega (arith, c .before .before .before .before .loop-test .taken),
+            rw (w .6, w .7, w .8, p) (parting-yes (inv .1) (n .0) (sym (tested (c .before)) ∙ w .0 .taken) (n .1)),
+            ap length (w .6) ∙ w .3 .kept .0 ∙ inv .2,
+            ap length (w .7) ∙ inv .3,
+          )
+      | inr w ↦
+          let p : cubesOf (w .2 .last .0) ≡ set s₀ (i - m) x = w .2 .ensures .cubes ∙ ap (set s₀ (i - m)) (present (c .before .before)) in (
+            omega (arith, c .before .before .before .before .loop-test .taken),
+            rw (w .5, w .6, w .7, p) (parting-no (inv .1) (n .0) (sym (tested (c .before)) ∙ w .0 .left) (n .2)),
+            ap length (w .5) ∙ inv .2,
+            ap length (w .6) ∙ w .2 .kept .0 ∙ inv .3,
+          )
+    ]
+
+same-length : tie.Need-same-length Inv-loop μ-loop
+same-length c = c .before .loop .inv .2
+
+same-length-2 : tie.Need-same-length-2 Inv-loop μ-loop
+same-length-2 c = c .before .loop .inv .3
+
+returns : tie.Need-returns Inv-loop μ-loop
+returns c =
+    let h = c .before in
+    let i = h .loop .inv .1 in
+    let e : h .loop .i ≡ c .before .before .before .before .before .before .args .e = omega (arith, h .loop .inv .0, c .loop-test .left) in
+    record { least = i .least; most = rw (← e) (i .most); first = rw (← e) (i .first); second = rw (← e) (i .second); back = rw (← e) (i .back) }
+
+pub gather-spec : {M : Type 1} → statement M
+gather-spec =
+    tie.close
+    (tie.spec
+    Inv-loop
+    μ-loop
+    empty-requires
+    with-requires
+    loop-holds
+    cube-at-requires
+    has-requires
+    without-requires
+    put-cube-requires
+    add-m
+    sub-put-cube
+    put-cube-requires-2
+    add-i
+    loop-less
+    loop-again
+    same-length
+    same-length-2
+    returns)

@@ -1,0 +1,78 @@
+-- What the contracts of the writers say: a text written as far as there is room, and a part of the lent cubes.
+use Prim.Native.Nat.{ℕ, _+_, _-_, _<_, _≤_}
+use mathlib.Core.Path.{_≡_}
+use mathlib.Core.List.{List, [], _∷_, _++_}
+use lib.ListN.{length, take, drop}
+use lib.Seq.{sets, slice}
+use Rattle.expression.specs.Words.{cubesOf}
+use Rattle.expression.specs.Expression.{literalsOf}
+use Rattle.factor.specs.Form.{over, rest, formBy}
+use Rattle.factor.specs.Text.{literalText, formText}
+
+-- ---- a text in a room
+
+-- the place after the text is a number of 64 bits
+abbrev pub Countable : ℕ → List ℕ → Type 0
+Countable at t = at + length t < 18446744073709551616
+
+-- the bytes of the text are stored from a place on, each for which there is room; next is the place after the text
+pub record Laid (old new : List ℕ) (at next : ℕ) (t : List ℕ) : Type 0 where
+  pub place : next ≡ at + length t
+  pub bytes : new ≡ sets old at t
+
+-- ---- a part of the cubes
+
+-- the cubes from a up to e
+abbrev pub part : ℕ → ℕ → List ℕ → List (List ℕ)
+part a e ws = slice a e (cubesOf ws)
+
+-- there are cubes from a up to e
+pub record Held (ws : List ℕ) (a e : ℕ) : Type 0 where
+  pub forth : a ≤ e
+  pub inside : e ≤ length (cubesOf ws)
+
+-- there are, and as many spare places
+pub record Lent (ws spare : List ℕ) (a e : ℕ) : Type 0 where
+  pub held : Held ws a e
+  pub places : e ≤ length (cubesOf spare)
+
+-- the cubes outside the part from a up to e stay
+pub record Outside (old new : List ℕ) (a e : ℕ) : Type 0 where
+  pub front : take a (cubesOf new) ≡ take a (cubesOf old)
+  pub back : drop e (cubesOf new) ≡ drop e (cubesOf old)
+
+-- from a up to m the cubes with l, without it; the rest at the front of the spare words
+pub record Gathered (old new spare : List ℕ) (a m e l : ℕ) : Type 0 where
+  pub least : a ≤ m
+  pub most : m ≤ e
+  pub first : take m (cubesOf new) ≡ take a (cubesOf old) ++ over l (part a e old)
+  pub second : take (e - m) (cubesOf spare) ≡ rest l (part a e old)
+  pub back : drop e (cubesOf new) ≡ drop e (cubesOf old)
+
+-- from m up to e the first cubes of other words
+pub record Copied (old new other : List ℕ) (m e : ℕ) : Type 0 where
+  pub first : take e (cubesOf new) ≡ take m (cubesOf old) ++ take (e - m) (cubesOf other)
+  pub back : drop e (cubesOf new) ≡ drop e (cubesOf old)
+
+-- from a up to m the cubes with l, without it, then up to e the rest; both in their order
+pub record Parted (old new : List ℕ) (a m e l : ℕ) : Type 0 where
+  pub least : a ≤ m
+  pub most : m ≤ e
+  pub first : part a m new ≡ over l (part a e old)
+  pub second : part m e new ≡ rest l (part a e old)
+  pub outside : Outside old new a e
+
+-- ---- the texts of the two writers
+
+-- the text of a sum
+unfoldable pub sumOf : List (List ℕ) → List ℕ
+sumOf f = formText (formBy (literalsOf f) f)
+
+-- the text of l times a sum, which stands in parentheses
+unfoldable pub productOf : ℕ → List (List ℕ) → List ℕ
+productOf l f = literalText l ++ (42 ∷ 40 ∷ (sumOf f ++ (41 ∷ [])))
+
+-- a text written, from a part of the cubes that is of no further use
+pub record Wrought (ws ws′ old new : List ℕ) (a e at next : ℕ) (t : List ℕ) : Type 0 where
+  pub laid : Laid old new at next t
+  pub outside : Outside ws ws′ a e
