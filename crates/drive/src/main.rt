@@ -1,6 +1,4 @@
 // Answers requests of the line protocol, a line for a line, from standard input to standard output.
-mod nets;
-
 use libc::STDIN_FILENO;
 use libc::STDOUT_FILENO;
 use table::Answer;

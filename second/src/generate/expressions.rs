@@ -117,6 +117,16 @@ fn minterms(r: &mut Random, among: &[Variable]) -> Vec<Cube> {
     product(&all, &[base])
 }
 
+/// Every cube that holds each of the first so many variables.
+pub fn all_minterms(many: usize) -> Expression {
+    let mut all = vec![Cube::default()];
+    for v in first_variables(many) {
+        let ways = [Cube::of([v.plain()]), Cube::of([v.negated()])];
+        all = product(&all, &ways);
+    }
+    all.into_iter().collect()
+}
+
 /// Cubes in no order, of which some may contain others.
 pub fn cubes(r: &mut Random, among: &[Variable], most: usize) -> Vec<Cube> {
     match r.below(14) {

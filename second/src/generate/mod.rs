@@ -154,9 +154,15 @@ fn single(r: &mut Random) -> Vec<u64> {
     words
 }
 
+/// Now and then every minterm of a few variables, which has thousands of co-kernels.
 fn cokernels_line(r: &mut Random) -> String {
-    let f = single(r);
-    let found = lent_or_none(&f).map(|f| cokernels(&f, 400).map_or(60, |all| all.len()));
+    let (f, most) = if r.one_in(150) {
+        let all = expressions::all_minterms(r.between(6, 8));
+        (expressions::lent(r, &all), 10_000)
+    } else {
+        (single(r), 400)
+    };
+    let found = lent_or_none(&f).map(|f| cokernels(&f, most).map_or(60, |all| all.len()));
     let room = rooms::words(r, found.unwrap_or(2));
     line_of("cokernels", &[texts(&f), texts(&room)])
 }

@@ -1,10 +1,10 @@
--- `drive::nets::cubes_in` is safe and ends. Assumes nothing.
+-- `nets::cubes_in` is safe and ends. Assumes nothing.
 use mathlib.Core.Path.{_≡_}
 use Prim.Native.Nat.{_+_, _-_, _<_, _≤_}
 use lib.ListN.{length}
 use borrow.Author.Needs.{needs}
-use Rattle.drive.proofs.nets.cubes_in.Statement.{statement}
-use Rattle.drive.proofs.nets.cubes_in.Tie as tie
+use Rattle.nets.proofs.cubes_in.Statement.{statement}
+use Rattle.nets.proofs.cubes_in.Tie as tie
 
 abbrev Inv-loop : tie.InvT-loop
 Inv-loop counts used sum₀ i₀ sum i = (i ≤ used) × (sum ≤ 1088)

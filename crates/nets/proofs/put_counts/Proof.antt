@@ -1,10 +1,10 @@
--- `drive::nets::put_counts` is safe and ends. Assumes nothing.
+-- `nets::put_counts` is safe and ends. Assumes nothing.
 use mathlib.Core.Path.{_≡_}
 use Prim.Native.Nat.{_+_, _-_, _<_, _≤_}
 use lib.ListN.{length}
 use borrow.Author.Needs.{needs}
-use Rattle.drive.proofs.nets.put_counts.Statement.{statement}
-use Rattle.drive.proofs.nets.put_counts.Tie as tie
+use Rattle.nets.proofs.put_counts.Statement.{statement}
+use Rattle.nets.proofs.put_counts.Tie as tie
 
 abbrev Inv-loop : tie.InvT-loop
 Inv-loop out₀ n counts used at₀ i₀ out at i = (i ≤ used) × (length out ≡ length out₀)

@@ -1,4 +1,4 @@
-// Networks in requests and answers: `n m k ; counts ; words`.
+// Networks in requests and answers: `n m k ; counts ; words`. As in wire, safety and an end are all that is promised here.
 ghost use Prim.Native.Nat.{_≤_};
 use network::Network;
 use network::Number;
@@ -6,19 +6,19 @@ use wire::Groups;
 use wire::Taken;
 
 // Three numbers, if that is what was given.
-pub struct Sizes {
+struct Sizes {
     pub ok: bool,
     pub inputs: u64,
     pub outputs: u64,
     pub divisors: u64,
 }
 
-pub struct Counts {
+struct Counts {
     pub ok: bool,
     pub counts: [usize; 96],
 }
 
-pub struct Words {
+struct Words {
     pub ok: bool,
     pub words: [u64; 2176],
 }
@@ -119,7 +119,7 @@ pub fn read_net(line: &[u8], g: Groups) -> Given {
 
 // ---- answers
 
-pub fn put_counts(out: &mut [u8], n: usize, counts: &[usize], used: usize) -> usize {
+fn put_counts(out: &mut [u8], n: usize, counts: &[usize], used: usize) -> usize {
     let mut at = n;
     let mut i = 0;
     while i < used {
@@ -133,7 +133,7 @@ pub fn put_counts(out: &mut [u8], n: usize, counts: &[usize], used: usize) -> us
 }
 
 // The cubes that the counts in use name.
-pub fn cubes_in(counts: &[usize], used: usize) -> usize
+fn cubes_in(counts: &[usize], used: usize) -> usize
     ensures { λ r. ⌜ r ≤ 1088 ⌝ }
 {
     let mut sum: usize = 0;
