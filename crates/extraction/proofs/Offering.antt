@@ -16,7 +16,7 @@ use Rattle.expression.specs.Expression.{expression}
 use Rattle.expression.proofs.Absorbing.{loose-in}
 use Rattle.network.specs.Net.{Net, nodes}
 use Rattle.extraction.specs.Divisor.{Divisor, pair, sum, own, small, sound}
-use Rattle.extraction.specs.Extract.{gather, pairsIn, ordered, sumOf, sumsIn, candidates}
+use Rattle.extraction.specs.Extract.{gather, pairsIn, smallerFirst, sumOf, sumsIn, candidates}
 use Rattle.extraction.specs.Meaning.{Good, other, Used, Divides, Fit}
 use Rattle.extraction.specs.Meaning.Divides.{literals, parts}
 use Rattle.extraction.proofs.Using.{cube-asc, cube-proper, sum-parts, apart-flip, small-sub, use-out}
@@ -79,14 +79,14 @@ sums-made (g ∷ f) {c} {e} d m n k i j = go (List·Memᴰ·cases-cons m) (List�
 -- the sum of two cubes, whichever part is smaller
 sum-of-in : (c e : List ℕ) → small (without c e) ≡ true → small (without e c) ≡ true → before (without c e) (without e c) ≡ true
     → (sum (without c e) (without e c) ∈ sumOf c e) × (sum (without c e) (without e c) ∈ sumOf e c)
-unfolding sumOf ordered
+unfolding sumOf smallerFirst
 sum-of-in c e sc se l = (rw (sc, se, l) (here refl), rw (sc, se, asym before before-order (without c e) (without e c) l) (here refl))
 
 -- and what it is
 pub sum-of-out : (c e : List ℕ) (d : Divisor) → d ∈ sumOf c e
     → (small (without c e) ≡ true) × (small (without e c) ≡ true)
     × (((d ≡ sum (without c e) (without e c)) × (before (without c e) (without e c) ≡ true)) ⊎ ((d ≡ sum (without e c) (without c e)) × (before (without c e) (without e c) ≡ false)))
-unfolding sumOf ordered
+unfolding sumOf smallerFirst
 sum-of-out c e d m = go (small (without c e)) (small (without e c)) refl refl m
   where
     turn : (t : Bool) → before (without c e) (without e c) ≡ t → d ≡ cond t (sum (without c e) (without e c)) (sum (without e c) (without c e))

@@ -38,12 +38,12 @@ pairsIn [] = []
 pairsIn (p ∷ c) = map (pair p) c ++ pairsIn c
 
 -- a sum with its smaller part first
-unfoldable pub ordered : List ℕ → List ℕ → Divisor
-ordered a b = cond (before a b) (sum a b) (sum b a)
+unfoldable pub smallerFirst : List ℕ → List ℕ → Divisor
+smallerFirst a b = cond (before a b) (sum a b) (sum b a)
 
 -- what two cubes are without their common base, where both parts have one or two literals
 unfoldable pub sumOf : List ℕ → List ℕ → List Divisor
-sumOf c d = cond (small (without c d) && small (without d c)) (ordered (without c d) (without d c) ∷ []) []
+sumOf c d = cond (small (without c d) && small (without d c)) (smallerFirst (without c d) (without d c) ∷ []) []
 
 unfoldable pub sumsIn : List (List ℕ) → List Divisor
 sumsIn [] = []
