@@ -65,8 +65,8 @@ fn accept_divisor(d: &[u64]) -> Verdict
 fn admit(f: &[u64], d: &[u64]) -> Verdict
     ensures { λ r. ⌜ refusalOf r ≡ admitted (now (f .entry)) (now (d .entry)) ⌝ }
 {
-    let a = expression::accept(f);
-    let b = expression::accept(d);
+    let a = accepting::accept(f);
+    let b = accepting::accept(d);
     let both = lesser(a, b);
     let empty = accept_divisor(d);
     first_of(both, empty)
@@ -92,7 +92,7 @@ fn copy_sorted(s: &[u64], to: &mut [u64]) -> usize
     ensures { λ r. ⌜ Listed (now (to .entry)) (now (to .exit)) r (sort (cubesOf (now (s .entry)))) ⌝ }
 {
     let n = copy(s, to);
-    expression::sort_part(to, 0, n);
+    sorting::sort_part(to, 0, n);
     n
 }
 
@@ -113,10 +113,10 @@ fn fits(f: &[u64], c: Cube, b: Cube) -> bool
     requires { ⌜ ordered (cubesOf (now f)) ≡ true ⌝ }
     ensures { λ r. ⌜ r ≡ (apart (lits c) (lits b) && has (union (lits c) (lits b)) (cubesOf (now (f .entry)))) ⌝ }
 {
-    if !cube::is_empty(cube::common(c, b)) {
+    if !cubes::is_empty(cubes::common(c, b)) {
         return false;
     }
-    holds(f, cube::union(c, b))
+    holds(f, cubes::union(c, b))
 }
 
 // Whether c fits each cube of d.
@@ -146,10 +146,10 @@ fn list_quotient(f: &[u64], d: &[u64], to: &mut [u64]) -> usize
     while i < n {
         let e = expression::cube_at(f, i);
         i += 1;
-        if !cube::contains(e, first) {
+        if !cubes::contains(e, first) {
             continue;
         }
-        let c = cube::without(e, first);
+        let c = cubes::without(e, first);
         if !fits_all(f, d, c) {
             continue;
         }
@@ -165,7 +165,7 @@ fn list_quotient_sorted(f: &[u64], d: &[u64], to: &mut [u64]) -> usize
     ensures { λ r. ⌜ Listed (now (to .entry)) (now (to .exit)) r (sort (divisors (cubesOf (now (f .entry))) (cubesOf (now (d .entry))))) ⌝ }
 {
     let k = list_quotient(f, d, to);
-    expression::sort_part(to, 0, k);
+    sorting::sort_part(to, 0, k);
     k
 }
 
@@ -174,10 +174,10 @@ fn is_made_with(q: &[u64], b: Cube, e: Cube) -> bool
     requires { ⌜ ordered (cubesOf (now q)) ≡ true ⌝ }
     ensures { λ r. ⌜ r ≡ (sub (lits b) (lits e) && has (without (lits e) (lits b)) (cubesOf (now (q .entry)))) ⌝ }
 {
-    if !cube::contains(e, b) {
+    if !cubes::contains(e, b) {
         return false;
     }
-    holds(q, cube::without(e, b))
+    holds(q, cubes::without(e, b))
 }
 
 // Whether that is so of no cube of d.

@@ -66,14 +66,14 @@ fn put_product(o: &mut [u8], at: usize, c: Cube) -> usize
     requires { ⌜ Countable at (cubeText (lits c)) ⌝ }
     ensures { λ r. ⌜ Laid (now (o .entry)) (now (o .exit)) at r (cubeText (lits c)) ⌝ }
 {
-    let first = cube::first_from(c, Literal(0));
+    let first = order::first_from(c, Literal(0));
     let Found::At(l) = first else {
         return put(o, at, b'1');
     };
     let mut p = put_literal(o, at, l);
     let mut from = l.0 + 1;
     loop {
-        let found = cube::first_from(c, Literal(from));
+        let found = order::first_from(c, Literal(from));
         let Found::At(m) = found else {
             return p;
         };
@@ -149,7 +149,7 @@ fn gather(w: &mut [u64], spare: &mut [u64], a: usize, e: usize, l: Literal) -> u
     while i < e {
         let c = expression::cube_at(w, i);
         if cube::has(c, l) {
-            expression::put_cube(w, m, cube::without(c, one));
+            expression::put_cube(w, m, cubes::without(c, one));
             m += 1;
         } else {
             expression::put_cube(spare, i - m, c);
@@ -232,7 +232,7 @@ fn text(f: &[u64], o: &mut [u8]) -> usize
     let mut spare = [0u64; WORDS];
     let n = expression::number(f);
     copy(&mut w, f, 0, n);
-    expression::sort_part(&mut w, 0, n);
+    sorting::sort_part(&mut w, 0, n);
     sum(&mut w, &mut spare, 0, n, o, 0)
 }
 
@@ -240,7 +240,7 @@ fn text(f: &[u64], o: &mut [u8]) -> usize
 pub fn factored(f: &[u64], o: &mut [u8]) -> Wrote
     ensures { λ a. ⌜ Told (refusedBy (now (f .entry)) (now (o .entry))) (now (f .entry)) (now (o .entry)) (now (o .exit)) a ⌝ }
 {
-    let v = expression::accept(f);
+    let v = accepting::accept(f);
     if let Verdict::Refused(k) = v {
         return Wrote::Refused(k);
     }

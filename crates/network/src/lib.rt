@@ -97,7 +97,7 @@ fn all_in(f: &[u64], k: Cube) -> bool
 {
     let mut i = 0;
     while i < expression::number(f) {
-        if !cube::contains(k, expression::cube_at(f, i)) {
+        if !cubes::contains(k, expression::cube_at(f, i)) {
             return false;
         }
         i += 1;
@@ -111,7 +111,7 @@ fn any_in(f: &[u64], k: Cube) -> bool
 {
     let mut i = 0;
     while i < expression::number(f) {
-        if cube::contains(k, expression::cube_at(f, i)) {
+        if cubes::contains(k, expression::cube_at(f, i)) {
             return true;
         }
         i += 1;
@@ -240,7 +240,7 @@ fn all_expressions(words: &[u64], counts: &[usize], e: usize) -> bool
 {
     let mut i = 0;
     while i < e {
-        if !expression::is_expression(node(words, counts, i)) {
+        if !accepting::is_expression(node(words, counts, i)) {
             return false;
         }
         i += 1;

@@ -308,8 +308,8 @@ fn fill_output(
     ensures { λ r. ⌜ Filled (formed (now (words .entry)) (now (marks .entry)) kept j) (now (out .entry)) (now (out .exit)) at r ⌝ }
 {
     let n = collect(words, marks, kept, j, out, at);
-    let k = expression::absorb_part(out, at, at + n);
-    expression::sort_part(out, at, at + k);
+    let k = absorbing::absorb_part(out, at, at + n);
+    sorting::sort_part(out, at, at + k);
     clear(out, at + k, at + n);
     k
 }

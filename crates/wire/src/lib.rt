@@ -304,9 +304,9 @@ fn put_digit(out: &mut [u8], n: usize, d: u64, is_shown: bool) -> usize {
     n
 }
 
-// A blank and the number.
-pub fn put_number(out: &mut [u8], n: usize, x: u64) -> usize {
-    let mut at = put(out, n, b' ');
+// The number in hex.
+pub fn put_hex(out: &mut [u8], n: usize, x: u64) -> usize {
+    let mut at = n;
     let mut k: u32 = 15;
     let mut begun = false;
     while k > 0 {
@@ -316,6 +316,12 @@ pub fn put_number(out: &mut [u8], n: usize, x: u64) -> usize {
         k -= 1;
     }
     put(out, at, glyph(x))
+}
+
+// A blank and the number.
+pub fn put_number(out: &mut [u8], n: usize, x: u64) -> usize {
+    let at = put(out, n, b' ');
+    put_hex(out, at, x)
 }
 
 pub fn put_numbers(out: &mut [u8], n: usize, s: &[u64]) -> usize {

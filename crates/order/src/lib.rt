@@ -1,0 +1,92 @@
+// The literals of a cube in turn, and the order of cubes.
+use cube::Cube;
+use cube::Found;
+use cube::Literal;
+use cube::Order;
+ghost use mathlib.Core.Path.{_≡_};
+ghost use Prim.Native.Nat.{_*_};
+ghost use Rattle.sets.specs.Lists.{isSome};
+ghost use Rattle.sets.specs.Sets.{firstFrom};
+ghost use Rattle.sets.specs.Masks.{Lowest};
+ghost use Rattle.cube.specs.Cube.{lits, answer, orderOf};
+
+// The place of the lowest bit.
+fn lowest(m: u64) -> u32
+    requires { ⌜ (m ≡ 0 → ⊥) ⌝ }
+    ensures { λ r. ⌜ Lowest 64 m r ⌝ }
+{
+    u64::trailing_zeros(m)
+}
+
+// The first literal of the variables from v on.
+fn first_at(c: Cube, v: u32) -> Found
+    ensures { λ r. ⌜ answer r ≡ firstFrom (2 * v) (lits c) ⌝ }
+{
+    if v >= cube::VARIABLES {
+        return Found::Nothing;
+    }
+    let p = c.plain >> v;
+    let n = c.negated >> v;
+    let m = p | n;
+    if m == 0 {
+        return Found::Nothing;
+    }
+    let t = lowest(m);
+    let k = v + t;
+    if (p >> t) & 1 == 1 {
+        Found::At(Literal(2 * k))
+    } else {
+        Found::At(Literal(2 * k + 1))
+    }
+}
+
+// The smallest literal that is not below l.
+pub fn first_from(c: Cube, l: Literal) -> Found
+    ensures { λ r. ⌜ answer r ≡ firstFrom (l .0) (lits c) ⌝ }
+{
+    let at = l.0;
+    if at % 2 == 0 {
+        return first_at(c, at / 2);
+    }
+    if cube::has(c, l) {
+        return Found::At(l);
+    }
+    first_at(c, at / 2 + 1)
+}
+
+// Whether there is a literal that is not below l.
+fn goes_on(c: Cube, l: Literal) -> bool
+    ensures { λ r. ⌜ r ≡ isSome (firstFrom (l .0) (lits c)) ⌝ }
+{
+    let f = first_from(c, l);
+    match f {
+        Found::At(_) => true,
+        Found::Nothing => false,
+    }
+}
+
+// The cube order. The least literal that only one cube has decides: its cube comes first, unless the other one ends before it.
+pub fn compare(a: Cube, b: Cube) -> Order
+    ensures { λ r. ⌜ r ≡ orderOf (lits a) (lits b) ⌝ }
+{
+    let x = Cube {
+        plain: a.plain ^ b.plain,
+        negated: a.negated ^ b.negated,
+    };
+    let f = first_at(x, 0);
+    match f {
+        Found::Nothing => Order::Same,
+        Found::At(d) => {
+            if cube::has(a, d) {
+                if goes_on(b, d) {
+                    return Order::Before;
+                }
+                return Order::After;
+            }
+            if goes_on(a, d) {
+                return Order::After;
+            }
+            Order::Before
+        }
+    }
+}
