@@ -35,7 +35,7 @@ module _ {A B : Type 0} where
 
 -- ---- pairs
 
-pairs-out : (c : List ℕ) → asc c ≡ true → (d : Divisor) → d ∈ pairsIn c → (p : ℕ) × (q : ℕ) × (d ≡ pair p q) × (p ∈ c) × (q ∈ c) × (p < q)
+pub pairs-out : (c : List ℕ) → asc c ≡ true → (d : Divisor) → d ∈ pairsIn c → (p : ℕ) × (q : ℕ) × (d ≡ pair p q) × (p ∈ c) × (q ∈ c) × (p < q)
 unfolding pairsIn
 pairs-out [] h d m = absurd (List·Memᴰ·not-nil m)
 pairs-out (p ∷ c) h d m = let w = ahead ltb p c h in elim (List·Memᴰ·append-cases (map (pair p) c) m) [
@@ -43,7 +43,7 @@ pairs-out (p ∷ c) h d m = let w = ahead ltb p c h in elim (List·Memᴰ·appen
   | inr i ↦ let r = pairs-out c (w .1) d i in (r .0, r .1, r .2, there (r .3), there (r .4), r .5)
 ]
 
-pairs-made : (c : List ℕ) → asc c ≡ true → {p q : ℕ} → p ∈ c → q ∈ c → p < q → pair p q ∈ pairsIn c
+pub pairs-made : (c : List ℕ) → asc c ≡ true → {p q : ℕ} → p ∈ c → q ∈ c → p < q → pair p q ∈ pairsIn c
 unfolding pairsIn
 pairs-made [] h m n l = absurd (List·Memᴰ·not-nil m)
 pairs-made (x ∷ c) h {p} {q} m n l = go (List·Memᴰ·cases-cons m) (List·Memᴰ·cases-cons n) (λ i j. pairs-made c ((ahead ltb x c h) .1) i j l)
@@ -65,7 +65,7 @@ sums-out (c ∷ f) d m = elim (List·Memᴰ·append-cases (gather (sumOf c) f) m
   | inr i ↦ let r = sums-out f d i in (r .0, r .1, there (r .2), there (r .3), r .4)
 ]
 
-sums-made : (f : List (List ℕ)) {c e : List ℕ} (d : Divisor) → c ∈ f → e ∈ f → (c ≡ e → ⊥) → d ∈ sumOf c e → d ∈ sumOf e c → d ∈ sumsIn f
+pub sums-made : (f : List (List ℕ)) {c e : List ℕ} (d : Divisor) → c ∈ f → e ∈ f → (c ≡ e → ⊥) → d ∈ sumOf c e → d ∈ sumOf e c → d ∈ sumsIn f
 unfolding sumsIn
 sums-made [] d m n k i j = absurd (List·Memᴰ·not-nil m)
 sums-made (g ∷ f) {c} {e} d m n k i j = go (List·Memᴰ·cases-cons m) (List·Memᴰ·cases-cons n) (λ p q. sums-made f d p q k i j)
@@ -77,7 +77,7 @@ sums-made (g ∷ f) {c} {e} d m n k i j = go (List·Memᴰ·cases-cons m) (List�
     go (inr p) (inr q) r = Memᴰ·append-right (gather (sumOf g) f) (r p q)
 
 -- the sum of two cubes, whichever part is smaller
-sum-of-in : (c e : List ℕ) → small (without c e) ≡ true → small (without e c) ≡ true → before (without c e) (without e c) ≡ true
+pub sum-of-in : (c e : List ℕ) → small (without c e) ≡ true → small (without e c) ≡ true → before (without c e) (without e c) ≡ true
     → (sum (without c e) (without e c) ∈ sumOf c e) × (sum (without c e) (without e c) ∈ sumOf e c)
 unfolding sumOf smallerFirst
 sum-of-in c e sc se l = (rw (sc, se, l) (here refl), rw (sc, se, asym before before-order (without c e) (without e c) l) (here refl))

@@ -1,0 +1,124 @@
+-- What the tests of the order and of a use answer, step by step. Assumes nothing.
+use Prim.Native.Nat.{ℕ, zero, suc, _<_, _≤_}
+use mathlib.Core.Path.{_≡_, refl, sym, ap, _∙_}
+use mathlib.Core.Logic.{inl, inr}
+use mathlib.Core.Bool.{Bool, true, false, not, _&&_, _||_, false≢true}
+use mathlib.Core.List.{List, [], _∷_}
+use mathlib.Core.Option.{Option, none, some}
+use native.Mathlib.Omega.{arith}
+use lib.Dec.{ltb}
+use lib.ListN.{length, getD}
+use lib.IntN.{pos, _-ℤ_}
+use lib.Signed.{mag}
+use borrow.Author.Tests.{lt-ltb, le-ltb}
+use Rattle.sets.specs.Lists.{isNil, isSome}
+use Rattle.sets.specs.Sets.{mem, sub, apart, union, without, meet, lex, before}
+use Rattle.sets.proofs.Truth.{iff, decided}
+use Rattle.sets.proofs.Places.{at-in, in-at}
+use Rattle.sets.proofs.Ordering.{before-irrefl, before-asym}
+use Rattle.cube.specs.Cube.{orderOf}
+use Rattle.cube.specs.declared.Order.{Order}
+use Rattle.cube.specs.declared.Order.the-variants.{Before, Same, After}
+use Rattle.cube.proofs.Verdict.{Told, told-of}
+use Rattle.expression.specs.Expression.{ordered, has, findIn}
+use Rattle.expression.proofs.Searching.{find-iff}
+use Rattle.expression.proofs.Members.{has-in, has-out}
+use Rattle.extraction.specs.Divisor.{small, useOf}
+
+-- ---- weights
+
+-- a difference of two numbers below 2 ^ 31 fits
+pub difference-small : (a b k : ℕ) → a < k → b < k → mag (pos a -ℤ pos b) < k
+difference-small a zero k h g = omega arith
+difference-small a (suc b) k h g = elim (decided (ltb a (suc b))) [ inl t ↦ rw t (omega arith) | inr t ↦ rw t (omega arith) ]
+
+-- ---- orders
+
+module _ {A : Type 0} (r : A → A → Bool) (x y : A) (b : Bool) where
+  pub lex-first : r x y ≡ true → true ≡ lex r x y b
+  lex-first h = rw h
+
+  pub lex-last : r x y ≡ false → r y x ≡ true → false ≡ lex r x y b
+  lex-last h k = rw (h, k)
+
+  pub lex-tie : r x y ≡ false → r y x ≡ false → b ≡ lex r x y b
+  lex-tie h k = rw (h, k)
+
+module _ (p q r s : ℕ) where
+  pub pair-first : p < r → true ≡ before (p ∷ q ∷ []) (r ∷ s ∷ [])
+  unfolding before
+  pair-first h = rw (lt-ltb p r h)
+
+  pub pair-last : r < p → false ≡ before (p ∷ q ∷ []) (r ∷ s ∷ [])
+  unfolding before
+  pair-last h = rw (le-ltb p r (omega arith), lt-ltb r p h)
+
+  pub pair-tie : r ≤ p → p ≤ r → ltb q s ≡ before (p ∷ q ∷ []) (r ∷ s ∷ [])
+  unfolding before
+  pair-tie h k = rw (le-ltb p r h, le-ltb r p k) (go (ltb q s) (ltb s q))
+    where
+      go : (a b : Bool) → a ≡ (a || (not b && false))
+      go true b = refl
+      go false true = refl
+      go false false = refl
+
+-- what the three answers of a comparison say
+module _ (o : Order) (a b : List ℕ) (e : o ≡ orderOf a b) where
+  says : Told a b o
+  says = told-of o a b a b e refl refl
+
+  pub says-before : o ≡ Before → true ≡ before a b
+  says-before q = sym (says .first q)
+
+  pub says-same : o ≡ Same → false ≡ before a b
+  says-same q = sym (ap (before a) (sym (says .alike q)) ∙ before-irrefl a)
+
+  pub says-after : o ≡ After → false ≡ before a b
+  says-after q = sym (before-asym b a (says .last q))
+
+-- ---- parts
+
+module _ (a : List ℕ) (n : ℕ) (e : n ≡ length a) where
+  pub small-none : n < 1 → false ≡ small a
+  unfolding small
+  small-none h = rw (le-ltb 0 (length a) (omega arith))
+
+  pub small-some : 1 ≤ n → ltb n 3 ≡ small a
+  unfolding small
+  small-some h = rw (lt-ltb 0 (length a) (omega arith)) (ap (λ x. ltb x 3) e)
+
+-- ---- uses
+
+-- no common literals
+pub meet-apart : (a b : List ℕ) → isNil (meet a b) ≡ apart a b
+unfolding meet apart
+meet-apart [] b = refl
+meet-apart (x ∷ a) b = elim (decided (mem x b)) [ inl h ↦ rw h | inr h ↦ rw h (meet-apart a b) ]
+
+pub base-tested : (x y c a b : List ℕ) → x ≡ without c a → y ≡ meet x b → isNil y ≡ apart (without c a) b
+base-tested x y c a b e h = ap isNil h ∙ meet-apart x b ∙ ap (λ z. apart z b) e
+
+-- halving finds a cube exactly where it is one of them
+pub find-has : (c : List ℕ) (f : List (List ℕ)) → ordered f ≡ true → isSome (findIn c f) ≡ has c f
+find-has c f o = iff (λ h. forth (findIn c f) refl h) (λ h. back (in-at [] (has-out c f h)))
+  where
+    forth : (r : Option ℕ) → findIn c f ≡ r → isSome r ≡ true → has c f ≡ true
+    forth none e h = absurd (false≢true h)
+    forth (some i) e h = let q = (find-iff c f i o) .0 e in has-in (rw (q .1) at (at-in f i [] (q .0)))
+
+    back : (i : ℕ) × (i < length f) × (getD f i [] ≡ c) → isSome (findIn c f) ≡ true
+    back (i, h, e) = ap isSome ((find-iff c f i o) .1 (h, e))
+
+module _ (a b : List ℕ) (f : List (List ℕ)) (c : List ℕ) where
+  pub use-no-part : sub a c ≡ false → false ≡ useOf a b f c
+  unfolding useOf
+  use-no-part h = rw h
+
+  module _ (h : sub a c ≡ true) where
+    pub use-no-base : apart (without c a) b ≡ false → false ≡ useOf a b f c
+    unfolding useOf
+    use-no-base k = rw (h, k)
+
+    pub use-searched : apart (without c a) b ≡ true → ordered f ≡ true → isSome (findIn (union (without c a) b) f) ≡ useOf a b f c
+    unfolding useOf
+    use-searched k o = rw (h, k) (find-has (union (without c a) b) f o)

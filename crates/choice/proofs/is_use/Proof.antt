@@ -1,0 +1,83 @@
+-- `choice::is_use` meets its contract: a cube is searched by halving, which finds it where it is one of them. Assumes nothing.
+use mathlib.Core.Path.{_≡_, sym, _∙_, ap}
+use mathlib.Core.Bool.{true}
+use borrow.Author.Tests.{not-true, not-false}
+use Rattle.sets.specs.Lists.{isSome}
+use Rattle.sets.specs.Sets.{sub, apart, union, without}
+use Rattle.cube.specs.Cube.{lits}
+use Rattle.expression.specs.Words.{cubesOf}
+use Rattle.expression.specs.Expression.{findIn}
+use Rattle.expression.specs.Answers.{placeOf}
+use Rattle.extraction.specs.Divisor.{useOf}
+use Rattle.choice.proofs.Ties.{base-tested, use-no-part, use-no-base, use-searched}
+use borrow.Author.Needs.{needs}
+use Rattle.choice.proofs.is_use.Statement.{statement}
+use Rattle.choice.proofs.is_use.Tie as tie
+
+-- the cube contains the first part
+inside : (c : tie.Else1) → sub (lits (c .before .before .before .args .a)) (lits (c .before .before .before .args .c)) ≡ true
+inside c = sym (c .before .contains .ensures) ∙ not-false _ (c .if1 .left)
+
+-- what the test of the base says
+free : (c : tie.After-is-empty) → apart (without (lits (c .before .before .before .before .before .before .args .c)) (lits (c .before .before .before .before .before .before .args .a))) (lits (c .before .before .before .before .before .before .args .b)) ≡ c .is-empty .result
+free c = sym (c .is-empty .ensures ∙ base-tested _ _ _ _ _ (c .before .before .without .ensures) (c .before .common .ensures))
+
+-- what the search says
+searched : (c : tie.After-find) → isSome (placeOf (c .find .result)) ≡ useOf (lits (c .before .before .before .before .before .before .before .before .before .args .a)) (lits (c .before .before .before .before .before .before .before .before .before .args .b)) (cubesOf (c .before .before .before .before .before .before .before .before .before .args .s .now)) (lits (c .before .before .before .before .before .before .before .before .before .args .c))
+searched c =
+    ap isSome (c .find .ensures)
+    ∙ ap (λ z. isSome (findIn z (cubesOf (c .before .before .before .before .before .before .before .before .before .args .s .now)))) (c .before .union .ensures ∙ ap (λ z. union z (lits (c .before .before .before .before .before .before .before .before .before .args .b))) (c .before .before .before .before .before .without .ensures))
+    ∙ use-searched _ _ _ _ (inside (c .before .before .before .before .before .before)) (free (c .before .before .before) ∙ not-false _ (c .before .before .if2 .left)) (c .before .before .before .before .before .before .before .before .before .pre)
+
+contains-requires : tie.Need-contains-requires
+contains-requires c κs = search needs
+
+returns : tie.Need-returns
+returns c = use-no-part _ _ _ _ (sym (c .before .contains .ensures) ∙ not-true _ (c .if1 .taken))
+
+without-requires : tie.Need-without-requires
+without-requires c κs = search needs
+
+common-requires : tie.Need-common-requires
+common-requires c κs = search needs
+
+is-empty-requires : tie.Need-is-empty-requires
+is-empty-requires c κs = search needs
+
+returns-2 : tie.Need-returns-2
+returns-2 c = use-no-base _ _ _ _ (inside (c .before .before .before .before)) (free (c .before) ∙ not-true _ (c .if2 .taken))
+
+union-requires : tie.Need-union-requires
+union-requires c κs = search needs
+
+find-requires : tie.Need-find-requires
+find-requires c κs = search needs
+
+enum-told : tie.Need-enum-told
+enum-told c = search needs
+
+enum-told-2 : tie.Need-enum-told-2
+enum-told-2 c = search needs
+
+returns-3 : tie.Need-returns-3
+returns-3 c = ap (λ p. isSome (placeOf p)) (sym (c .enum-told .given .1)) ∙ searched (c .before .before)
+
+returns-4 : tie.Need-returns-4
+returns-4 c = ap (λ p. isSome (placeOf p)) (sym (c .enum-told2 .given .1)) ∙ searched (c .before .before)
+
+pub is-use-spec : {M : Type 1} → statement M
+is-use-spec =
+    tie.close
+    (tie.spec
+    contains-requires
+    returns
+    without-requires
+    common-requires
+    is-empty-requires
+    returns-2
+    union-requires
+    find-requires
+    enum-told
+    enum-told-2
+    returns-3
+    returns-4)

@@ -1,0 +1,441 @@
+// Divisors, and the choice of the best one.
+use cube::Cube;
+use cube::Literal;
+use cube::Order;
+use expression::Place;
+use network::Network;
+ghost use mathlib.Core.Path.{_≡_};
+ghost use mathlib.Core.Bool.{true};
+ghost use mathlib.Core.List.{[], _∷_, map};
+ghost use Prim.Native.Nat.{_+_, _-_, _<_, _≤_};
+ghost use lib.Signed.{ltZ};
+ghost use lib.ListN.{length, take};
+ghost use Rattle.sets.specs.Lists.{any, keep, from, total};
+ghost use Rattle.sets.specs.Sets.{sub, before, lex};
+ghost use Rattle.cube.specs.Cube.{lits};
+ghost use Rattle.expression.specs.Words.{cubesOf};
+ghost use Rattle.expression.specs.Expression.{ordered};
+ghost use Rattle.network.specs.Net.{Net};
+ghost use Rattle.network.specs.Held.{mostCubes};
+ghost use Rattle.network.specs.Parts.{nodesOf};
+ghost use Rattle.extraction.specs.Divisor.{pair, sum, small, useOf};
+ghost use Rattle.extraction.specs.Extract.{gather, pairsIn, sumOf, sumsIn, candidates, sooner};
+ghost use Rattle.extraction.specs.Meaning.{Parts};
+ghost use Rattle.choice.specs.Choice.{divisorOf, noStep, Chosen, chosenIn};
+ghost use Rattle.choice.specs.Parts.{stepOf, taken, Leads, Adds, Nodes, Cubes, Orderly, Counts};
+
+// Literals of a cube are below this.
+const LITERALS: u32 = 128;
+
+// A pair of literals, the smaller first, or a sum of two parts that are cubes, the one that is first in cube order first.
+pub enum Divisor {
+    Pair(Literal, Literal),
+    Sum(Cube, Cube),
+}
+
+// A step: its divisor, what the divisor weighs, and its uses.
+pub struct Step {
+    pub divisor: Divisor,
+    pub weight: i32,
+    pub uses: u32,
+}
+
+// The uses of a sum, and the literals in their bases.
+struct Counted {
+    uses: u32,
+    literals: u32,
+}
+
+// ---- steps and their order
+
+// The step of zeros.
+fn no_step() -> Step
+    ensures { λ r. ⌜ r ≡ noStep ⌝ }
+{
+    Step {
+        divisor: Divisor::Pair(Literal(0), Literal(0)),
+        weight: 0,
+        uses: 0,
+    }
+}
+
+// A step whose weight is a difference, which may be below 0.
+fn step_of(divisor: Divisor, gain: u32, cost: u32, uses: u32) -> Step
+    requires { ⌜ (gain < 2147483648) × (cost < 2147483648) ⌝ }
+    ensures { λ r. ⌜ r ≡ stepOf divisor gain cost uses ⌝ }
+{
+    Step {
+        divisor,
+        weight: gain as i32 - cost as i32,
+        uses,
+    }
+}
+
+fn is_heavier(s: Step, t: Step) -> bool
+    ensures { λ r. ⌜ r ≡ ltZ (t .weight) (s .weight) ⌝ }
+{
+    s.weight > t.weight
+}
+
+fn is_before(a: Cube, b: Cube) -> bool
+    ensures { λ r. ⌜ r ≡ before (lits a) (lits b) ⌝ }
+{
+    let o = order::compare(a, b);
+    match o {
+        Order::Before => true,
+        Order::Same => false,
+        Order::After => false,
+    }
+}
+
+// The smaller first literal first, then the second.
+fn is_pair_before(p: Literal, q: Literal, r: Literal, s: Literal) -> bool
+    ensures { λ x. ⌜ x ≡ before (p .0 ∷ q .0 ∷ []) (r .0 ∷ s .0 ∷ []) ⌝ }
+{
+    if p.0 < r.0 {
+        return true;
+    }
+    if r.0 < p.0 {
+        return false;
+    }
+    q.0 < s.0
+}
+
+// The smaller first part first, then the second.
+fn is_sum_before(a: Cube, b: Cube, c: Cube, d: Cube) -> bool
+    ensures { λ r. ⌜ r ≡ lex before (lits a) (lits c) (before (lits b) (lits d)) ⌝ }
+{
+    if is_before(a, c) {
+        return true;
+    }
+    if is_before(c, a) {
+        return false;
+    }
+    is_before(b, d)
+}
+
+// On a tie pairs before sums, then the smaller literal or part first, then the second.
+fn is_sooner(d: Divisor, e: Divisor) -> bool
+    ensures { λ r. ⌜ r ≡ sooner (divisorOf d) (divisorOf e) ⌝ }
+{
+    match d {
+        Divisor::Pair(p, q) => match e {
+            Divisor::Pair(r, s) => is_pair_before(p, q, r, s),
+            Divisor::Sum(_, _) => true,
+        },
+        Divisor::Sum(a, b) => match e {
+            Divisor::Pair(_, _) => false,
+            Divisor::Sum(c, f) => is_sum_before(a, b, c, f),
+        },
+    }
+}
+
+// The better of the step that is held and a new one. No weight of 0 or less is taken, even where it is the greatest.
+fn better_of(held: Step, s: Step) -> Step
+    ensures { λ r. ⌜ r ≡ taken held s ⌝ }
+{
+    if !is_heavier(s, no_step()) {
+        return held;
+    }
+    if is_heavier(s, held) {
+        return s;
+    }
+    if is_heavier(held, s) {
+        return held;
+    }
+    let d = s.divisor;
+    let e = held.divisor;
+    if is_sooner(d, e) {
+        return s;
+    }
+    held
+}
+
+// ---- pairs
+
+// The number of cubes that contain k.
+fn holders(s: &[u64], k: Cube) -> u32
+    requires { ⌜ length (cubesOf (now s)) ≤ mostCubes ⌝ }
+    ensures { λ r. ⌜ r ≡ length (keep (sub (lits k)) (cubesOf (now (s .entry)))) ⌝ }
+{
+    let mut r: u32 = 0;
+    let mut i = 0;
+    while i < expression::number(s) {
+        if cubes::contains(expression::cube_at(s, i), k) {
+            r += 1;
+        }
+        i += 1;
+    }
+    r
+}
+
+// A pair is judged: its uses are the cubes, of any node, that contain both literals.
+fn judge_pair(s: &[u64], p: u32, q: u32, held: Step) -> Step
+    requires { ⌜ (length (cubesOf (now s)) ≤ mostCubes) × (p < q) × (q < 128) ⌝ }
+    ensures { λ r. ⌜ Adds (Cubes (cubesOf (now (s .entry)))) [] (pair p q ∷ []) held r ⌝ }
+{
+    let k = cube::with(cube::with(cube::empty(), Literal(p)), Literal(q));
+    let uses = holders(s, k);
+    let d = Divisor::Pair(Literal(p), Literal(q));
+    better_of(held, step_of(d, uses, 2, uses))
+}
+
+// The pairs of p and a greater literal. A literal of two cubes or fewer has none of a weight above 0.
+fn judge_pairs_of(s: &[u64], p: u32, held: Step) -> Step
+    requires { ⌜ (length (cubesOf (now s)) ≤ mostCubes) × (p < 128) ⌝ }
+    ensures { λ r. ⌜ Adds (Cubes (cubesOf (now (s .entry)))) [] (map (pair p) (from (p + 1) (127 - p))) held r ⌝ }
+{
+    if holders(s, cube::with(cube::empty(), Literal(p))) <= 2 {
+        return held;
+    }
+    let mut r = held;
+    let mut q = LITERALS;
+    while q > p + 1 {
+        q -= 1;
+        r = judge_pair(s, p, q, r);
+    }
+    r
+}
+
+// All pairs of literals.
+fn judge_pairs(s: &[u64], held: Step) -> Step
+    requires { ⌜ length (cubesOf (now s)) ≤ mostCubes ⌝ }
+    ensures { λ r. ⌜ Adds (Cubes (cubesOf (now (s .entry)))) [] (pairsIn (from 0 128)) held r ⌝ }
+{
+    let mut r = held;
+    let mut p = LITERALS;
+    while p > 0 {
+        p -= 1;
+        r = judge_pairs_of(s, p, r);
+    }
+    r
+}
+
+// ---- sums
+
+// Whether c is base and a, of a base that shares no literal with b, and base and b is a cube too.
+fn is_use(s: &[u64], c: Cube, a: Cube, b: Cube) -> bool
+    requires { ⌜ ordered (cubesOf (now s)) ≡ true ⌝ }
+    ensures { λ r. ⌜ r ≡ useOf (lits a) (lits b) (cubesOf (now (s .entry))) (lits c) ⌝ }
+{
+    if !cubes::contains(c, a) {
+        return false;
+    }
+    let base = cubes::without(c, a);
+    if !cubes::is_empty(cubes::common(base, b)) {
+        return false;
+    }
+    let f = expression::find(s, cubes::union(base, b));
+    match f {
+        Place::At(_) => true,
+        Place::Nothing => false,
+    }
+}
+
+// The uses of a sum in one node.
+fn count_in(s: &[u64], a: Cube, b: Cube) -> Counted
+    requires { ⌜ (length (cubesOf (now s)) ≤ mostCubes) × (ordered (cubesOf (now s)) ≡ true) ⌝ }
+    ensures { λ r. ⌜ Counts (lits a) (lits b) (cubesOf (now (s .entry)) ∷ []) (r .uses) (r .literals) ⌝ }
+{
+    let mut uses: u32 = 0;
+    let mut literals: u32 = 0;
+    let mut i = 0;
+    while i < expression::number(s) {
+        let c = expression::cube_at(s, i);
+        if is_use(s, c, a, b) {
+            uses += 1;
+            literals += cubes::count(cubes::without(c, a));
+        }
+        i += 1;
+    }
+    Counted { uses, literals }
+}
+
+// The uses of a sum in all nodes, the same base in two nodes twice.
+fn count_all(words: &[u64], counts: &[usize], e: usize, a: Cube, b: Cube) -> Counted
+    requires { ⌜ Orderly (now words) (now counts) e ⌝ }
+    ensures { λ r. ⌜ Counts (lits a) (lits b) (nodesOf e (now (counts .entry)) (now (words .entry))) (r .uses) (r .literals) ⌝ }
+{
+    let mut uses: u32 = 0;
+    let mut literals: u32 = 0;
+    let mut at = 0;
+    let mut i = 0;
+    while i < e {
+        let next = at + counts[i];
+        let t = count_in(expression::part(words, at, next), a, b);
+        uses += t.uses;
+        literals += t.literals;
+        at = next;
+        i += 1;
+    }
+    Counted { uses, literals }
+}
+
+// Whether the cubes have a use of a sum.
+fn is_used(s: &[u64], a: Cube, b: Cube) -> bool
+    requires { ⌜ ordered (cubesOf (now s)) ≡ true ⌝ }
+    ensures { λ r. ⌜ r ≡ any (useOf (lits a) (lits b) (cubesOf (now (s .entry)))) (cubesOf (now (s .entry))) ⌝ }
+{
+    let mut i = 0;
+    while i < expression::number(s) {
+        if is_use(s, expression::cube_at(s, i), a, b) {
+            return true;
+        }
+        i += 1;
+    }
+    false
+}
+
+// A sum is judged: (literals in all bases) + uses·(s - 1) - s, with s literals in its parts.
+fn judge_sum(words: &[u64], counts: &[usize], e: usize, a: Cube, b: Cube, held: Step) -> Step
+    requires { ⌜ Orderly (now words) (now counts) e × (small (lits a) ≡ true) × (small (lits b) ≡ true) ⌝ }
+    ensures { λ r. ⌜ Adds (Nodes (nodesOf e (now (counts .entry)) (now (words .entry)))) [] (sum (lits a) (lits b) ∷ []) held r ⌝ }
+{
+    let t = count_all(words, counts, e, a, b);
+    let s = cubes::count(a) + cubes::count(b);
+    let uses = t.uses;
+    let gain = t.literals + uses * (s - 1);
+    better_of(held, step_of(Divisor::Sum(a, b), gain, s, uses))
+}
+
+// The same, unless the cubes of s have a use of the sum: then it is judged among theirs.
+fn judge_new(
+    words: &[u64],
+    counts: &[usize],
+    e: usize,
+    s: &[u64],
+    a: Cube,
+    b: Cube,
+    held: Step,
+) -> Step
+    requires { ⌜ Orderly (now words) (now counts) e × (ordered (cubesOf (now s)) ≡ true) × Parts (lits a) (lits b) ⌝ }
+    ensures { λ r. ⌜ Adds (Nodes (nodesOf e (now (counts .entry)) (now (words .entry)))) (sumsIn (cubesOf (now (s .entry)))) (sum (lits a) (lits b) ∷ []) held r ⌝ }
+{
+    if is_used(s, a, b) {
+        return held;
+    }
+    judge_sum(words, counts, e, a, b, held)
+}
+
+// One or two literals.
+fn is_small(a: Cube) -> bool
+    ensures { λ r. ⌜ r ≡ small (lits a) ⌝ }
+{
+    let n = cubes::count(a);
+    if n < 1 {
+        return false;
+    }
+    n < 3
+}
+
+// The sum of two cubes without their common base, if both parts are small: the smaller part first.
+fn judge_two(
+    words: &[u64],
+    counts: &[usize],
+    e: usize,
+    s: &[u64],
+    c: Cube,
+    d: Cube,
+    held: Step,
+) -> Step
+    requires { ⌜ Orderly (now words) (now counts) e × (ordered (cubesOf (now s)) ≡ true) ⌝ }
+    ensures { λ r. ⌜ Adds (Nodes (nodesOf e (now (counts .entry)) (now (words .entry)))) (sumsIn (cubesOf (now (s .entry)))) (sumOf (lits c) (lits d)) held r ⌝ }
+{
+    let a = cubes::without(c, d);
+    let b = cubes::without(d, c);
+    if !is_small(a) {
+        return held;
+    }
+    if !is_small(b) {
+        return held;
+    }
+    if is_before(a, b) {
+        return judge_new(words, counts, e, s, a, b, held);
+    }
+    judge_new(words, counts, e, s, b, a, held)
+}
+
+// The sums of the cube c and each cube of s, where those of two cubes of s are judged.
+fn judge_sums_of(words: &[u64], counts: &[usize], e: usize, s: &[u64], c: Cube, held: Step) -> Step
+    requires { ⌜ Orderly (now words) (now counts) e × (ordered (cubesOf (now s)) ≡ true) ⌝ }
+    ensures { λ r. ⌜ Adds (Nodes (nodesOf e (now (counts .entry)) (now (words .entry)))) (sumsIn (cubesOf (now (s .entry)))) (gather (sumOf (lits c)) (cubesOf (now (s .entry)))) held r ⌝ }
+{
+    let mut r = held;
+    let mut j = expression::number(s);
+    while j > 0 {
+        j -= 1;
+        r = judge_two(words, counts, e, s, c, expression::cube_at(s, j), r);
+    }
+    r
+}
+
+// The sums of two cubes of one node.
+fn judge_sums_in(words: &[u64], counts: &[usize], e: usize, s: &[u64], held: Step) -> Step
+    requires { ⌜ Orderly (now words) (now counts) e × (ordered (cubesOf (now s)) ≡ true) ⌝ }
+    ensures { λ r. ⌜ Adds (Nodes (nodesOf e (now (counts .entry)) (now (words .entry)))) [] (sumsIn (cubesOf (now (s .entry)))) held r ⌝ }
+{
+    let n = expression::number(s);
+    let mut r = held;
+    let mut i = n;
+    while i > 0 {
+        let rest = expression::part(s, i, n);
+        i -= 1;
+        r = judge_sums_of(words, counts, e, rest, expression::cube_at(s, i), r);
+    }
+    r
+}
+
+// All sums of two cubes of one node; the nodes have t cubes.
+fn judge_sums(words: &[u64], counts: &[usize], e: usize, t: usize, held: Step) -> Step
+    requires { ⌜ Orderly (now words) (now counts) e × (t ≡ total (λ c. c) (take e (now counts))) ⌝ }
+    ensures { λ r. ⌜ Adds (Nodes (nodesOf e (now (counts .entry)) (now (words .entry)))) [] (gather sumsIn (nodesOf e (now (counts .entry)) (now (words .entry)))) held r ⌝ }
+{
+    let mut r = held;
+    let mut end = t;
+    let mut k = e;
+    while k > 0 {
+        k -= 1;
+        let at = end - counts[k];
+        r = judge_sums_in(words, counts, e, expression::part(words, at, end), r);
+        end = at;
+    }
+    r
+}
+
+// ---- the choice
+
+// The number of cubes of e nodes.
+fn cubes_of(counts: &[usize], e: usize) -> usize
+    requires { ⌜ (e ≤ length (now counts)) × (total (λ c. c) (take e (now counts)) ≤ mostCubes) ⌝ }
+    ensures { λ r. ⌜ r ≡ total (λ c. c) (take e (now (counts .entry))) ⌝ }
+{
+    let mut sum = 0;
+    let mut j = 0;
+    while j < e {
+        sum += counts[j];
+        j += 1;
+    }
+    sum
+}
+
+// The best of all pairs and sums.
+fn choose(words: &[u64], counts: &[usize], e: usize) -> Step
+    requires { ⌜ Orderly (now words) (now counts) e ⌝ }
+    ensures { λ r. ⌜ ((n : Net) → Nodes (nodesOf e (now (counts .entry)) (now (words .entry))) n → Leads n (candidates n) r) ⌝ }
+{
+    let t = cubes_of(counts, e);
+    let r = judge_pairs(expression::part(words, 0, t), no_step());
+    judge_sums(words, counts, e, t, r)
+}
+
+// The best divisor of a network in cube order, if its weight is above 0; else a step of zeros.
+pub fn best(n: Network) -> Step
+    ensures { λ r. ⌜ Chosen (chosenIn n) r ⌝ }
+{
+    if !tidy::is_arranged(n) {
+        return no_step();
+    }
+    let words = n.words;
+    let counts = n.counts;
+    choose(&words, &counts, n.outputs + n.divisors)
+}

@@ -1,0 +1,244 @@
+-- How a run goes: the steps listed so far, and then a run of the steps left from the network that they led to. Assumes nothing.
+use Prim.Native.Nat.{ℕ, zero, suc, _+_, _-_, _<_, _≤_}
+use mathlib.Core.Path.{_≡_, refl, sym, ap, ap₂, _∙_, subst}
+use mathlib.Core.Bool.{true, false}
+use mathlib.Core.List.{List, [], _∷_, _++_, map, map-append, append-assoc, append-nil}
+use mathlib.Core.Option.{some}
+use native.Mathlib.Numerals.{add-one}
+use native.Mathlib.Omega.{arith}
+use lib.IntN.{ℤ, pos, negsuc}
+use lib.ListN.{length, take, drop, set, replicate, length-set, length-map, length-replicate}
+use lib.Seq.{length-take-le, take-suc-set, drop-set-lt, drop-drop}
+use lib.Signed.{leZ, ltZ}
+use borrow.Author.Tests.{leb-true, leb-false, le-ltb, lt-ltb}
+use Rattle.sets.proofs.Truth.{clash}
+use Rattle.sets.proofs.Lists.{_∈_}
+use Rattle.network.specs.Net.{Net, nodes, variables, cubeCount}
+use Rattle.network.specs.Held.{netOf, rules, mostVariables, mostCubes}
+use Rattle.network.specs.Handed.{Holds}
+use Rattle.network.specs.declared.Network.{Network}
+use Rattle.network.proofs.Holding.{rules-outputs, rules-divisors, rules-iff}
+use Rattle.network.proofs.Handing.{holds-net}
+use Rattle.extraction.specs.Divisor as extraction
+use Rattle.extraction.specs.Extract.{step}
+use Rattle.extraction.specs.Run.{Made, made, Result, Move, finished, take as taking, done, asked, move, ended, runFrom}
+use Rattle.extraction.specs.Meaning.{Good, Within, Worth, Allows, Leads}
+use Rattle.extraction.specs.Meaning.Allows.{nothing, noNumber, noRows, next}
+use Rattle.extraction.specs.Meaning.Leads.{stay, onward}
+use Rattle.extraction.proofs.Running.{from-none, from-finished, from-stuck, from-take}
+use Rattle.extraction.proofs.Moving.{worth-done, move-iff}
+use Rattle.extraction.proofs.Making.{step-variables}
+use Rattle.extraction.proofs.Stepping.{step-good, step-ordered}
+use Rattle.extraction.proofs.Keeping.{leads-outputs, leads-fewer}
+use Rattle.extraction.proofs.Following.{rules-good, rules-within, holds-rules}
+use Rattle.tidy.proofs.Arranged.{arranged-in}
+use Rattle.choice.specs.Choice.{divisorOf, madeOf, noStep, chosenIn, Chosen}
+use Rattle.choice.specs.declared.Step.{Step}
+use Rattle.replace.specs.Replace.{outcome, Stepped}
+use Rattle.replace.specs.declared.Outcome.the-variants as Outcome
+use Rattle.replace.specs.declared.Next.{Next}
+use Rattle.extract.specs.Answers.{stopOf, Lists, Told}
+use Rattle.extract.specs.Parts.{Ready, endedAt, reasonOf, stoppedWith}
+use Rattle.extract.specs.declared.Stop.{Stop}
+use Rattle.extract.specs.declared.Stop.the-variants.{Done, Asked}
+use Rattle.extract.proofs.Taking.{Choice, chosen-as, Taken, stepped-as}
+use Rattle.extract.proofs.Taking.Choice.{nothingLeft, oneTaken}
+use Rattle.extract.proofs.Taking.Taken.{wasMade, wasNot}
+
+-- steps, and then a run
+abbrev after : List Made → Result → Result
+after l r = record { network = r .network; stop = r .stop; steps = l ++ r .steps }
+
+-- the steps that a list has
+abbrev listed : ℕ → List Step → List Made
+listed count list = map madeOf (take count list)
+
+-- of a run of k steps from m so many steps are listed, it goes on from the network for the steps left, and s is the best step there
+pub record Going (k : ℕ) (m : Net) (list : List Step) (count left : ℕ) (net : Network) (s : Step) : Type 0 where
+  pub ready : Ready net
+  pub slots : length (net .counts) ≡ 96
+  pub words : length (net .words) ≡ 2176
+  pub few : count ≤ net .divisors
+  pub places : length list ≡ mostVariables
+  pub rest : drop count list ≡ replicate (mostVariables - count) noStep
+  pub chosen : Chosen (chosenIn net) s
+  pub goes : runFrom k m ≡ after (listed count list) (runFrom left (netOf net))
+
+pub going-first : (k : ℕ) (n : Network) (list : List Step) (s : Step) → length (n .counts) ≡ 96 → length (n .words) ≡ 2176 → Ready n
+    → list ≡ replicate mostVariables noStep → Chosen (chosenIn n) s → Going k (netOf n) list 0 k n s
+going-first k n list s a b r e c = record { ready = r; slots = a; words = b; few = omega arith; places = ap length e ∙ length-replicate mostVariables noStep; rest = e; chosen = c; goes = refl }
+
+-- a network that a run comes to
+module _ (n : Network) (slots : length (n .counts) ≡ 96) (words : length (n .words) ≡ 2176) (r : Ready n) where
+  ready-good : Good (netOf n)
+  ready-good = rules-good n slots (r .lawful)
+
+  ready-within : Within (netOf n)
+  ready-within = rules-within n slots words (r .lawful)
+
+  -- the numbers are not used up by the steps, each of which made a divisor
+  ready-few : n .divisors < mostVariables
+  ready-few = let w = rules-iff n slots .0 (r .lawful) in omega (arith, w .inputs, w .variables)
+
+  -- and the one that a step leads to
+  module _ (p : Network) (slots-p : length (p .counts) ≡ 96) (d : extraction.Divisor) (w : Worth (netOf n) d) (l : variables (netOf n) < mostVariables)
+      (k : cubeCount (step (netOf n) d) ≤ mostCubes) (t : Holds p (step (netOf n) d)) where
+    next-good : Good (step (netOf n) d)
+    next-good = step-good (netOf n) ready-good d (w .best .chosen)
+
+    next-is : netOf p ≡ step (netOf n) d
+    next-is = holds-net p (step (netOf n) d) t (next-good .inTurn)
+
+    next-leads : Leads (netOf n) (made (netOf n) d ∷ []) (step (netOf n) d)
+    next-leads = onward d w l k stay
+
+    next-within : Within (step (netOf n) d)
+    next-within = record {
+      variables = omega (arith, step-variables (netOf n) d);
+      cubes = k;
+      literals = omega (arith, leads-fewer next-leads ready-good, ready-within .literals);
+    }
+
+    next-lawful : rules p ≡ true
+    next-lawful =
+        let f = rules-iff n slots .0 (r .lawful) in
+        holds-rules p slots-p (step (netOf n) d) t next-good next-within (f .inputs) (omega (arith, f .outputs, leads-outputs next-leads, rules-outputs n slots (r .lawful)))
+
+    next-ready : Ready p
+    next-ready = record {
+      lawful = next-lawful;
+      tidy = arranged-in p next-lawful (λ f m. step-ordered (netOf n) ready-good d (w .best .chosen) f (subst (λ (z : Net). f ∈ nodes z) next-is m));
+      held = subst (Holds p) (sym next-is) t;
+    }
+
+    -- one divisor more, and the same inputs
+    next-divisors : (p .divisors ≡ suc (n .divisors)) × (p .inputs ≡ n .inputs)
+    next-divisors = (omega (arith, t .divisors, step-variables (netOf n) d, rules-divisors n slots (r .lawful)), t .inputs)
+
+-- ---- why it ends
+
+-- a weight is above 0, or it is not
+pub le-not : (w : ℤ) → leZ w (pos 0) ≡ true → ltZ (pos 0) w ≡ false
+le-not (pos w) h = le-ltb 0 w (leb-true w 0 h)
+le-not (negsuc w) h = refl
+
+pub not-le : (w : ℤ) → leZ w (pos 0) ≡ false → ltZ (pos 0) w ≡ true
+not-le (pos w) h = lt-ltb 0 w (leb-false w 0 h)
+not-le (negsuc w) h = clash refl h
+
+-- nothing is left: done, also where no step is left to make
+run-finished : (left : ℕ) (n : Net) → move n ≡ finished → runFrom left n ≡ record { network = n; stop = done; steps = [] }
+run-finished zero n e = from-none n ∙ rw e
+run-finished (suc left) n e = from-finished left n e
+
+-- a divisor is left, and no step to make
+run-asked : (n : Net) (d : extraction.Divisor) → Worth n d → runFrom 0 n ≡ record { network = n; stop = asked; steps = [] }
+run-asked n d w = from-none n ∙ go (move n) ((move-iff n (move n)) .0 refl)
+  where
+    go : (m : Move) → Allows n m → _≡_ {A = Result} (record { network = n; stop = ended m; steps = [] }) (record { network = n; stop = asked; steps = [] })
+    go m (nothing h) = absurd (worth-done n w h)
+    go m (noNumber v l) = refl
+    go m (noRows v l h) = refl
+    go m (next v l h) = refl
+
+module _ {k : ℕ} {m : Net} {list : List Step} {count left : ℕ} {net : Network} {s : Step} (g : Going k m list count left net s) where
+  pub going-room : count < mostVariables
+  going-room = omega (arith, g .few, ready-few net (g .slots) (g .words) (g .ready))
+
+  -- no more variables than there are numbers
+  pub going-numbers : net .inputs + net .divisors ≤ mostVariables
+  going-numbers = (rules-iff net (g .slots) .0 (g .ready .lawful)) .variables
+
+  made-length : length (listed count list) ≡ count
+  made-length = length-map (take count list) madeOf ∙ length-take-le count list (omega (arith, going-room, g .places))
+
+  -- one more step is listed
+  listed-next : listed (count + 1) (set list count s) ≡ listed count list ++ (madeOf s ∷ [])
+  listed-next =
+      ap (map madeOf) (ap (λ (c : ℕ). take c (set list count s)) (add-one count) ∙ take-suc-set list count s (omega (arith, going-room, g .places)))
+      ∙ map-append madeOf (take count list) (s ∷ [])
+
+  listed-rest : drop (count + 1) (set list count s) ≡ replicate (mostVariables - (count + 1)) noStep
+  listed-rest =
+      let e : mostVariables - count ≡ suc (mostVariables - (count + 1)) = omega (arith, going-room) in
+      drop-set-lt (count + 1) list count s (omega arith) ∙ sym (drop-drop 1 count list) ∙ ap (drop 1) (g .rest ∙ ap (λ (c : ℕ). replicate c noStep) e)
+
+  going-stop : (x : Stop) → runFrom left (netOf net) ≡ record { network = netOf net; stop = stopOf x; steps = [] } → Told (some (runFrom k m)) (stoppedWith x net count list)
+  going-stop x e = subst (λ (z : Result). Told (some z) (stoppedWith x net count list)) (sym whole) ((x, refl, refl), g .ready .held, lists)
+    where
+      whole : runFrom k m ≡ record { network = netOf net; stop = stopOf x; steps = listed count list }
+      whole = g .goes ∙ ap (after (listed count list)) e ∙ ap (λ (l : List Made). record { network = netOf net; stop = stopOf x; steps = l }) (append-nil (listed count list))
+
+      lists : Lists (record { count = count; list = list }) (listed count list)
+      lists = record {
+        number = sym made-length;
+        steps = ap (λ (c : ℕ). listed c list) made-length;
+        rest = ap (λ (c : ℕ). drop c list) made-length ∙ g .rest ∙ ap (λ (c : ℕ). replicate (mostVariables - c) noStep) (sym made-length);
+      }
+
+  choice : Choice (netOf net) s
+  choice = chosen-as net s (g .ready .tidy) (g .chosen)
+
+  -- no weight above 0
+  pub going-done : ltZ (pos 0) (s .weight) ≡ false → Told (some (runFrom k m)) (stoppedWith Done net count list)
+  going-done h = elim choice [ nothingLeft p e ↦ going-stop Done (run-finished left (netOf net) e) | oneTaken p w q ↦ clash p h ]
+
+  -- no step is left to make
+  pub going-ended : left ≡ 0 → Told (some (runFrom k m)) (stoppedWith (endedAt (s .weight)) net count list)
+  going-ended z = elim choice [ nothingLeft p e ↦ rw p (going-stop Done (run-finished left (netOf net) e)) | oneTaken p w q ↦ rw p (going-stop Asked (ap (λ (x : ℕ). runFrom x (netOf net)) z ∙ run-asked (netOf net) (divisorOf (s .divisor)) w)) ]
+
+  module _ (h : ltZ (pos 0) (s .weight) ≡ true) where
+    worth : Worth (netOf net) (divisorOf (s .divisor)) × (madeOf s ≡ made (netOf net) (divisorOf (s .divisor)))
+    worth = elim choice [ nothingLeft p e ↦ clash h p | oneTaken p w q ↦ (w, q) ]
+
+    module _ (l : 0 < left) (t : Next) (o : Stepped net (s .divisor) (outcome net (s .divisor)) t) where
+      taken : Taken (netOf net) (divisorOf (s .divisor)) t
+      taken = stepped-as net (s .divisor) t (g .ready .tidy) (ready-within net (g .slots) (g .words) (g .ready) .variables) (ready-good net (g .slots) (g .words) (g .ready)) (worth .0) o
+
+      some-left : left ≡ suc (left - 1)
+      some-left = omega arith
+
+      -- no number or no rows for the step
+      pub going-full : (t .outcome ≡ Outcome.Made → ⊥) → Told (some (runFrom k m)) (stoppedWith (reasonOf (t .outcome)) net count list)
+      going-full f = elim taken [
+        | wasMade q l₁ l₂ e i ↦ absurd (f q)
+        | wasNot q e ↦ going-stop (reasonOf (t .outcome)) (ap (λ (z : ℕ). runFrom z (netOf net)) some-left ∙ from-stuck (left - 1) (netOf net) (stopOf (reasonOf (t .outcome))) e)
+      ]
+
+      -- the step is made, and listed
+      module _ (slots-t : length (t .network .counts) ≡ 96) (words-t : length (t .network .words) ≡ 2176) (b : Step) (c : Chosen (chosenIn (t .network)) b) (q : t .outcome ≡ Outcome.Made) where
+        pub going-on : Going k m (set list count s) (count + 1) (left - 1) (t .network) b × (t .network .inputs + t .network .divisors ≡ suc (net .inputs + net .divisors))
+        going-on = elim taken [ wasMade p l₁ l₂ e i ↦ go l₁ l₂ e i | wasNot p e ↦ absurd (p q) ]
+          where
+            d : extraction.Divisor
+            d = divisorOf (s .divisor)
+
+            go : variables (netOf net) < mostVariables → cubeCount (step (netOf net) d) ≤ mostCubes → move (netOf net) ≡ taking d → Holds (t .network) (step (netOf net) d)
+                → Going k m (set list count s) (count + 1) (left - 1) (t .network) b × (t .network .inputs + t .network .divisors ≡ suc (net .inputs + net .divisors))
+            go l₁ l₂ e i = (
+              record {
+                ready = ready;
+                slots = slots-t;
+                words = words-t;
+                few = omega (arith, g .few, more .0);
+                places = length-set list count s ∙ g .places;
+                rest = listed-rest;
+                chosen = c;
+                goes = g .goes ∙ ap (after (listed count list)) (ap (λ (z : ℕ). runFrom z (netOf net)) some-left ∙ from-take (left - 1) (netOf net) d e)
+                    ∙ ap (λ (l : List Made). record { network = ran .network; stop = ran .stop; steps = l }) (sym (append-assoc (listed count list) (made (netOf net) d ∷ []) (ran .steps)))
+                    ∙ ap₂ (λ (l : List Made) (z : Net). after l (runFrom (left - 1) z)) (sym (listed-next ∙ ap (λ (x : Made). listed count list ++ (x ∷ [])) (worth .1))) (sym is);
+              },
+              omega (arith, more),
+            )
+              where
+                ran : Result
+                ran = runFrom (left - 1) (step (netOf net) d)
+
+                ready : Ready (t .network)
+                ready = next-ready net (g .slots) (g .words) (g .ready) (t .network) slots-t d (worth .0) l₁ l₂ i
+
+                is : netOf (t .network) ≡ step (netOf net) d
+                is = next-is net (g .slots) (g .words) (g .ready) (t .network) slots-t d (worth .0) l₁ l₂ i
+
+                more : (t .network .divisors ≡ suc (net .divisors)) × (t .network .inputs ≡ net .inputs)
+                more = next-divisors net (g .slots) (g .words) (g .ready) (t .network) slots-t d (worth .0) l₁ l₂ i

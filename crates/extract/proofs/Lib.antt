@@ -1,0 +1,4 @@
+pub mod Taking
+pub mod Going
+pub mod Starting
+pub mod Telling

@@ -1,0 +1,62 @@
+-- Where a run starts: from the network in cube order, or nowhere where a rule is broken. Assumes nothing.
+use Prim.Native.Nat.{ℕ}
+use mathlib.Core.Path.{_≡_, refl, sym, subst}
+use mathlib.Core.Bool.{true, false}
+use mathlib.Core.Option.{some}
+use native.Mathlib.Omega.{arith}
+use lib.ListN.{length, replicate}
+use Rattle.sets.proofs.Lists.{_∈_}
+use Rattle.network.specs.Net.{Net, nodes}
+use Rattle.network.specs.Held.{netOf, rules, mostVariables}
+use Rattle.network.specs.Handed.{Holds, Blank}
+use Rattle.network.specs.declared.Network.{Network}
+use Rattle.network.proofs.Holding.{rules-outputs, rules-iff}
+use Rattle.network.proofs.Handing.{holds-net}
+use Rattle.extraction.specs.Run.{runFrom, inOrder, run}
+use Rattle.extraction.specs.Meaning.{Good, Within}
+use Rattle.extraction.proofs.Arranging.{in-order-inputs, in-order-outputs, in-order-variables, in-order-cubes, in-order-literals, in-order-good, in-order-ordered}
+use Rattle.extraction.proofs.Following.{rules-good, rules-within, holds-rules}
+use Rattle.tidy.proofs.Arranged.{arranged-in}
+use Rattle.choice.specs.Choice.{noStep}
+use Rattle.extract.specs.Answers.{ran, Told}
+use Rattle.extract.specs.Parts.{Ready}
+use Rattle.extract.specs.declared.Answer.the-variants.{Refused}
+use Rattle.extract.specs.declared.Ran.{Ran}
+
+module _ (n p : Network) (slots : length (n .counts) ≡ 96) (words : length (n .words) ≡ 2176) (slots-p : length (p .counts) ≡ 96) (r : rules n ≡ true) (h : Holds p (inOrder (netOf n))) where
+  good : Good (inOrder (netOf n))
+  good = in-order-good (netOf n) (rules-good n slots r)
+
+  within : Within (inOrder (netOf n))
+  within = let w = rules-within n slots words r in record {
+    variables = omega (arith, in-order-variables (netOf n), w .variables);
+    cubes = omega (arith, in-order-cubes (netOf n), w .cubes);
+    literals = omega (arith, in-order-literals (netOf n), w .literals);
+  }
+
+  start-is : netOf p ≡ inOrder (netOf n)
+  start-is = holds-net p (inOrder (netOf n)) h (good .inTurn)
+
+  lawful : rules p ≡ true
+  lawful =
+      let w = rules-iff n slots .0 r in
+      holds-rules p slots-p (inOrder (netOf n)) h good within (omega (arith, w .inputs, in-order-inputs (netOf n)))
+      (omega (arith, w .outputs, in-order-outputs (netOf n), rules-outputs n slots r))
+
+  -- a run can start from it
+  pub start-ready : Ready p
+  start-ready = record {
+    lawful = lawful;
+    tidy = arranged-in p lawful (λ f m. in-order-ordered (netOf n) (rules-good n slots r) f (subst (λ (z : Net). f ∈ nodes z) start-is m));
+    held = subst (Holds p) (sym start-is) h;
+  }
+
+  -- and is the run of the network
+  pub start-told : (k : ℕ) (t : Ran) → Told (some (runFrom k (netOf p))) t → Told (ran k n) t
+  unfolding ran run
+  start-told k t g = rw r (subst (λ (z : Net). Told (some (runFrom k z)) t) start-is g)
+
+-- no step where a rule is broken
+pub refused-told : (k : ℕ) (n : Network) (t : Ran) → rules n ≡ false → t .answer ≡ Refused 10 → Blank (t .network) → t .steps .count ≡ 0 → t .steps .list ≡ replicate mostVariables noStep → Told (ran k n) t
+unfolding ran
+refused-told k n t r a b c l = rw r (a, b, record { number = c; steps = refl; rest = l })

@@ -1,0 +1,174 @@
+-- What a run answers leaves one answer, and says of the networks before and after it what the paper asks. Assumes nothing.
+use Prim.Native.Nat.{ℕ, zero, suc, _^_}
+use mathlib.Core.Path.{_≡_, refl, sym, ap, ap₂, _∙_, subst}
+use mathlib.Core.Bool.{Bool, true, _&&_}
+use mathlib.Core.List.{List, [], _∷_, map, nil≢cons, cons≢nil, head-eq-of-cons-eq, tail-eq-of-cons-eq}
+use mathlib.Core.Option.{Option, none, some}
+use native.Mathlib.Omega.{arith}
+use lib.Dec.{ltb}
+use lib.IntN.{pos, _-ℤ_}
+use lib.ListN.{length, take, drop}
+use borrow.Author.Tests.{ltb-true}
+use Rattle.sets.specs.Lists.{all}
+use Rattle.sets.proofs.Truth.{both}
+use Rattle.sets.proofs.Literals.{plain-injective, negated-injective}
+use Rattle.cube.specs.Cube.{width, lits}
+use Rattle.cube.specs.declared.Cube.{Cube}
+use Rattle.network.specs.Net.{literalCount}
+use Rattle.network.specs.Held.{netOf, rules}
+use Rattle.network.specs.Answers.{counted, evaluated}
+use Rattle.network.specs.declared.Network.{Network}
+use Rattle.network.specs.declared.Number.the-variants.{Is}
+use Rattle.network.proofs.Handing.{holds-net, holds-one}
+use Rattle.extraction.specs.Run as extraction
+use Rattle.extraction.specs.Run.{Made, Result, done, asked, numbers, rows, inOrder, run}
+use Rattle.extraction.specs.Meaning.{Leads, fall}
+use Rattle.extraction.proofs.Running.{run-leads}
+use Rattle.extraction.proofs.Keeping.{run-good, run-literals}
+use Rattle.extraction.proofs.Following.{rules-good, run-rules, run-evaluated}
+use Rattle.tidy.proofs.Tidied.{Shaped, blank-one}
+use Rattle.choice.specs.Choice.{divisorOf, madeOf}
+use Rattle.choice.specs.declared.Divisor.{Divisor}
+use Rattle.choice.specs.declared.Divisor.the-variants.{Pair, Sum}
+use Rattle.choice.specs.declared.Step.{Step}
+use Rattle.extract.specs.Answers.{stopOf, Lists, ran, Told}
+use Rattle.extract.specs.declared.Stop.{Stop}
+use Rattle.extract.specs.declared.Stop.the-variants.{Done, Asked, Numbers, Rows}
+use Rattle.extract.specs.declared.Answer.the-variants.{Stopped}
+use Rattle.extract.specs.declared.Steps.{Steps}
+use Rattle.extract.specs.declared.Ran.{Ran}
+
+-- ---- one answer
+
+-- masks of 64 bits are known from their literals
+abbrev pub fitCube : Cube → Bool
+fitCube c = ltb (c .plain) (2 ^ width) && ltb (c .negated) (2 ^ width)
+
+cube-one : (a b : Cube) → fitCube a ≡ true → fitCube b ≡ true → lits a ≡ lits b → a ≡ b
+cube-one a b h k e =
+    let p = both (ltb (a .plain) (2 ^ width)) (ltb (a .negated) (2 ^ width)) h in
+    let q = both (ltb (b .plain) (2 ^ width)) (ltb (b .negated) (2 ^ width)) k in
+    λ i. record {
+      plain = plain-injective width (a .plain) (a .negated) (b .plain) (b .negated) (ltb-true _ _ (p .0)) (ltb-true _ _ (q .0)) e i;
+      negated = negated-injective width (a .plain) (a .negated) (b .plain) (b .negated) (ltb-true _ _ (p .1)) (ltb-true _ _ (q .1)) e i;
+    }
+
+-- the masks of a step's parts are of 64 bits
+abbrev pub fitDivisor : Divisor → Bool
+fitDivisor (Pair p q) = true
+fitDivisor (Sum a b) = fitCube a && fitCube b
+
+divisor-one : (d e : Divisor) → fitDivisor d ≡ true → fitDivisor e ≡ true → divisorOf d ≡ divisorOf e → d ≡ e
+divisor-one (Pair p q) (Pair r s) h k e =
+    let a : p .0 ≡ r .0 = cc in let b : q .0 ≡ s .0 = cc in λ i. Pair (record { 0 = a i }) (record { 0 = b i })
+divisor-one (Pair p q) (Sum a b) h k e = let z : _≡_ {A = ℕ} 0 1 = cc in absurd (omega arith)
+divisor-one (Sum a b) (Pair p q) h k e = let z : _≡_ {A = ℕ} 0 1 = cc in absurd (omega arith)
+divisor-one (Sum a b) (Sum c d) h k e =
+    let x : lits a ≡ lits c = cc in
+    let y : lits b ≡ lits d = cc in
+    let p = both (fitCube a) (fitCube b) h in
+    let q = both (fitCube c) (fitCube d) k in
+    ap₂ Sum (cube-one a c (p .0) (q .0) x) (cube-one b d (p .1) (q .1) y)
+
+abbrev pub fitStep : Step → Bool
+fitStep s = fitDivisor (s .divisor)
+
+step-one : (s t : Step) → fitStep s ≡ true → fitStep t ≡ true → madeOf s ≡ madeOf t → s ≡ t
+step-one s t h k e = λ i. record {
+  divisor = divisor-one (s .divisor) (t .divisor) h k (ap (λ (m : Made). m .divisor) e) i;
+  weight = e i .weight;
+  uses = e i .uses;
+}
+
+-- as many steps in front, and the same after them
+list-one : (k : ℕ) (l m : List Step) → all fitStep l ≡ true → all fitStep m ≡ true → map madeOf (take k l) ≡ map madeOf (take k m) → drop k l ≡ drop k m → l ≡ m
+list-one zero l m h g e r = r
+list-one (suc k) [] [] h g e r = refl
+list-one (suc k) [] (y ∷ m) h g e r = absurd (nil≢cons e)
+list-one (suc k) (x ∷ l) [] h g e r = absurd (cons≢nil e)
+list-one (suc k) (x ∷ l) (y ∷ m) h g e r =
+    let p = both (fitStep x) (all fitStep l) h in
+    let q = both (fitStep y) (all fitStep m) g in
+    ap₂ _∷_ (step-one x y (p .0) (q .0) (head-eq-of-cons-eq e)) (list-one k l m (p .1) (q .1) (tail-eq-of-cons-eq e) r)
+
+-- the value that means a stop reason
+back : extraction.Stop → Stop
+back done = Done
+back asked = Asked
+back numbers = Numbers
+back rows = Rows
+
+back-stop : (x : Stop) → back (stopOf x) ≡ x
+unfolding back
+back-stop Done = refl
+back-stop Asked = refl
+back-stop Numbers = refl
+back-stop Rows = refl
+
+-- an answer whose words and masks are of 64 bits
+pub record FitRan (r : Ran) : Type 0 where
+  pub network : Shaped (r .network)
+  pub steps : all fitStep (r .steps .list) ≡ true
+
+lists-one : (s t : Steps) (l : List Made) → all fitStep (s .list) ≡ true → all fitStep (t .list) ≡ true → Lists s l → Lists t l → s ≡ t
+lists-one s t l h k p q = λ i. record {
+  count = (p .number ∙ sym (q .number)) i;
+  list = list-one (length l) (s .list) (t .list) h k (p .steps ∙ sym (q .steps)) (p .rest ∙ sym (q .rest)) i;
+}
+
+-- two answers to one run are the same
+pub told-one : (k : ℕ) (n : Network) (r s : Ran) → FitRan r → FitRan s → Told (ran k n) r → Told (ran k n) s → r ≡ s
+told-one k n r s a b = go (ran k n)
+  where
+    join : r .answer ≡ s .answer → r .network ≡ s .network → r .steps ≡ s .steps → r ≡ s
+    join x y z = λ i. record { answer = x i; network = y i; steps = z i }
+
+    go : (o : Option Result) → Told o r → Told o s → r ≡ s
+    go (some t) ((x, p, u), h, l) ((y, q, v), g, m) =
+        let e : x ≡ y = sym (back-stop x) ∙ ap back (u ∙ sym v) ∙ back-stop y in
+        join (p ∙ ap Stopped e ∙ sym q)
+        (holds-one (r .network) (s .network) (t .network) (a .network .places) (b .network .places) (a .network .fits) (b .network .fits) h g)
+        (lists-one (r .steps) (s .steps) (t .steps) (a .steps) (b .steps) l m)
+    go none (p, h, l) (q, g, m) = join (p ∙ sym q) (blank-one (r .network) (s .network) h g) (lists-one (r .steps) (s .steps) [] (a .steps) (b .steps) l m)
+
+-- ---- in the paper's words
+
+-- the steps that an answer lists
+abbrev pub stepsOf : Ran → List Made
+stepsOf r = map madeOf (take (r .steps .count) (r .steps .list))
+
+module _ (k : ℕ) (n : Network) (r : Ran) (slots : length (n .counts) ≡ 96) (words : length (n .words) ≡ 2176) (slots-r : length (r .network .counts) ≡ 96)
+    (h : rules n ≡ true) (t : Told (ran k n) r) where
+  ran-told : Told (some (run k (netOf n))) r
+  unfolding ran
+  ran-told = rw h at t
+
+  ran-steps : stepsOf r ≡ run k (netOf n) .steps
+  ran-steps = let l = ran-told .2 in ap (λ (c : ℕ). map madeOf (take c (r .steps .list))) (l .number) ∙ l .steps
+
+  ran-network : netOf (r .network) ≡ run k (netOf n) .network
+  ran-network = holds-net (r .network) (run k (netOf n) .network) (ran-told .1) ((run-good k (netOf n) (rules-good n slots h)) .inTurn)
+
+  -- the resulting network follows the rules and keeps the limits
+  pub ran-rules : rules (r .network) ≡ true
+  ran-rules = run-rules n (r .network) slots words slots-r k h (ran-told .1)
+
+  -- outputs after a run are those before, for every setting
+  pub ran-outputs : (s : ℕ) → evaluated (r .network) s ≡ evaluated n s
+  ran-outputs = run-evaluated n (r .network) slots words slots-r k h (ran-told .1)
+
+  -- each step listed takes the best divisor of the network that it is made on
+  pub ran-leads : Leads (inOrder (netOf n)) (stepsOf r) (netOf (r .network))
+  ran-leads =
+      subst (λ (l : List Made). Leads (inOrder (netOf n)) l (netOf (r .network))) (sym ran-steps)
+      (subst (Leads (inOrder (netOf n)) (run k (netOf n) .steps)) (sym ran-network) (run-leads k (netOf n)))
+
+  -- the literal count, counted over the resulting network, is that of the start less the weights of the steps
+  pub ran-literals : (counted n ≡ Is (literalCount (netOf n))) × (counted (r .network) ≡ Is (literalCount (netOf (r .network))))
+      × (pos (literalCount (netOf (r .network))) ≡ pos (literalCount (netOf n)) -ℤ fall (stepsOf r))
+  unfolding counted
+  ran-literals = (
+    rw h,
+    rw ran-rules,
+    ap (λ z. pos (literalCount z)) ran-network ∙ run-literals k (netOf n) (rules-good n slots h) ∙ ap (λ l. pos (literalCount (netOf n)) -ℤ fall l) (sym ran-steps),
+  )

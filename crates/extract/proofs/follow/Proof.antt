@@ -1,0 +1,169 @@
+-- `extract::follow` meets its contract. The loop's invariant: the steps listed, and then a run of the steps left, make the run.
+-- The measure is how many variables more there may be. Assumes nothing.
+use Prim.Native.Nat.{suc, _+_, _-_}
+use mathlib.Core.Path.{_≡_, sym, ap, _∙_, subst}
+use mathlib.Core.Logic.{inl, inr}
+use mathlib.Core.Bool.{true}
+use mathlib.Core.Option.{some}
+use native.Mathlib.Omega.{arith}
+use borrow.Author.Needs.{needs}
+use lib.IntN.{pos}
+use lib.ListN.{length, set}
+use lib.Signed.{leZ, ltZ}
+use mir.Syntax.{w32}
+use mir.Val.{toZ, ofZ}
+use mir.Facts.{toZ-ofZ}
+use Rattle.network.specs.Held.{netOf, mostVariables}
+use Rattle.extraction.specs.Run.{runFrom}
+use Rattle.replace.specs.declared.Outcome.the-variants as Outcome
+use Rattle.extract.specs.Answers.{Told}
+use Rattle.extract.specs.Parts.{endedAt, stoppedWith}
+use Rattle.extract.specs.declared.Stop.{Stop}
+use Rattle.extract.specs.declared.Ran.{Ran}
+use Rattle.extract.proofs.Going.{le-not, not-le, Going, going-first, going-room, going-numbers, going-done, going-ended, going-full, going-on}
+use Rattle.extract.proofs.follow.Statement.{statement}
+use Rattle.extract.proofs.follow.Tie as tie
+
+abbrev Inv-loop : tie.InvT-loop
+Inv-loop steps list₀ count₀ left₀ net₀ s₀ list count left net s = Going steps (netOf net₀) list count left net s
+
+abbrev μ-loop : tie.MeasureT-loop
+μ-loop steps list₀ count₀ left₀ net₀ s₀ list count left net s = mostVariables - (net .inputs + net .divisors)
+
+abbrev start : tie.At-loop Inv-loop μ-loop → tie.Start Inv-loop μ-loop
+start l = l .before .before .before
+
+-- what is to be shown where the run stops
+abbrev Tells : tie.At-loop Inv-loop μ-loop → Ran → Type 0
+Tells l r = Told (some (runFrom (start l .args .steps) (netOf (start l .args .n)))) r
+
+abbrev with : tie.At-loop Inv-loop μ-loop → Stop → Ran
+with l x = stoppedWith x (l .loop .net) (l .loop .count) (l .loop .list)
+
+-- the weight read is the step's
+read : (c : tie.After-struct-told2 Inv-loop μ-loop) → let w = c .before .before .before .loop .s .weight in toZ w32 (ofZ w32 w) ≡ w
+read c = toZ-ofZ {w = w32} {z = c .before .before .before .loop .s .weight} (search needs)
+
+-- what the test says of it
+above : (c : tie.Else2 Inv-loop μ-loop) → ltZ (pos 0) (c .before .before .before .before .loop .s .weight) ≡ true
+above c = not-le (c .before .before .before .before .loop .s .weight) (ap (λ w. leZ w (pos 0)) (sym (read (c .before))) ∙ c .if2 .left)
+
+-- the next network has the slots of its type
+slots : (c : tie.After-step Inv-loop μ-loop) → let n = c .step .result .network in (length (n .counts) ≡ 96) × (length (n .words) ≡ 2176)
+slots c = search needs
+
+-- where a step is made
+abbrev head : tie.After-enum-told Inv-loop μ-loop → tie.At-loop Inv-loop μ-loop
+head c = c .before .before .before .before .before .before .before .before
+
+-- the step is listed, and the network has one variable more
+on : (c : tie.After-best2 Inv-loop μ-loop) → let t = c .before .before .before .before in let l = head (c .before) in let n = t .step .result .network in
+    Going (start l .args .steps) (netOf (start l .args .n)) (set (l .loop .list) (l .loop .count) (l .loop .s)) (l .loop .count + 1) (l .loop .left - 1) n (c .best2 .result)
+    × (n .inputs + n .divisors ≡ suc (l .loop .net .inputs + l .loop .net .divisors))
+on c =
+    let t = c .before .before .before .before in
+    let l = head (c .before) in
+    going-on (l .loop .inv) (above (t .before)) (omega arith) (t .step .result) (t .step .ensures) (slots t .0) (slots t .1) (c .best2 .result) (c .best2 .ensures) (c .before .enum-told .given .1)
+
+no-steps-requires : tie.Need-no-steps-requires Inv-loop μ-loop
+no-steps-requires c κs = search needs
+
+best-requires : tie.Need-best-requires Inv-loop μ-loop
+best-requires c κs = search needs
+
+loop-holds : tie.Need-loop-holds Inv-loop μ-loop
+loop-holds c =
+    let s = c .before .before in
+    going-first (s .args .steps) (s .args .n) (c .before .no-steps .result) (c .best .result) (search needs) (search needs) (s .pre) (c .before .no-steps .ensures) (c .best .ensures)
+
+ended-requires : tie.Need-ended-requires Inv-loop μ-loop
+ended-requires c κs = search needs
+
+stopped-requires : tie.Need-stopped-requires Inv-loop μ-loop
+stopped-requires c κs = search needs
+
+returns : tie.Need-returns Inv-loop μ-loop
+returns c =
+    let e = c .before in
+    let l = e .before .before .before in
+    let w : toZ w32 (ofZ w32 (l .loop .s .weight)) ≡ l .loop .s .weight = toZ-ofZ {w = w32} {z = l .loop .s .weight} (search needs) in
+    subst (Tells l) (sym (c .stopped .ensures ∙ ap (with l) (e .ended .ensures ∙ ap endedAt w))) (going-ended (l .loop .inv) (e .before .before .if1 .taken))
+
+stopped-requires-2 : tie.Need-stopped-requires-2 Inv-loop μ-loop
+stopped-requires-2 c κs = search needs
+
+returns-2 : tie.Need-returns-2 Inv-loop μ-loop
+returns-2 c =
+    let r = c .before .before in
+    let l = r .before .before .before in
+    subst (Tells l) (sym (c .stopped2 .ensures))
+    (going-done (l .loop .inv) (le-not (l .loop .s .weight) (ap (λ w. leZ w (pos 0)) (sym (read r)) ∙ c .before .if2 .taken)))
+
+step-requires : tie.Need-step-requires Inv-loop μ-loop
+step-requires c κs = search needs
+
+enum-told : tie.Need-enum-told Inv-loop μ-loop
+enum-told c = search needs
+
+reason-requires : tie.Need-reason-requires Inv-loop μ-loop
+reason-requires c κs = search needs
+
+stopped-requires-3 : tie.Need-stopped-requires-3 Inv-loop μ-loop
+stopped-requires-3 c κs = search needs
+
+returns-3 : tie.Need-returns-3 Inv-loop μ-loop
+returns-3 c =
+    let t = c .before .before .before .before in
+    let l = t .before .before .before .before .before in
+    let f : t .step .result .outcome ≡ Outcome.Made → ⊥ =
+    λ q. elim (rw q at (c .before .before .match .keys2)) [ inl w ↦ omega arith | inr (inl w) ↦ omega arith | inr (inr w) ↦ omega arith ] in
+    subst (Tells l) (sym (c .stopped3 .ensures ∙ ap (with l) (c .before .reason .ensures)))
+    (going-full (l .loop .inv) (above (t .before)) (omega arith) (t .step .result) (t .step .ensures) f)
+
+mul-list : tie.Need-mul-list Inv-loop μ-loop
+mul-list c = omega (arith, going-room (head c .loop .inv))
+
+array-set-from-list : tie.Need-array-set-from-list Inv-loop μ-loop
+array-set-from-list c = going-room (head c .loop .inv)
+
+add-count : tie.Need-add-count Inv-loop μ-loop
+add-count c = omega (arith, going-room (head c .loop .inv))
+
+sub-left : tie.Need-sub-left Inv-loop μ-loop
+sub-left c = search needs
+
+best-requires-2 : tie.Need-best-requires-2 Inv-loop μ-loop
+best-requires-2 c κs = search needs
+
+loop-less : tie.Need-loop-less Inv-loop μ-loop
+loop-less c = let g = on c in omega (arith, g .1, going-numbers (g .0))
+
+loop-again : tie.Need-loop-again Inv-loop μ-loop
+loop-again c = on c .0
+
+pub follow-spec : {M : Type 1} → statement M
+follow-spec =
+    tie.close
+    (tie.spec
+    Inv-loop
+    μ-loop
+    no-steps-requires
+    best-requires
+    loop-holds
+    ended-requires
+    stopped-requires
+    returns
+    stopped-requires-2
+    returns-2
+    step-requires
+    enum-told
+    reason-requires
+    stopped-requires-3
+    returns-3
+    mul-list
+    array-set-from-list
+    add-count
+    sub-left
+    best-requires-2
+    loop-less
+    loop-again)

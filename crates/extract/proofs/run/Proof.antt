@@ -1,0 +1,68 @@
+-- `extract::run` meets its contract: the run of the network in cube order, or the refusal. Assumes nothing.
+use mathlib.Core.Path.{_≡_, refl}
+use mathlib.Core.Bool.{true}
+use lib.ListN.{length}
+use Rattle.network.specs.Held.{netOf, rules}
+use Rattle.network.specs.Handed.{Holds}
+use Rattle.extraction.specs.Run.{inOrder}
+use Rattle.tidy.proofs.Tidied.{tidied-accepted, tidied-refused}
+use Rattle.extract.proofs.Starting.{start-ready, start-told, refused-told}
+use borrow.Author.Needs.{needs}
+use Rattle.extract.proofs.run.Statement.{statement}
+use Rattle.extract.proofs.run.Tie as tie
+
+slots : (s : tie.Start) → (length (s .args .n .counts) ≡ 96) × (length (s .args .n .words) ≡ 2176)
+slots s = search needs
+
+-- what is held where the network is accepted
+kept : (c : tie.After-enum-told) → let i = c .before .before .before in let n = i .before .args .n in (rules n ≡ true) × Holds (i .in-order .result .network) (inOrder (netOf n))
+kept c = let i = c .before .before .before in tidied-accepted (i .before .args .n) (i .in-order .result) (i .in-order .ensures) (c .enum-told .given .1)
+
+-- the network in cube order has the slots of its type
+held : (c : tie.After-in-order) → length (c .in-order .result .network .counts) ≡ 96
+held c = search needs
+
+in-order-requires : tie.Need-in-order-requires
+in-order-requires c κs = search needs
+
+enum-told : tie.Need-enum-told
+enum-told c = search needs
+
+enum-told-2 : tie.Need-enum-told-2
+enum-told-2 c = search needs
+
+no-steps-requires : tie.Need-no-steps-requires
+no-steps-requires c κs = search needs
+
+returns : tie.Need-returns
+returns c =
+    let m = c .before in
+    let i = m .before .before .before in
+    let n = i .before .args .n in
+    let q = tidied-refused n (i .in-order .result) (i .in-order .ensures) _ (m .enum-told2 .given .1) in
+    refused-told (i .before .args .steps) n _ (q .0) refl (q .1) refl (c .no-steps .ensures)
+
+follow-requires : tie.Need-follow-requires
+follow-requires c κs =
+    let i = c .before .before .before in
+    let s = i .before in
+    start-ready (s .args .n) (i .in-order .result .network) (slots s .0) (slots s .1) (held i) (kept c .0) (kept c .1)
+
+returns-2 : tie.Need-returns-2
+returns-2 c =
+    let m = c .before in
+    let i = m .before .before .before in
+    let s = i .before in
+    start-told (s .args .n) (i .in-order .result .network) (slots s .0) (slots s .1) (held i) (kept m .0) (kept m .1) (s .args .steps) (c .follow .result) (c .follow .ensures)
+
+pub run-spec : {M : Type 1} → statement M
+run-spec =
+    tie.close
+    (tie.spec
+    in-order-requires
+    enum-told
+    enum-told-2
+    no-steps-requires
+    returns
+    follow-requires
+    returns-2)

@@ -1,0 +1,39 @@
+-- What a run answers.
+use Prim.Native.Nat.{ℕ, _-_}
+use mathlib.Core.Path.{_≡_}
+use mathlib.Core.Bool.{cond}
+use mathlib.Core.List.{List, [], map}
+use mathlib.Core.Option.{Option, none, some}
+use lib.ListN.{length, take, drop, replicate}
+use Rattle.network.specs.Held.{netOf, rules, mostVariables}
+use Rattle.network.specs.Handed.{Holds, Blank}
+use Rattle.network.specs.declared.Network.{Network}
+use Rattle.extraction.specs.Run as extraction
+use Rattle.extraction.specs.Run.{Made, Result, done, asked, numbers, rows, run}
+use Rattle.choice.specs.Choice.{madeOf, noStep}
+use Rattle.extract.specs.declared.Stop.{Stop}
+use Rattle.extract.specs.declared.Stop.the-variants.{Done, Asked, Numbers, Rows}
+use Rattle.extract.specs.declared.Answer.the-variants.{Stopped, Refused}
+use Rattle.extract.specs.declared.Steps.{Steps}
+use Rattle.extract.specs.declared.Ran.{Ran}
+
+-- the stop reason that a value means
+abbrev pub stopOf : Stop → extraction.Stop
+stopOf Done = done
+stopOf Asked = asked
+stopOf Numbers = numbers
+stopOf Rows = rows
+
+-- so many steps, each as it was made, and steps of zeros after them
+pub record Lists (s : Steps) (l : List Made) : Type 0 where
+  pub number : s .count ≡ length l
+  pub steps : map madeOf (take (length l) (s .list)) ≡ l
+  pub rest : drop (length l) (s .list) ≡ replicate (mostVariables - length l) noStep
+
+-- a run of k steps, of a network by the rules
+unfoldable pub ran : ℕ → Network → Option Result
+ran k n = cond (rules n) (some (run k (netOf n))) none
+
+abbrev pub Told : Option Result → Ran → Type 0
+Told (some t) r = ((s : Stop) × (r .answer ≡ Stopped s) × (stopOf s ≡ t .stop)) × Holds (r .network) (t .network) × Lists (r .steps) (t .steps)
+Told none r = (r .answer ≡ Refused 10) × Blank (r .network) × Lists (r .steps) []

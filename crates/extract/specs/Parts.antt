@@ -1,0 +1,39 @@
+-- Words for the contracts of the private functions: a network that a run starts from, and how a run is handed back.
+use Prim.Native.Nat.{ℕ}
+use mathlib.Core.Path.{_≡_}
+use mathlib.Core.Bool.{true, cond}
+use mathlib.Core.List.{List}
+use lib.IntN.{ℤ, pos}
+use lib.Signed.{ltZ}
+use Rattle.network.specs.Held.{netOf, rules}
+use Rattle.network.specs.Handed.{Holds}
+use Rattle.network.specs.declared.Network.{Network}
+use Rattle.choice.specs.declared.Step.{Step}
+use Rattle.replace.specs.declared.Outcome.{Outcome}
+use Rattle.replace.specs.declared.Outcome.the-variants as Outcome
+use Rattle.tidy.specs.Tidy.{arranged}
+use Rattle.extract.specs.declared.Stop.{Stop}
+use Rattle.extract.specs.declared.Stop.the-variants.{Done, Asked, Numbers, Rows}
+use Rattle.extract.specs.declared.Answer.the-variants.{Stopped}
+use Rattle.extract.specs.declared.Ran.{Ran}
+
+-- by the rules, in cube order, and zero in the slots that are not in use
+pub record Ready (n : Network) : Type 0 where
+  pub lawful : rules n ≡ true
+  pub tidy : arranged n ≡ true
+  pub held : Holds n (netOf n)
+
+-- no step is left to make: done where no weight is above 0, else asked
+abbrev pub endedAt : ℤ → Stop
+endedAt w = cond (ltZ (pos 0) w) Asked Done
+
+-- why a step was not made
+abbrev pub reasonOf : Outcome → Stop
+reasonOf Outcome.Numbers = Numbers
+reasonOf Outcome.Made = Rows
+reasonOf Outcome.Rows = Rows
+reasonOf Outcome.Unfit = Rows
+
+-- a run that stopped, with the steps that it made
+abbrev pub stoppedWith : Stop → Network → ℕ → List Step → Ran
+stoppedWith s n count list = record { answer = Stopped s; network = n; steps = record { count = count; list = list } }

@@ -1,0 +1,145 @@
+// Runs: the best divisor again and again, until the first reason to stop.
+use choice::Divisor;
+use choice::Step;
+use cube::Literal;
+use network::Judged;
+use network::Network;
+use replace::Outcome;
+ghost use mathlib.Core.Path.{_≡_};
+ghost use mathlib.Core.Option.{some};
+ghost use lib.ListN.{replicate};
+ghost use Rattle.network.specs.Held.{netOf, mostVariables};
+ghost use Rattle.extraction.specs.Run.{runFrom};
+ghost use Rattle.choice.specs.Choice.{noStep};
+ghost use Rattle.extract.specs.Answers.{Told, ran};
+ghost use Rattle.extract.specs.Parts.{Ready, endedAt, reasonOf, stoppedWith};
+
+// Steps of one run.
+const STEPS: usize = 64;
+
+pub enum Stop {
+    Done,
+    Asked,
+    Numbers,
+    Rows,
+}
+
+pub enum Answer {
+    Stopped(Stop),
+    Refused(u32),
+}
+
+// The steps made, as many as counted, and steps of zeros after them.
+pub struct Steps {
+    pub count: usize,
+    pub list: [Step; STEPS],
+}
+
+// A refusal carries a network of zeros and no step.
+pub struct Ran {
+    pub answer: Answer,
+    pub network: Network,
+    pub steps: Steps,
+}
+
+// The step of zeros.
+fn nothing() -> Step
+    ensures { λ r. ⌜ r ≡ noStep ⌝ }
+{
+    Step {
+        divisor: Divisor::Pair(Literal(0), Literal(0)),
+        weight: 0,
+        uses: 0,
+    }
+}
+
+// A list of no steps.
+fn no_steps() -> [Step; STEPS]
+    ensures { λ r. ⌜ r ≡ replicate mostVariables noStep ⌝ }
+{
+    [nothing(); STEPS]
+}
+
+// Why a step that there is no room for is not made.
+fn reason(o: Outcome) -> Stop
+    ensures { λ r. ⌜ r ≡ reasonOf o ⌝ }
+{
+    match o {
+        Outcome::Numbers => Stop::Numbers,
+        Outcome::Rows => Stop::Rows,
+        Outcome::Made => Stop::Rows,
+        Outcome::Unfit => Stop::Rows,
+    }
+}
+
+fn stopped(stop: Stop, network: Network, count: usize, list: [Step; STEPS]) -> Ran
+    ensures { λ r. ⌜ r ≡ stoppedWith stop network count list ⌝ }
+{
+    Ran {
+        answer: Answer::Stopped(stop),
+        network,
+        steps: Steps { count, list },
+    }
+}
+
+// No step is left to make: done comes before asked.
+fn ended(weight: i32) -> Stop
+    ensures { λ r. ⌜ r ≡ endedAt weight ⌝ }
+{
+    if weight <= 0 {
+        return Stop::Done;
+    }
+    Stop::Asked
+}
+
+// From a network in cube order; s is the best step on the network that the run has come to.
+fn follow(n: Network, steps: u64) -> Ran
+    requires { ⌜ Ready n ⌝ }
+    ensures { λ r. ⌜ Told (some (runFrom steps (netOf n))) r ⌝ }
+{
+    let mut list = no_steps();
+    let mut count = 0;
+    let mut left = steps;
+    let mut net = n;
+    let mut s = choice::best(n);
+    loop {
+        if left == 0 {
+            return stopped(ended(s.weight), net, count, list);
+        }
+        if s.weight <= 0 {
+            return stopped(Stop::Done, net, count, list);
+        }
+        let d = s.divisor;
+        let t = replace::step(net, d);
+        let made = t.outcome;
+        let next = t.network;
+        let Outcome::Made = made else {
+            return stopped(reason(made), net, count, list);
+        };
+        list[count] = s;
+        count += 1;
+        left -= 1;
+        s = choice::best(next);
+        net = next;
+    }
+}
+
+// A run of so many steps at most: 10 for a network that breaks a rule.
+pub fn run(n: Network, steps: u64) -> Ran
+    ensures { λ r. ⌜ Told (ran steps n) r ⌝ }
+{
+    let t = tidy::in_order(n);
+    let answer = t.answer;
+    let network = t.network;
+    let Judged::Accepted = answer else {
+        return Ran {
+            answer: Answer::Refused(10),
+            network,
+            steps: Steps {
+                count: 0,
+                list: no_steps(),
+            },
+        };
+    };
+    follow(network, steps)
+}

@@ -1,0 +1,5 @@
+pub mod Testing
+pub mod Becoming
+pub mod Filling
+pub mod Walking
+pub mod Answering

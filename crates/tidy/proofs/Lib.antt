@@ -1,0 +1,4 @@
+pub mod Neighbours
+pub mod Arranged
+pub mod Sorted
+pub mod Tidied

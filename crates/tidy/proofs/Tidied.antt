@@ -1,0 +1,149 @@
+-- A network put in cube order: what it holds, and that this leaves one answer. Assumes nothing.
+use Prim.Native.Nat.{ℕ, _+_, _-_, _*_, _≤_}
+use mathlib.Core.Path.{_≡_, refl, sym, ap, ap₂, _∙_, subst}
+use mathlib.Core.Bool.{Bool, true, false, cond}
+use mathlib.Core.List.{List, [], _∷_, _++_, map}
+use native.Mathlib.Omega.{arith}
+use lib.ListN.{length, take, drop, replicate, length-map, length-drop}
+use lib.Seq.{length-take-le, take-at}
+use Rattle.sets.specs.Lists.{total}
+use Rattle.expression.specs.Words.{cubesOf}
+use Rattle.expression.specs.Expression.{sort}
+use Rattle.expression.proofs.Sorting.{sort-length}
+use Rattle.expression.proofs.Words.{fit, cubes-length, cubes-take, cubes-append, spare-take}
+use Rattle.network.specs.Net.{nodes, cubeCount}
+use Rattle.network.specs.Held.{cut, used, netOf, rules}
+use Rattle.network.specs.Handed.{flat, Holds, Blank}
+use Rattle.network.specs.Parts.{heldIn}
+use Rattle.network.specs.Answers.{judged}
+use Rattle.network.specs.declared.Network.{Network}
+use Rattle.network.specs.declared.Judged.{Judged}
+use Rattle.network.specs.declared.Judged.the-variants.{Accepted, Refused}
+use Rattle.network.proofs.Holding.{cut-length, nodes-held, rules-outputs, rules-divisors, rules-iff}
+use Rattle.network.proofs.Handing.{flat-length, holds-one}
+use Rattle.extraction.specs.Run.{inOrder}
+use Rattle.extraction.proofs.Arranging.{in-order-nodes, in-order-inputs, in-order-outputs, in-order-divisors}
+use Rattle.tidy.specs.Tidy.{tidied, Tidied}
+use Rattle.tidy.specs.Parts.{Sorts}
+use Rattle.tidy.specs.declared.Tidy.{Tidy}
+use Rattle.tidy.proofs.Sorted.{zeros, sorted-length}
+
+-- nodes in another order of cubes have the counts that they were cut by
+sorted-counts : (ns : List ℕ) (f : List (List ℕ)) → total (λ c. c) ns ≤ length f → map length (map sort (cut ns f)) ≡ ns
+unfolding cut
+sorted-counts [] f h = refl
+sorted-counts (n ∷ ns) f h =
+    ap₂ _∷_ (sort-length (take n f) ∙ length-take-le n f (omega arith)) (sorted-counts ns (drop n f) (omega (arith, length-drop n f)))
+
+-- words in front and zeros after them
+front-cubes : (ws : List ℕ) (t : ℕ) → length ws ≡ 2176 → t ≤ 1088 → cubesOf (take (2 * t) ws ++ replicate (2176 - 2 * t) 0) ≡ take t (cubesOf ws) ++ replicate (1088 - t) []
+front-cubes ws t h l =
+    let e : 2176 - 2 * t ≡ 2 * (1088 - t) = omega arith in
+    cubes-append (take (2 * t) ws) _ (spare-take ws t (omega arith)) ∙ ap₂ _++_ (cubes-take ws t) (ap (λ (k : ℕ). cubesOf (replicate k 0)) e ∙ zeros (1088 - t))
+
+module _ (n : Network) (slots : length (n .counts) ≡ 96) (places : length (n .words) ≡ 2176) (h : rules n ≡ true) where
+  abbrev e : ℕ
+  e = n .outputs + n .divisors
+
+  abbrev gs : List (List (List ℕ))
+  gs = map sort (cut (used n) (cubesOf (n .words)))
+
+  few : (e ≤ 96) × (total (λ c. c) (used n) ≤ 1088)
+  few = let w = rules-iff n slots .0 h in (omega (arith, w .outputs, w .variables, w .inputs), w .cubes)
+
+  pub rules-there : total (λ c. c) (used n) ≤ length (cubesOf (n .words))
+  rules-there = omega (arith, cubes-length (n .words), few .1)
+
+  nodes-are : nodes (inOrder (netOf n)) ≡ gs
+  nodes-are = in-order-nodes (netOf n) ∙ ap (map sort) (nodes-held n)
+
+  size : length (nodes (inOrder (netOf n))) ≡ e
+  size = ap length nodes-are ∙ length-map (cut (used n) (cubesOf (n .words))) sort ∙ cut-length (used n) (cubesOf (n .words)) ∙ length-take-le e (n .counts) (omega (arith, few .0))
+
+  -- the struct holds the network in cube order
+  pub sorts-holds : (new : List ℕ) (t : ℕ) → length new ≡ 2176 → Sorts e (n .counts) (n .words) new t
+      → Holds (heldIn (n .inputs) (n .outputs) (n .divisors) (take e (n .counts) ++ replicate (96 - e) 0) (take (2 * t) new ++ replicate (2176 - 2 * t) 0)) (inOrder (netOf n))
+  sorts-holds new t l s = record {
+    inputs = sym (in-order-inputs (netOf n));
+    outputs = sym (in-order-outputs (netOf n) ∙ rules-outputs n slots h);
+    divisors = sym (in-order-divisors (netOf n) ∙ rules-divisors n slots h);
+    counts = ap₂ (λ (a : List ℕ) (k : ℕ). a ++ replicate (96 - k) 0) (sym (ap (map length) nodes-are ∙ sorted-counts (used n) (cubesOf (n .words)) rules-there)) (sym size);
+    cubes = front-cubes new t l (omega (arith, s .number, few .1))
+        ∙ ap₂ (λ (a : List (List ℕ)) (k : ℕ). a ++ replicate (1088 - k) []) front (s .number ∙ sym count);
+  }
+    where
+      whole : length (flat gs) ≡ total (λ c. c) (used n)
+      whole = sorted-length (n .counts) (n .words) e rules-there
+
+      front : take t (cubesOf new) ≡ flat (nodes (inOrder (netOf n)))
+      front = ap (take t) (s .cubes) ∙ take-at (flat gs) _ t (whole ∙ sym (s .number)) ∙ ap flat (sym nodes-are)
+
+      count : cubeCount (inOrder (netOf n)) ≡ total (λ c. c) (used n)
+      count = ap (total length) nodes-are ∙ sym (flat-length gs) ∙ whole
+
+-- ---- the answer
+
+module _ (n : Network) (j : Judged) (e : j ≡ judged n) where
+  -- what the judgement says of the rules
+  pub judged-kept : j ≡ Accepted → rules n ≡ true
+  unfolding judged
+  judged-kept q = go (rules n) (sym e ∙ q)
+    where
+      go : (b : Bool) → cond b Accepted (Refused 10) ≡ Accepted → b ≡ true
+      go true p = refl
+      go false p = let z : _≡_ {A = ℕ} 0 1 = cc in absurd (omega arith)
+
+  pub judged-broken : (k : ℕ) → j ≡ Refused k → (rules n ≡ false) × (j ≡ Refused 10)
+  unfolding judged
+  judged-broken k q = go (rules n) refl (sym e ∙ q)
+    where
+      go : (b : Bool) → rules n ≡ b → cond b Accepted (Refused 10) ≡ Refused k → (rules n ≡ false) × (j ≡ Refused 10)
+      go true r p = let z : _≡_ {A = ℕ} 0 1 = cc in absurd (omega arith)
+      go false r p = (r, e ∙ rw r)
+
+pub tidied-kept : (n : Network) (r : Tidy) → rules n ≡ true → r .answer ≡ Accepted → Holds (r .network) (inOrder (netOf n)) → Tidied n r
+tidied-kept n r h a k = subst (λ (b : Bool). tidied b n r) (sym h) (a, k)
+
+pub tidied-broken : (n : Network) (r : Tidy) → rules n ≡ false → r .answer ≡ Refused 10 → Blank (r .network) → Tidied n r
+tidied-broken n r h a k = subst (λ (b : Bool). tidied b n r) (sym h) (a, k)
+
+-- and what an answer says: the rules are kept where it is not a refusal
+module _ (n : Network) (r : Tidy) where
+  pub tidied-accepted : Tidied n r → r .answer ≡ Accepted → (rules n ≡ true) × Holds (r .network) (inOrder (netOf n))
+  tidied-accepted t a = go (rules n) refl t
+    where
+      go : (b : Bool) → rules n ≡ b → tidied b n r → (rules n ≡ true) × Holds (r .network) (inOrder (netOf n))
+      go true e (p, h) = (e, h)
+      go false e (p, h) = let z : _≡_ {A = ℕ} 0 1 = cc in absurd (omega arith)
+
+  pub tidied-refused : Tidied n r → (k : ℕ) → r .answer ≡ Refused k → (rules n ≡ false) × Blank (r .network)
+  tidied-refused t k a = go (rules n) refl t
+    where
+      go : (b : Bool) → rules n ≡ b → tidied b n r → (rules n ≡ false) × Blank (r .network)
+      go true e (p, h) = let z : _≡_ {A = ℕ} 0 1 = cc in absurd (omega arith)
+      go false e (p, h) = (e, h)
+
+-- as many words as a network has, of 64 bits each
+pub record Shaped (n : Network) : Type 0 where
+  pub places : length (n .words) ≡ 2176
+  pub fits : fit (n .words) ≡ true
+
+pub blank-one : (n p : Network) → Blank n → Blank p → n ≡ p
+blank-one n p h k = λ i. record {
+  inputs = (h .inputs ∙ sym (k .inputs)) i;
+  outputs = (h .outputs ∙ sym (k .outputs)) i;
+  divisors = (h .divisors ∙ sym (k .divisors)) i;
+  counts = (h .counts ∙ sym (k .counts)) i;
+  words = (h .words ∙ sym (k .words)) i;
+}
+
+-- two answers for one network are the same
+pub tidied-one : (n : Network) (r s : Tidy) → Shaped (r .network) → Shaped (s .network) → Tidied n r → Tidied n s → r ≡ s
+tidied-one n r s a b = go (rules n)
+  where
+    join : r .answer ≡ s .answer → r .network ≡ s .network → r ≡ s
+    join p q = λ i. record { answer = p i; network = q i }
+
+    go : (t : Bool) → tidied t n r → tidied t n s → r ≡ s
+    go true (p, h) (q, k) = join (p ∙ sym q) (holds-one (r .network) (s .network) (inOrder (netOf n)) (a .places) (b .places) (a .fits) (b .fits) h k)
+    go false (p, h) (q, k) = join (p ∙ sym q) (blank-one (r .network) (s .network) h k)
