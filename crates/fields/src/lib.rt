@@ -1,0 +1,1 @@
+// Bit fields and bytes: definitions and laws alone.

@@ -1,0 +1,8 @@
+pub mod NewNumbers
+pub mod Renumbering
+pub mod Ruling
+pub mod Fielding
+pub mod Reading
+pub mod Judging
+pub mod Refusing
+pub mod Trips

@@ -1,0 +1,64 @@
+-- A struct by the rules means a lawful network, and one that holds a lawful network is by the rules. Assumes nothing.
+use Prim.Native.Nat.{ℕ, _-_}
+use mathlib.Core.Path.{_≡_, sym, ap, subst}
+use mathlib.Core.Bool.{true}
+use mathlib.Core.List.{map}
+use native.Mathlib.Omega.{arith}
+use lib.ListN.{length, drop, replicate, length-append, length-map, length-replicate}
+use Rattle.sets.specs.Lists.{total}
+use Rattle.sets.proofs.Lists.{_∈_, total-map}
+use Rattle.expression.specs.Words.{cubesOf}
+use Rattle.expression.proofs.Words.{cubes-length}
+use Rattle.network.specs.Net.{Node, Net, nodes, literalCount}
+use Rattle.network.specs.Meaning.{Through}
+use Rattle.network.specs.Held.{cut, numbered, used, netOf, rules}
+use Rattle.network.specs.Handed.{Holds, nodeSlots}
+use Rattle.network.specs.declared.Network.{Network}
+use Rattle.network.proofs.Numbering.{numbered-cubes}
+use Rattle.network.proofs.Holding.{cubes-held, rules-outputs, rules-divisors, rules-iff}
+use Rattle.network.proofs.Handing.{used-held, holds-net}
+use Rattle.imaging.specs.Meaning.{Lawful}
+
+pub rules-lawful : (n : Network) → length (n .words) ≡ 2176 → length (n .counts) ≡ 96 → rules n ≡ true → Lawful (netOf n)
+rules-lawful n full slots h = let w = rules-iff n slots .0 h in record {
+  inputs = w .inputs;
+  outputs = omega (arith, w .outputs, rules-outputs n slots h);
+  few = omega (arith, w .variables, rules-divisors n slots h);
+  cubes = omega (arith, w .cubes, cubes-held n (omega (arith, w .cubes, cubes-length (n .words))));
+  literals = w .literals;
+  expressions = w .expressions;
+  known = λ f m v r. omega (arith, w .known f m v r, rules-divisors n slots h);
+  inTurn = ap (numbered (n .inputs)) (sym (numbered-cubes (n .inputs) (drop (n .outputs) (cut (used n) (cubesOf (n .words))))));
+  acyclic = w .acyclic;
+}
+
+module _ (p : Network) (m : Net) (h : Holds p m) (w : Lawful m) where
+  -- few enough nodes, so that the struct has its slots
+  slots : length (p .counts) ≡ 96
+  slots = omega (
+    arith,
+    ap length (h .counts),
+    length-append (map length (nodes m)) (replicate (nodeSlots - length (nodes m)) 0),
+    length-map (nodes m) length,
+    length-replicate {A = ℕ} (nodeSlots - length (nodes m)) 0,
+    length-append (m .outputs) (map (λ (e : Node). e .cubes) (m .divisors)),
+    length-map (m .divisors) (λ (e : Node). e .cubes),
+    w .inputs,
+    w .outputs,
+    w .few,
+  )
+
+  held : netOf p ≡ m
+  held = holds-net p m h (w .inTurn)
+
+  pub holds-lawful : rules p ≡ true
+  holds-lawful = rules-iff p slots .1 (record {
+    inputs = omega (arith, h .inputs, w .inputs);
+    outputs = omega (arith, h .outputs, w .outputs);
+    variables = omega (arith, h .inputs, h .divisors, w .few);
+    cubes = omega (arith, ap (total (λ c. c)) (used-held p m h), total-map (λ c. c) length (nodes m), w .cubes);
+    literals = omega (arith, ap literalCount held, w .literals);
+    expressions = λ f k. w .expressions f (subst (λ (z : Net). f ∈ nodes z) held k);
+    known = λ f k v r. omega (arith, h .inputs, h .divisors, w .known f (subst (λ (z : Net). f ∈ nodes z) held k) v r);
+    acyclic = λ v t. w .acyclic v (subst (λ (z : Net). Through z v v) held t);
+  })

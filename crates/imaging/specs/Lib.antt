@@ -1,0 +1,4 @@
+pub mod Renumber
+pub mod Image
+pub mod Reading
+pub mod Meaning

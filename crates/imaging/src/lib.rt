@@ -1,0 +1,1 @@
+// The packed image: definitions and laws alone.

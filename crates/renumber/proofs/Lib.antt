@@ -1,0 +1,7 @@
+pub mod Taking
+pub mod Placing
+pub mod Putting
+pub mod Summing
+pub mod Building
+pub mod Renumbering
+pub mod Telling
