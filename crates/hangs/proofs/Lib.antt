@@ -1,0 +1,5 @@
+pub mod Marking
+pub mod Reading
+pub mod Finding
+pub mod Hanging
+pub mod Answering

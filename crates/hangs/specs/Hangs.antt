@@ -1,0 +1,51 @@
+-- The divisors that an expression of a network hangs on, directly and through others.
+use Prim.Native.Nat.{ℕ, zero, suc, _/_, _<_}
+use mathlib.Core.Path.{_≡_}
+use mathlib.Core.Bool.{Bool, cond}
+use mathlib.Core.List.{List, [], _∷_, List·Memᴰ}
+use lib.Dec.{leb}
+use lib.ListN.{length, getD}
+use Rattle.sets.specs.Lists.{keep}
+use Rattle.sets.specs.Sets.{mem, insert, union}
+use Rattle.sets.specs.Masks.{bit}
+use Rattle.expression.specs.Value.{lit, value}
+use Rattle.network.specs.Net.{Net, nodes, cubesAt}
+use Rattle.network.specs.Held.{netOf, rules}
+use Rattle.network.specs.declared.Network.{Network}
+
+-- the variables of a cube's literals, ascending
+unfoldable pub variablesOf : List ℕ → List ℕ
+variablesOf [] = []
+variablesOf (l ∷ c) = insert (l / 2) (variablesOf c)
+
+-- the variables that an expression reads
+unfoldable pub readsOf : List (List ℕ) → List ℕ
+readsOf [] = []
+readsOf (c ∷ f) = union (variablesOf c) (readsOf f)
+
+-- what the divisors among the variables read
+unfoldable pub readBy : Net → List ℕ → List ℕ
+readBy n [] = []
+readBy n (v ∷ l) = union (readsOf (cubesAt v (n .divisors))) (readBy n l)
+
+-- the variables, and those that they read, so many times over
+unfoldable pub reached : ℕ → Net → List ℕ → List ℕ
+reached zero n l = l
+reached (suc k) n l = reached k n (union l (readBy n l))
+
+-- the divisors that an expression hangs on, directly and through others, ascending
+unfoldable pub hangsOn : Net → List (List ℕ) → List ℕ
+hangsOn n f = keep (λ v. leb (n .inputs) v) (reached (length (n .divisors)) n (readsOf f))
+
+-- those of node i, outputs first, then divisors; none where the network breaks a rule or has no such node
+unfoldable pub hangsAt : Network → ℕ → List ℕ
+hangsAt n i = cond (rules n) (hangsOn (netOf n) (getD (nodes (netOf n)) i [])) []
+
+-- an assignment has the setting s on the inputs, and at each divisor of a list the value of its expression
+pub record Fits (n : Net) (s : ℕ → Bool) (l : List ℕ) (a : ℕ → Bool) : Type 0 where
+  pub inputs : (i : ℕ) → i < n .inputs → a i ≡ s i
+  pub divisors : (v : ℕ) → List·Memᴰ v l → a v ≡ value (lit a) (cubesAt v (n .divisors))
+
+-- a mask has bit v exactly for the numbers v of a list
+pub record Marks (m : ℕ) (l : List ℕ) : Type 0 where
+  pub each : (v : ℕ) → bit m v ≡ mem v l
