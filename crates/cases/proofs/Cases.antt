@@ -9,7 +9,8 @@ use Rattle.expression.specs.Expression.{has, place, sort, loose}
 use Rattle.division.specs.Division.{divides, quotient, product, remainder}
 use Rattle.cokernel.specs.Cokernels.{common, isCokernel, opens}
 use Rattle.factor.specs.Form.{most, formBy}
-use Rattle.factor.specs.Text.{decimal, literalText, cubeText, sumText, formText}
+use Rattle.letters.specs.Letters.{digits, decimal, literalText, cubeText}
+use Rattle.factor.specs.Text.{sumText, formText}
 use Rattle.network.specs.Net.{cubesAt}
 use Rattle.network.specs.Listing.{ready, nextReady, listMore, listing}
 use Rattle.network.specs.Held.{numbered}
@@ -34,7 +35,7 @@ cases-hold = simp cokernels-opened (unfold
     mem sub apart insert union without meet same before has place sort loose
     divides quotient product remainder
     common isCokernel opens opened
-    most formBy decimal literalText cubeText sumText formText
+    most formBy digits decimal literalText cubeText sumText formText
     small useOf swap rewrite allUses allBases weight pairsIn smallerFirst sumOf sumsIn candidates sooner better bestOf best
     room choose move runFrom inOrder run cubesAt
     ready nextReady listMore listing numbered indexOf newNumber newLiteral newCube newNode renumbered

@@ -2,8 +2,8 @@
 use Prim.Native.Nat.{ℕ, _+_, _*_, _-_, _<_, _≤_}
 use mathlib.Core.Path.{_≡_, refl, sym, ap, _∙_}
 use mathlib.Core.Logic.{inl, inr}
-use mathlib.Core.Bool.{Bool, true, false, not}
-use mathlib.Core.List.{List, [], _∷_, map, List·Memᴰ·head as here, List·Memᴰ·tail as there}
+use mathlib.Core.Bool.{Bool, true, false, cond, not, false≢true}
+use mathlib.Core.List.{List, [], _∷_, _++_, map, List·Memᴰ·head as here, List·Memᴰ·tail as there}
 use native.Mathlib.Omega.{arith}
 use lib.Dec.{leb}
 use lib.ListN.{length, getD, take, drop, drop-of-length-le, length-take, length-drop, take-append-drop}
@@ -22,6 +22,7 @@ use Rattle.network.specs.Held.{cut, mostCubes}
 use Rattle.network.specs.Handed.{flat}
 use Rattle.network.specs.Parts.{nodesOf}
 use Rattle.network.proofs.Holding.{cut-node, cut-all, cut-lengths}
+use Rattle.network.proofs.Handing.{flat-length}
 use Rattle.network.proofs.Parts.{nodes-at, nodes-length}
 use Rattle.network.proofs.Places.{all-append}
 use Rattle.extraction.specs.Divisor.{sum, useOf, uses, bases}
@@ -39,6 +40,35 @@ module _ {A : Type 0} (p : A → Bool) (l : List A) (i : ℕ) where
 
   pub kept-done : length l ≤ i → keep p (drop i l) ≡ []
   kept-done h = rw (drop-of-length-le l h)
+
+-- a sum over what passes a test, list by list or over all
+module _ {A : Type 0} (g : A → ℕ) (p : A → Bool) where
+  kept-append : (l m : List A) → total g (keep p (l ++ m)) ≡ total g (keep p l) + total g (keep p m)
+  kept-append [] m = omega arith
+  kept-append (x ∷ l) m = elim (decided (p x)) [ inl e ↦ rw e (omega (arith, kept-append l m)) | inr e ↦ rw e (kept-append l m) ]
+
+  pub kept-flat : (fs : List (List A)) → total (λ f. total g (keep p f)) fs ≡ total g (keep p (flat fs))
+  kept-flat [] = refl
+  kept-flat (f ∷ fs) = omega (arith, kept-append f (flat fs), kept-flat fs)
+
+-- no more passes a stricter test
+pub kept-total-le : {A : Type 0} (g : A → ℕ) (p q : A → Bool) (l : List A) → ((x : A) → p x ≡ true → q x ≡ true) → total g (keep p l) ≤ total g (keep q l)
+kept-total-le g p q [] h = omega arith
+kept-total-le g p q (x ∷ l) h = go (p x) (q x) (h x) (kept-total-le g p q l h)
+  where
+    go : (a b : Bool) → (a ≡ true → b ≡ true) → total g (keep p l) ≤ total g (keep q l) → total g (cond a (x ∷ keep p l) (keep p l)) ≤ total g (cond b (x ∷ keep q l) (keep q l))
+    go true true k i = omega arith
+    go true false k i = absurd (false≢true (k refl))
+    go false true k i = omega arith
+    go false false k i = i
+
+pub length-total : {A : Type 0} (l : List A) → total (λ x. 1) l ≡ length l
+length-total [] = refl
+length-total (x ∷ l) = omega (arith, length-total l)
+
+pub counted-flat : {A : Type 0} (p : A → Bool) (fs : List (List A)) → total (λ f. length (keep p f)) fs ≡ length (keep p (flat fs))
+counted-flat p [] = refl
+counted-flat p (f ∷ fs) = omega (arith, kept-append (λ x. 1) p f (flat fs), length-total (keep p (f ++ flat fs)), length-total (keep p f), length-total (keep p (flat fs)), counted-flat p fs)
 
 -- a sum over fewer elements is no greater
 pub total-take-le : {A : Type 0} (f : A → ℕ) (l : List A) (i j : ℕ) → i ≤ j → total f (take i l) ≤ total f (take j l)
@@ -98,10 +128,16 @@ module _ (p : List ℕ → Bool) (each : (x y : ℕ) → p (literals 64 x y) ≡
       cut-all p (take e counts) f ∙ (both (all p (take t f)) (all p (drop t f)) (sym (all-append p (take t f) (drop t f)) ∙ ap (all p) (take-append-drop t f) ∙ all-words words)) .0
 
 -- the cubes of the nodes one after the other are those in use
-pub flat-cut : (ns : List ℕ) (f : List (List ℕ)) → flat (cut ns f) ≡ take (total (λ c. c) ns) f
+flat-cut : (ns : List ℕ) (f : List (List ℕ)) → flat (cut ns f) ≡ take (total (λ c. c) ns) f
 unfolding cut
 flat-cut [] f = refl
 flat-cut (n ∷ ns) f = rw (flat-cut ns (drop n f)) (sym (take-add n (total (λ c. c) ns) f))
+
+-- the part of so many cubes
+pub front-flat : (counts words : List ℕ) (e t : ℕ) (f : List (List ℕ)) → t ≡ total (λ c. c) (take e counts) → f ≡ take (t - 0) (drop 0 (cubesOf words)) → f ≡ flat (nodesOf e counts words)
+front-flat counts words e t f p q =
+    let z : t - 0 ≡ total (λ c. c) (take e counts) = omega arith in
+    q ∙ ap (λ k. take k (cubesOf words)) z ∙ sym (flat-cut (take e counts) (cubesOf words))
 
 -- the cubes between two places are a node's
 pub node-part : (counts words : List ℕ) (e i at end : ℕ) → i < e → at ≡ total (λ c. c) (take i counts) → end ≡ at + getD counts i 0
@@ -127,7 +163,7 @@ pub kept-le : {A : Type 0} (p : A → Bool) (l : List A) → length (keep p l) �
 kept-le p [] = omega arith
 kept-le p (x ∷ l) = elim (decided (p x)) [ inl e ↦ rw e (omega (arith, kept-le p l)) | inr e ↦ rw e (omega (arith, kept-le p l)) ]
 
-total-le : {A : Type 0} (f g : A → ℕ) (l : List A) → ((x : A) → x ∈ l → f x ≤ g x) → total f l ≤ total g l
+pub total-le : {A : Type 0} (f g : A → ℕ) (l : List A) → ((x : A) → x ∈ l → f x ≤ g x) → total f l ≤ total g l
 total-le f g [] k = omega arith
 total-le f g (x ∷ l) k = omega (arith, k x (here refl), total-le f g l (λ y m. k y (there m)))
 
@@ -143,24 +179,28 @@ bases-le a p (c ∷ f) h =
     let l = leb-true (length c) 128 (q .0) in
     elim (decided (p c)) [ inl e ↦ rw e (omega (arith, kept-le (λ x. not (mem x a)) c, bases-le a p f (q .1))) | inr e ↦ rw e (omega (arith, bases-le a p f (q .1))) ]
 
-module _ (words counts : List ℕ) (e : ℕ) (o : Orderly words counts e) (a b : List ℕ) where
+module _ (words counts : List ℕ) (e : ℕ) (o : Orderly words counts e) where
   cubes-few : total length (nodesOf e counts words) ≤ mostCubes
   cubes-few = omega (arith, cut-lengths (take e counts) (cubesOf words) (o .enough), o .enough, o .few)
 
-  -- so the counts stay small
-  pub uses-few : total (uses (sum a b)) (nodesOf e counts words) ≤ 1088
-  uses-few = omega (arith, cubes-few, total-le (uses (sum a b)) length (nodesOf e counts words) (λ f m. kept-le (useOf a b f) f))
+  pub flat-few : length (flat (nodesOf e counts words)) ≤ mostCubes
+  flat-few = omega (arith, flat-length (nodesOf e counts words), cubes-few)
 
-  pub literals-few : total (λ f. literalsOf (bases (sum a b) f)) (nodesOf e counts words) ≤ 139264
-  unfolding short
-  literals-few =
-      let s = all-held short (λ x y. le-leb (length (literals 64 x y)) 128 (literals-at-most 64 x y)) e counts words in
-      omega (
-        arith,
-        cubes-few,
-        total-le (λ f. literalsOf (bases (sum a b) f)) (λ f. length f * 128) (nodesOf e counts words) (λ f m. bases-le a (useOf a b f) f (all-out (all short) m s)),
-        total-times length 128 (nodesOf e counts words),
-      )
+  module _ (a b : List ℕ) where
+    -- so the counts stay small
+    pub uses-few : total (uses (sum a b)) (nodesOf e counts words) ≤ 1088
+    uses-few = omega (arith, cubes-few, total-le (uses (sum a b)) length (nodesOf e counts words) (λ f m. kept-le (useOf a b f) f))
+
+    pub literals-few : total (λ f. literalsOf (bases (sum a b) f)) (nodesOf e counts words) ≤ 139264
+    unfolding short
+    literals-few =
+        let s = all-held short (λ x y. le-leb (length (literals 64 x y)) 128 (literals-at-most 64 x y)) e counts words in
+        omega (
+          arith,
+          cubes-few,
+          total-le (λ f. literalsOf (bases (sum a b) f)) (λ f. length f * 128) (nodesOf e counts words) (λ f m. bases-le a (useOf a b f) f (all-out (all short) m s)),
+          total-times length 128 (nodesOf e counts words),
+        )
 
 -- the uses in the nodes before node i, and those from there on, are all
 pub record CountingAll (a b : List ℕ) (fs : List (List (List ℕ))) (i u l : ℕ) : Type 0 where

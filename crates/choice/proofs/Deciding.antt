@@ -6,7 +6,7 @@ use mathlib.Core.Bool.{true, false}
 use mathlib.Core.List.{List, [], _++_, List·Memᴰ·not-nil}
 use mathlib.Core.Option.{Option, none, some, Option·none-ne-some}
 use native.Mathlib.Omega.{arith}
-use lib.ListN.{length, take}
+use lib.ListN.{length}
 use lib.IntN.{pos}
 use lib.Signed.{ltZ}
 use Rattle.sets.specs.Lists.{all, from, total}
@@ -16,7 +16,6 @@ use Rattle.sets.proofs.Literals.{plain-injective, negated-injective}
 use Rattle.cube.specs.Cube.{lits}
 use Rattle.cube.specs.declared.Cube.{Cube}
 use Rattle.sets.proofs.Lists.{_∈_}
-use Rattle.expression.specs.Words.{cubesOf}
 use Rattle.expression.specs.Expression.{ordered}
 use Rattle.expression.proofs.Words.{cubes-length}
 use Rattle.network.specs.Net.{Net, nodes}
@@ -38,7 +37,7 @@ use Rattle.choice.specs.Parts.Leads.{nothing, first}
 use Rattle.choice.specs.declared.Divisor.{Divisor}
 use Rattle.choice.specs.declared.Divisor.the-variants.{Pair, Sum}
 use Rattle.choice.specs.declared.Step.{Step}
-use Rattle.choice.proofs.Counting.{all-held, flat-cut}
+use Rattle.choice.proofs.Counting.{all-held}
 use Rattle.choice.proofs.Pairs.{spans, spans-literals, leads-candidates}
 
 -- ---- networks in cube order
@@ -67,12 +66,12 @@ module _ (n : Network) (h : arranged n ≡ true) (slots : length (n .counts) ≡
 -- ---- the choice
 
 -- pairs judged among the cubes in use, and then sums among the nodes: all candidates
-pub all-judged : (words counts : List ℕ) (e : ℕ) (f : List (List ℕ)) (s r t : Step) → s ≡ noStep → f ≡ take (total (λ c. c) (take e counts)) (cubesOf words)
+pub all-judged : (words counts : List ℕ) (e : ℕ) (f : List (List ℕ)) (s r t : Step) → s ≡ noStep → f ≡ flat (nodesOf e counts words)
     → Adds (Cubes f) [] (pairsIn (from 0 128)) s r → Adds (Nodes (nodesOf e counts words)) [] (gather sumsIn (nodesOf e counts words)) r t
     → (n : Net) → Nodes (nodesOf e counts words) n → Leads n (candidates n) t
 all-judged words counts e f s r t z q g h n c =
     let none : (d : extraction.Divisor) → d ∈ [] → ⊥ = λ d m. List·Memᴰ·not-nil m in
-    let pairs = g .leads n (ap flat c ∙ flat-cut (take e counts) (cubesOf words) ∙ sym q) [] (λ d m. m) (nothing z (λ d m. absurd (none d m))) in
+    let pairs = g .leads n (ap flat c ∙ sym q) [] (λ d m. m) (nothing z (λ d m. absurd (none d m))) in
     let sums = h .leads n c (pairsIn (from 0 128) ++ []) (λ d m. absurd (none d m)) pairs in
     leads-candidates n (ap (all (all spans)) c ∙ all-held spans spans-literals e counts words) t
     (subst (λ fs. Leads n (gather sumsIn fs ++ (pairsIn (from 0 128) ++ [])) t) (sym c) sums)

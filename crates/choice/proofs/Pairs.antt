@@ -18,7 +18,6 @@ use Rattle.sets.proofs.Literals.{literals-asc, mem-inside}
 use Rattle.sets.proofs.Sets.{mem-of, of-mem, sub-in, sub-out, from-mem, from-asc}
 use Rattle.cube.specs.Cube.{joined}
 use Rattle.network.specs.Net.{Net, nodes}
-use Rattle.network.specs.Handed.{flat}
 use Rattle.extraction.specs.Divisor as extraction
 use Rattle.extraction.specs.Divisor.{pair, uses}
 use Rattle.extraction.specs.Extract.{allUses, weight, gather, pairsIn, sumsIn, candidates}
@@ -27,6 +26,8 @@ use Rattle.extraction.proofs.Offering.{gather-in, gather-out, pairs-out, pairs-
 use Rattle.choice.specs.Parts.{stepOf, taken, Leads, Adds, Cubes}
 use Rattle.choice.specs.declared.Step.{Step}
 use Rattle.choice.specs.declared.Divisor.the-variants.{Pair}
+use Rattle.choice.proofs.Ties.{not-above}
+use Rattle.choice.proofs.Counting.{counted-flat}
 use Rattle.choice.proofs.Judging.{leads-low, leads-same, leads-taken}
 
 -- ---- cubes of one or two literals
@@ -41,18 +42,10 @@ two-literals p q h k = rw (lt-ltb p 128 (omega arith), lt-ltb q 128 k, le-ltb q 
 
 -- ---- the uses of a pair
 
-kept-append : {A : Type 0} (p : A → Bool) (l m : List A) → length (keep p (l ++ m)) ≡ length (keep p l) + length (keep p m)
-kept-append p [] m = omega arith
-kept-append p (x ∷ l) m = elim (decided (p x)) [ inl e ↦ rw e (omega (arith, kept-append p l m)) | inr e ↦ rw e (kept-append p l m) ]
-
-kept-flat : {A : Type 0} (p : A → Bool) (fs : List (List A)) → total (λ f. length (keep p f)) fs ≡ length (keep p (flat fs))
-kept-flat p [] = refl
-kept-flat p (f ∷ fs) = omega (arith, kept-append p f (flat fs), kept-flat p fs)
-
 -- node borders do not matter for a pair
 pub pair-all : (n : Net) (f : List (List ℕ)) → Cubes f n → (p q : ℕ) → allUses n (pair p q) ≡ length (keep (sub (p ∷ q ∷ [])) f)
 unfolding allUses
-pair-all n f c p q = kept-flat (sub (p ∷ q ∷ [])) (nodes n) ∙ ap (λ g. length (keep (sub (p ∷ q ∷ [])) g)) c
+pair-all n f c p q = counted-flat (sub (p ∷ q ∷ [])) (nodes n) ∙ ap (λ g. length (keep (sub (p ∷ q ∷ [])) g)) c
 
 module _ (f : List (List ℕ)) where
   -- a pair is judged
@@ -65,19 +58,13 @@ module _ (f : List (List ℕ)) where
         leads-taken n (pair p q) l s _ (λ i. record { divisor = pair p q; weight = pos (x i) -ℤ pos 2; uses = x i }) h;
   }
 
-  low : (u : ℕ) → u ≤ 2 → ltZ (pos 0) (pos u -ℤ pos 2) ≡ false
-  low zero h = refl
-  low (suc zero) h = refl
-  low (suc (suc zero)) h = refl
-  low (suc (suc (suc u))) h = absurd (omega arith)
-
   -- the pairs of a literal that is in two cubes or fewer
   pub pairs-low : (p : ℕ) (l : List ℕ) (s : Step) → length (keep (sub (p ∷ [])) f) ≤ 2 → Adds (Cubes f) [] (map (pair p) l) s s
   unfolding weight sub
   pairs-low p l s h = record {
     leads = λ n c m k g. leads-low n (map (pair p) l) m s (λ d i.
         let r = map-out (pair p) l i in
-        rw (r .2) (low (allUses n (pair p (r .0))) (omega (
+        rw (r .2) (not-above (allUses n (pair p (r .0))) 2 (omega (
           arith,
           pair-all n f c p (r .0),
           keep-le (sub (p ∷ r .0 ∷ [])) (sub (p ∷ [])) f (λ x i t. together (mem p x) true ((both (mem p x) (mem (r .0) x && true) t) .0) refl),

@@ -1,38 +1,42 @@
 -- Sums: one judged by its uses in all nodes, those known by other cubes, and all of them in turn. Assumes nothing.
 use Prim.Native.Nat.{ℕ, zero, suc, _+_, _*_, _-_, _<_, _≤_}
-use mathlib.Core.Path.{_≡_, sym, ap, ap₂, _∙_}
-use mathlib.Core.Logic.{inl, inr}
-use mathlib.Core.Bool.{Bool, true, false}
-use mathlib.Core.List.{List, [], _∷_, _++_, List·Memᴰ·eq-of-singleton, Memᴰ·cast}
+use mathlib.Core.Path.{_≡_, refl, sym, ap, ap₂, _∙_, subst}
+use mathlib.Core.Logic.{_⊎_, inl, inr}
+use mathlib.Core.Bool.{Bool, true, false, not, false≢true}
+use mathlib.Core.List.{List, [], _∷_, _++_, List·Memᴰ·head as here, List·Memᴰ·tail as there, List·Memᴰ·not-nil, List·Memᴰ·eq-of-singleton, Memᴰ·cast, Memᴰ·append-left, Memᴰ·append-right}
+use native.Mathlib.Nat.{mul-le-mul-right}
 use native.Mathlib.Omega.{arith}
 use lib.Dec.{ltb}
 use lib.ListN.{length, getD, drop}
 use lib.IntN.{pos, _-ℤ_}
+use lib.Signed.{ltZ}
 use borrow.Author.Tests.{ltb-true}
-use Rattle.sets.specs.Lists.{any, all, total, pairwise}
-use Rattle.sets.specs.Sets.{asc, without, before}
-use Rattle.sets.proofs.Truth.{both, decided}
-use Rattle.sets.proofs.Lists.{_∈_, any-out, all-out, ahead}
+use Rattle.sets.specs.Lists.{isNil, any, all, keep, total, pairwise}
+use Rattle.sets.specs.Sets.{mem, sub, apart, asc, without, before}
+use Rattle.sets.proofs.Truth.{both, decided, clash}
+use Rattle.sets.proofs.Lists.{_∈_, any-out, all-out, keep-in, keep-all, keep-le, total-map, ahead}
 use Rattle.sets.proofs.Places.{drop-next}
 use Rattle.sets.proofs.Literals.{literals-asc}
-use Rattle.sets.proofs.Sets.{without-asc}
+use Rattle.sets.proofs.Sets.{without-asc, without-none, sub-refl}
 use Rattle.sets.proofs.Orders.{before-order}
 use Rattle.cube.specs.Cube.{lits}
 use Rattle.cube.specs.declared.Cube.{Cube}
 use Rattle.expression.specs.Words.{cubesOf}
 use Rattle.expression.specs.Expression.{literalsOf}
 use Rattle.network.specs.Net.{Net, nodes}
-use Rattle.extraction.specs.Divisor.{sum, small, useOf, uses, bases}
+use Rattle.network.specs.Handed.{flat}
+use Rattle.extraction.specs.Divisor.{Divisor, sum, small, useOf, uses, bases}
 use Rattle.extraction.specs.Extract.{allUses, allBases, weight, gather, smallerFirst, sumOf, sumsIn}
 use Rattle.extraction.specs.Meaning.{Parts, other}
-use Rattle.extraction.proofs.Using.{use-out}
+use Rattle.extraction.proofs.Using.{use-out, apart-flip}
 use Rattle.extraction.proofs.Parting.{parts-apart, parts-differ, use-left, use-right}
-use Rattle.extraction.proofs.Offering.{sums-made, sum-of-in}
-use Rattle.choice.specs.Parts.{stepOf, taken, Adds, Nodes, Counts}
+use Rattle.extraction.proofs.Offering.{sums-made, sum-of-in, sum-of-out}
+use Rattle.choice.specs.Parts.{stepOf, taken, Adds, Nodes, Alone, Counts}
 use Rattle.choice.specs.declared.Step.{Step}
 use Rattle.choice.specs.declared.Divisor.the-variants.{Sum}
-use Rattle.choice.proofs.Judging.{leads-taken, leads-known}
-use Rattle.choice.proofs.Counting.{all-words}
+use Rattle.choice.proofs.Judging.{leads-taken, leads-low, leads-known}
+use Rattle.choice.proofs.Counting.{kept-flat, kept-total-le, counted-flat, all-words, total-le}
+use Rattle.choice.proofs.Ties.{not-above}
 
 -- ---- one sum
 
@@ -104,10 +108,82 @@ module _ (c d : List ℕ) where
         },
       )
 
+-- ---- a sum with an empty base
+
+-- a list of one, by its length and what it has
+one-of : {A : Type 0} (l : List A) {x : A} → length l ≤ 1 → x ∈ l → l ≡ x ∷ []
+one-of [] h m = absurd (List·Memᴰ·not-nil m)
+one-of (y ∷ []) h m = ap (_∷ []) (sym (List·Memᴰ·eq-of-singleton m))
+one-of (y ∷ z ∷ l) h m = absurd (omega arith)
+
+pub flat-in : {A : Type 0} {x : A} {f : List A} {fs : List (List A)} → f ∈ fs → x ∈ f → x ∈ flat fs
+flat-in {x = x} (here {xs = fs} e) m = Memᴰ·append-left (flat fs) (subst (x ∈_) e m)
+flat-in (there {x = g} i) m = Memᴰ·append-right g (flat-in i m)
+
+-- a cube that only one contains, and that is one of them
+pub alone-in : (fs : List (List (List ℕ))) (c : List ℕ) → c ∈ flat fs → length (keep (sub c) (flat fs)) ≤ 1 → Alone fs c
+alone-in fs c m h = one-of (keep (sub c) (flat fs)) h (keep-in (sub c) m (sub-refl c))
+
+module _ (n : Net) (a b : List ℕ) (h : Alone (nodes n) a) where
+  within : (f : List (List ℕ)) (x : List ℕ) → useOf a b f x ≡ true → sub a x ≡ true
+  within f x u = (use-out a b f x u) .inside
+
+  lone-uses : allUses n (sum a b) ≤ 1
+  unfolding allUses
+  lone-uses = omega (
+    arith,
+    total-le (uses (sum a b)) (λ f. length (keep (sub a) f)) (nodes n) (λ f m. keep-le (useOf a b f) (sub a) f (λ x i u. within f x u)),
+    counted-flat (sub a) (nodes n),
+    ap length h,
+  )
+
+  lone-bases : allBases n (sum a b) ≡ 0
+  unfolding allBases
+  lone-bases = omega (
+    arith,
+    total-le (λ f. literalsOf (bases (sum a b) f)) (λ f. total (λ x. length (without x a)) (keep (sub a) f)) (nodes n) (λ f m. omega (
+      arith,
+      total-map length (λ x. without x a) (keep (useOf a b f) f),
+      kept-total-le (λ x. length (without x a)) (useOf a b f) (sub a) f (within f),
+    )),
+    kept-flat (λ x. length (without x a)) (sub a) (nodes n),
+    ap (total (λ x. length (without x a))) h,
+    nil-length (without a a) (without-none a a ∙ sub-refl a),
+  )
+    where
+      nil-length : (l : List ℕ) → isNil l ≡ true → length l ≡ 0
+      nil-length [] e = refl
+      nil-length (x ∷ l) e = absurd (false≢true e)
+
+  -- it has one use at most, with an empty base
+  lone-low : ltZ (pos 0) (weight n (sum a b)) ≡ false
+  unfolding weight
+  lone-low = not-above _ (length a + length b) (omega (arith, lone-bases, mul-le-mul-right ((length a + length b) - 1) lone-uses))
+
+-- two cubes that share no literal, the first one alone
+pub lone-judged : (fs : List (List (List ℕ))) (known : List Divisor) (c d : List ℕ) (s : Step) → Alone fs c → before c d ≡ true → apart c d ≡ true → Adds (Nodes fs) known (sumOf c d) s s
+unfolding without apart
+lone-judged fs known c d s h o e = record {
+  leads = λ n q l k g. leads-low n (sumOf c d) l s (λ x m. low n (subst (λ z. Alone z c) (sym q) h) x (sum-of-out c d x m)) g;
+}
+  where
+    left : without c d ≡ c
+    left = keep-all (λ l. not (mem l d)) c e
+
+    right : without d c ≡ d
+    right = keep-all (λ l. not (mem l c)) d (apart-flip c d e)
+
+    low : (n : Net) → Alone (nodes n) c → (x : Divisor)
+        → (small (without c d) ≡ true) × (small (without d c) ≡ true)
+        × (((x ≡ sum (without c d) (without d c)) × (before (without c d) (without d c) ≡ true)) ⊎ ((x ≡ sum (without d c) (without c d)) × (before (without c d) (without d c) ≡ false)))
+        → ltZ (pos 0) (weight n x) ≡ false
+    low n w x (i, j, inl (p, t)) = ap (λ z. ltZ (pos 0) (weight n z)) (p ∙ ap₂ sum left right) ∙ lone-low n c d w
+    low n w x (i, j, inr (p, t)) = clash o (ap₂ before (sym left) (sym right) ∙ t)
+
 -- ---- all of them in turn, from the last on
 
 module _ {A : Type 0} (l : List A) (i : ℕ) (d : A) (h : 0 < i) (k : i ≤ length l) where
-  drop-down : drop (i - 1) l ≡ getD l (i - 1) d ∷ drop i l
+  pub drop-down : drop (i - 1) l ≡ getD l (i - 1) d ∷ drop i l
   drop-down = let e : (i - 1) + 1 ≡ i = omega arith in drop-next l (i - 1) d (omega arith) ∙ ap (λ j. getD l (i - 1) d ∷ drop j l) e
 
   pub gather-down : {B : Type 0} (g : A → List B) → gather g (drop (i - 1) l) ≡ g (getD l (i - 1) d) ++ gather g (drop i l)

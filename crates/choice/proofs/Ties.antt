@@ -1,5 +1,5 @@
 -- What the tests of the order and of a use answer, step by step. Assumes nothing.
-use Prim.Native.Nat.{ℕ, zero, suc, _<_, _≤_}
+use Prim.Native.Nat.{ℕ, zero, suc, _+_, _-_, _<_, _≤_}
 use mathlib.Core.Path.{_≡_, refl, sym, ap, _∙_}
 use mathlib.Core.Logic.{inl, inr}
 use mathlib.Core.Bool.{Bool, true, false, not, _&&_, _||_, false≢true}
@@ -9,7 +9,7 @@ use native.Mathlib.Omega.{arith}
 use lib.Dec.{ltb}
 use lib.ListN.{length, getD}
 use lib.IntN.{pos, _-ℤ_}
-use lib.Signed.{mag}
+use lib.Signed.{ltZ, mag}
 use borrow.Author.Tests.{lt-ltb, le-ltb}
 use Rattle.sets.specs.Lists.{isNil, isSome}
 use Rattle.sets.specs.Sets.{mem, sub, apart, union, without, meet, lex, before}
@@ -31,6 +31,11 @@ use Rattle.extraction.specs.Divisor.{small, useOf}
 pub difference-small : (a b k : ℕ) → a < k → b < k → mag (pos a -ℤ pos b) < k
 difference-small a zero k h g = omega arith
 difference-small a (suc b) k h g = elim (decided (ltb a (suc b))) [ inl t ↦ rw t (omega arith) | inr t ↦ rw t (omega arith) ]
+
+-- one that takes as much away is not above 0
+pub not-above : (a b : ℕ) → a ≤ b → ltZ (pos 0) (pos a -ℤ pos b) ≡ false
+not-above a zero h = le-ltb 0 (a + 0) (omega arith)
+not-above a (suc b) h = elim (decided (ltb a (suc b))) [ inl t ↦ rw t | inr t ↦ rw t (le-ltb 0 (a - suc b) (omega arith)) ]
 
 -- ---- orders
 

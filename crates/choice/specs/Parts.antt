@@ -2,12 +2,12 @@
 use Prim.Native.Nat.{ℕ, _≤_}
 use mathlib.Core.Path.{_≡_}
 use mathlib.Core.Bool.{true, false, cond, _&&_}
-use mathlib.Core.List.{List, _++_, List·Memᴰ}
+use mathlib.Core.List.{List, [], _∷_, _++_, List·Memᴰ}
 use lib.ListN.{length, take}
 use lib.IntN.{pos, _-ℤ_}
 use lib.Signed.{ltZ}
-use Rattle.sets.specs.Lists.{all, total}
-use Rattle.sets.specs.Sets.{lex}
+use Rattle.sets.specs.Lists.{all, keep, total}
+use Rattle.sets.specs.Sets.{sub, lex}
 use Rattle.expression.specs.Words.{cubesOf}
 use Rattle.expression.specs.Expression.{ordered, literalsOf}
 use Rattle.network.specs.Net.{Net, nodes}
@@ -59,6 +59,14 @@ pub record Orderly (words counts : List ℕ) (e : ℕ) : Type 0 where
   pub enough : total (λ c. c) (take e counts) ≤ length (cubesOf words)
   pub few : length (cubesOf words) ≤ mostCubes
   pub sorted : all ordered (nodesOf e counts words) ≡ true
+
+-- each cube is one of these nodes'
+abbrev pub Inside : List (List (List ℕ)) → List (List ℕ) → Type 0
+Inside fs f = (c : List ℕ) → List·Memᴰ c f → List·Memᴰ c (flat fs)
+
+-- of the cubes of these nodes c alone contains c
+abbrev pub Alone : List (List (List ℕ)) → List ℕ → Type 0
+Alone fs c = keep (sub c) (flat fs) ≡ c ∷ []
 
 -- the uses of a sum in these nodes, and the literals in its bases
 pub record Counts (a b : List ℕ) (fs : List (List (List ℕ))) (u l : ℕ) : Type 0 where

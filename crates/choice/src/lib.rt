@@ -22,7 +22,7 @@ ghost use Rattle.extraction.specs.Divisor.{pair, sum, small, useOf};
 ghost use Rattle.extraction.specs.Extract.{gather, pairsIn, sumOf, sumsIn, candidates, sooner};
 ghost use Rattle.extraction.specs.Meaning.{Parts};
 ghost use Rattle.choice.specs.Choice.{divisorOf, noStep, Chosen, chosenIn};
-ghost use Rattle.choice.specs.Parts.{stepOf, taken, Leads, Adds, Nodes, Cubes, Orderly, Counts};
+ghost use Rattle.choice.specs.Parts.{stepOf, taken, Leads, Adds, Nodes, Cubes, Orderly, Inside, Alone, Counts};
 
 // Literals of a cube are below this.
 const LITERALS: u32 = 128;
@@ -355,23 +355,53 @@ fn judge_two(
     judge_new(words, counts, e, s, b, a, held)
 }
 
-// The sums of the cube c and each cube of s, where those of two cubes of s are judged.
-fn judge_sums_of(words: &[u64], counts: &[usize], e: usize, s: &[u64], c: Cube, held: Step) -> Step
-    requires { ⌜ Orderly (now words) (now counts) e × (ordered (cubesOf (now s)) ≡ true) ⌝ }
+// The sum of c and a cube d after it. Where they share no literal and c is in no other cube, it weighs less than 0.
+fn judge_after(
+    words: &[u64],
+    counts: &[usize],
+    e: usize,
+    s: &[u64],
+    c: Cube,
+    d: Cube,
+    alone: bool,
+    held: Step,
+) -> Step
+    requires { ⌜ Orderly (now words) (now counts) e × (ordered (cubesOf (now s)) ≡ true) × (before (lits c) (lits d) ≡ true) × (alone ≡ true → Alone (nodesOf e (now counts) (now words)) (lits c)) ⌝ }
+    ensures { λ r. ⌜ Adds (Nodes (nodesOf e (now (counts .entry)) (now (words .entry)))) (sumsIn (cubesOf (now (s .entry)))) (sumOf (lits c) (lits d)) held r ⌝ }
+{
+    if alone {
+        if cubes::is_empty(cubes::common(c, d)) {
+            return held;
+        }
+    }
+    judge_two(words, counts, e, s, c, d, held)
+}
+
+// The sums of the cube c and each cube of s, which stand after it, where those of two cubes of s are judged.
+fn judge_sums_of(
+    words: &[u64],
+    counts: &[usize],
+    e: usize,
+    s: &[u64],
+    c: Cube,
+    alone: bool,
+    held: Step,
+) -> Step
+    requires { ⌜ Orderly (now words) (now counts) e × (ordered (lits c ∷ cubesOf (now s)) ≡ true) × (alone ≡ true → Alone (nodesOf e (now counts) (now words)) (lits c)) ⌝ }
     ensures { λ r. ⌜ Adds (Nodes (nodesOf e (now (counts .entry)) (now (words .entry)))) (sumsIn (cubesOf (now (s .entry)))) (gather (sumOf (lits c)) (cubesOf (now (s .entry)))) held r ⌝ }
 {
     let mut r = held;
     let mut j = expression::number(s);
     while j > 0 {
         j -= 1;
-        r = judge_two(words, counts, e, s, c, expression::cube_at(s, j), r);
+        r = judge_after(words, counts, e, s, c, expression::cube_at(s, j), alone, r);
     }
     r
 }
 
-// The sums of two cubes of one node.
-fn judge_sums_in(words: &[u64], counts: &[usize], e: usize, s: &[u64], held: Step) -> Step
-    requires { ⌜ Orderly (now words) (now counts) e × (ordered (cubesOf (now s)) ≡ true) ⌝ }
+// The sums of two cubes of one node; the nodes have t cubes, its own among them.
+fn judge_sums_in(words: &[u64], counts: &[usize], e: usize, t: usize, s: &[u64], held: Step) -> Step
+    requires { ⌜ Orderly (now words) (now counts) e × (t ≡ total (λ c. c) (take e (now counts))) × (ordered (cubesOf (now s)) ≡ true) × Inside (nodesOf e (now counts) (now words)) (cubesOf (now s)) ⌝ }
     ensures { λ r. ⌜ Adds (Nodes (nodesOf e (now (counts .entry)) (now (words .entry)))) [] (sumsIn (cubesOf (now (s .entry)))) held r ⌝ }
 {
     let n = expression::number(s);
@@ -380,7 +410,9 @@ fn judge_sums_in(words: &[u64], counts: &[usize], e: usize, s: &[u64], held: Ste
     while i > 0 {
         let rest = expression::part(s, i, n);
         i -= 1;
-        r = judge_sums_of(words, counts, e, rest, expression::cube_at(s, i), r);
+        let c = expression::cube_at(s, i);
+        let alone = holders(expression::part(words, 0, t), c) <= 1;
+        r = judge_sums_of(words, counts, e, rest, c, alone, r);
     }
     r
 }
@@ -396,7 +428,7 @@ fn judge_sums(words: &[u64], counts: &[usize], e: usize, t: usize, held: Step) -
     while k > 0 {
         k -= 1;
         let at = end - counts[k];
-        r = judge_sums_in(words, counts, e, expression::part(words, at, end), r);
+        r = judge_sums_in(words, counts, e, t, expression::part(words, at, end), r);
         end = at;
     }
     r

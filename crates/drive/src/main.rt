@@ -76,6 +76,9 @@ fn answer_with(line: &[u8], g: Groups, a: usize, e: usize, out: &mut [u8]) -> us
         if wire::is_word(line, 0, name, b"evaluate") {
             return on_evaluate(line, g, v, out);
         }
+        if wire::is_word(line, 0, name, b"extract") {
+            return runs::on_extract(line, g, v, out);
+        }
     }
     wire::put_none(out)
 }

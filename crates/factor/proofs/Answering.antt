@@ -1,28 +1,32 @@
 -- The whole text: the cubes copied and sorted, its length in 64 bits, and the answer that its length and the room decide. Assumes nothing.
-use Prim.Native.Nat.{ℕ, suc, _-_, _*_, _<_, _≤_}
+use Prim.Native.Nat.{ℕ, _-_, _*_, _<_, _≤_}
 use mathlib.Core.Path.{_≡_, refl, sym, _∙_, ap, subst}
 use mathlib.Core.Bool.{cond}
-use mathlib.Core.List.{List, [], _∷_, _++_}
+use mathlib.Core.Logic.{inl, inr}
+use mathlib.Core.List.{List, [], _∷_, _++_, List·Memᴰ·not-nil, List·Memᴰ·cases-cons}
 use mathlib.Core.Option.{Option, none, some}
 use native.Mathlib.Omega.{arith}
 use lib.Dec.{ltb}
 use lib.ListN.{length, take, drop}
-use lib.Seq.{sets, take-all, take-at}
+use lib.Seq.{take-all, take-at}
 use borrow.Author.Tests.{lt-ltb, le-ltb}
-use Rattle.sets.proofs.Literals.{literals-at-most}
+use Rattle.sets.proofs.Lists.{_∈_}
+use Rattle.sets.proofs.Sets.{mem-of}
+use Rattle.sets.proofs.Literals.{literals-at-most, mem-inside}
 use Rattle.cube.specs.Cube.{width}
+use Rattle.letters.specs.Laid.{Countable}
 use Rattle.expression.specs.Words.{cubesOf, Placed}
 use Rattle.expression.specs.Expression.{literalsOf, sort}
 use Rattle.expression.specs.Answers.{refusal}
 use Rattle.expression.proofs.Words.{cubes-length}
-use Rattle.expression.proofs.Sorting.{sort-length, total-sort}
+use Rattle.expression.proofs.Sorting.{sort-out, sort-length, total-sort}
 use Rattle.factor.specs.Form.{formBy}
 use Rattle.factor.specs.Text.{formText, textOf}
-use Rattle.factor.specs.Parts.{Countable, Laid, part, Copied, sumOf}
+use Rattle.factor.specs.Parts.{part, Copied, sumOf}
 use Rattle.factor.specs.Answers.{refusedBy, Told}
 use Rattle.factor.specs.declared.Wrote.{Wrote}
 use Rattle.factor.specs.declared.Wrote.the-variants.{Bytes, Refused}
-use Rattle.factor.proofs.Writing.{sum-length}
+use Rattle.factor.proofs.Writing.{Inside, sum-length}
 
 -- ---- the cubes copied and sorted
 
@@ -45,25 +49,27 @@ literals-most [] = omega arith
 literals-most (p ∷ []) = omega arith
 literals-most (p ∷ n ∷ ws) = omega (arith, literals-at-most width p n, literals-most ws)
 
+-- every literal is one that a cube has places for
+words-inside : (ws : List ℕ) → Inside (cubesOf ws)
+unfolding cubesOf
+words-inside [] c i l j = absurd (List·Memᴰ·not-nil i)
+words-inside (p ∷ []) c i l j = absurd (List·Memᴰ·not-nil i)
+words-inside (p ∷ n ∷ ws) c i l j = elim (List·Memᴰ·cases-cons i) [
+  | inl e ↦ mem-inside width p n l (mem-of (subst (λ d. l ∈ d) e j))
+  | inr t ↦ words-inside ws c t l j
+]
+
 pub text-countable : (ws : List ℕ) → length ws ≤ 2048 → Countable 0 (textOf ws)
 text-countable ws h =
     omega (
       arith,
       ap length (text-sum ws),
-      sum-length (literalsOf (sort (cubesOf ws))) (sort (cubesOf ws)) (omega arith),
+      sum-length (literalsOf (sort (cubesOf ws))) (sort (cubesOf ws)) (omega arith) (λ c i. words-inside ws c (sort-out (cubesOf ws) i)),
       total-sort length (cubesOf ws),
       sort-length (cubesOf ws),
       literals-most ws,
       cubes-length ws,
     )
-
--- no room, and so no byte
-pub laid-nowhere : {new t : List ℕ} {at next : ℕ} → Laid [] new at next t → new ≡ []
-laid-nowhere {t = t} {at} r = r .bytes ∙ nowhere t at
-  where
-    nowhere : (t : List ℕ) (at : ℕ) → sets [] at t ≡ []
-    nowhere [] at = refl
-    nowhere (b ∷ t) at = nowhere t (suc at)
 
 -- ---- the answers
 

@@ -1,6 +1,4 @@
-pub mod Laying
 pub mod Texts
-pub mod Walking
 pub mod Choosing
 pub mod Parting
 pub mod Falling

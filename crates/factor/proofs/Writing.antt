@@ -1,21 +1,26 @@
 -- The text of a sum as the writers make it: the cubes as they stand, or a product, and after a `+` the rest; and how long it is at most. Assumes nothing.
-use Prim.Native.Nat.{ℕ, zero, suc, _+_, _-_, _*_, _/_, _%_, _<_, _≤_}
-use mathlib.Core.Path.{_≡_, refl, sym, _∙_, ap, ap₂}
-use mathlib.Core.Bool.{true, false, cond, true≢false, false≢true}
-use mathlib.Core.List.{List, [], _∷_, _++_, append-assoc, append-nil}
+use Prim.Native.Nat.{ℕ, zero, suc, _+_, _-_, _*_, _<_, _≤_}
+use mathlib.Core.Path.{_≡_, refl, sym, _∙_, ap, ap₂, subst}
+use mathlib.Core.Bool.{true, false, not, true≢false, false≢true}
+use mathlib.Core.List.{List, [], _∷_, _++_, append-assoc, append-nil, List·Memᴰ·head as here, List·Memᴰ·tail as there}
 use mathlib.Core.Logic.{_⊎_, inl, inr}
 use native.Mathlib.Omega.{arith}
-use lib.Dec.{ltb, eqb}
+use lib.Dec.{ltb}
 use lib.ListN.{length, length-append}
 use borrow.Author.Tests.{ltb-true, ltb-false}
-use Rattle.sets.specs.Lists.{isNil}
+use Rattle.sets.specs.Lists.{keep, isNil}
+use Rattle.sets.specs.Sets.{mem, without}
 use Rattle.sets.proofs.Truth.{decided}
+use Rattle.sets.proofs.Lists.{_∈_, keep-out, map-out}
+use Rattle.cube.specs.Cube.{width}
+use Rattle.letters.specs.Letters.{literalText, cubeText}
+use Rattle.letters.proofs.Texts.{literal-short, cube-length}
 use Rattle.expression.specs.Expression.{literalsOf}
 use Rattle.factor.specs.Form.{uses, mostUsed, over, rest, formBy}
-use Rattle.factor.specs.Text.{decimal, literalText, cubeText, sumText, formText}
+use Rattle.factor.specs.Text.{sumText, formText}
 use Rattle.factor.specs.Parts.{sumOf, productOf}
 use Rattle.factor.proofs.Falling.{literals-fall, cubes-split, over-length, over-less, rest-less, form-plain, form-times, form-plus, form-enough}
-use Rattle.factor.proofs.Texts.{mark, literal-start}
+use Rattle.factor.proofs.Choosing.{mostUsed-inside}
 
 abbrev Cubes : Type 0
 Cubes = List (List ℕ)
@@ -87,53 +92,52 @@ product-start l f = refl
 
 -- ---- at most five bytes for each literal, two for each cube and one more
 
-decimal-length : (n : ℕ) → length (decimal n) ≤ 2
-unfolding decimal
-decimal-length n = elim (ltb n 10) as (λ b. length (cond b ((48 + n) ∷ []) ((48 + n / 10) ∷ (48 + n % 10) ∷ [])) ≤ 2) [ true ↦ omega arith | false ↦ omega arith ]
+-- every literal is one that a cube has places for, also in F/l and in the rest
+abbrev pub Inside : Cubes → Type 0
+Inside f = (c : List ℕ) → c ∈ f → (l : ℕ) → l ∈ c → l < 2 * width
 
-mark-length : (l : ℕ) → length (mark l) ≤ 1
-mark-length l = elim (eqb (l % 2) 0) as (λ b. length (cond {A = List ℕ} b [] (39 ∷ [])) ≤ 1) [ true ↦ omega arith | false ↦ omega arith ]
+over-inside : (l : ℕ) (f : Cubes) → Inside f → Inside (over l f)
+unfolding without
+over-inside l f h c i x j =
+    let o = map-out (λ d. without d (l ∷ [])) (keep (mem l) f) i in
+    h (o .0) (keep-out (mem l) f (o .1) .0) x (keep-out (λ y. not (mem y (l ∷ []))) (o .0) (subst (λ d. x ∈ d) (o .2) j) .0)
 
-literal-length : (l : ℕ) → length (literalText l) ≤ 4
-literal-length l = rw (literal-start l) (omega (arith, length-append (decimal (l / 2)) (mark l), decimal-length (l / 2), mark-length l))
+rest-inside : (l : ℕ) (f : Cubes) → Inside f → Inside (rest l f)
+rest-inside l f h c i = h c (keep-out (λ d. not (mem l d)) f i .0)
 
-cube-length : (c : List ℕ) → length (cubeText c) ≤ 5 * length c + 1
-unfolding cubeText
-cube-length [] = omega arith
-cube-length (l ∷ []) = omega (arith, literal-length l)
-cube-length (l ∷ m ∷ c) = omega (arith, literal-length l, cube-length (m ∷ c), length-append (literalText l) (42 ∷ cubeText (m ∷ c)))
-
-plain-length : (f : Cubes) → length (sumText f) ≤ 5 * literalsOf f + 2 * length f + 1
+plain-length : (f : Cubes) → Inside f → length (sumText f) ≤ 5 * literalsOf f + 2 * length f + 1
 unfolding sumText
-plain-length [] = omega arith
-plain-length (c ∷ []) = omega (arith, cube-length c)
-plain-length (c ∷ d ∷ f) = omega (arith, cube-length c, plain-length (d ∷ f), length-append (cubeText c) (43 ∷ sumText (d ∷ f)))
+plain-length [] h = omega arith
+plain-length (c ∷ []) h = omega (arith, cube-length c (h c (here refl)))
+plain-length (c ∷ d ∷ f) h = omega (arith, cube-length c (h c (here refl)), plain-length (d ∷ f) (λ x i. h x (there i)), length-append (cubeText c) (43 ∷ sumText (d ∷ f)))
 
-product-length : (l : ℕ) (f : Cubes) → length (productOf l f) ≤ length (sumOf f) + 7
+product-length : (l : ℕ) (f : Cubes) → l < 2 * width → length (productOf l f) ≤ length (sumOf f) + 7
 unfolding productOf
-product-length l f = omega (arith, literal-length l, length-append (literalText l) (42 ∷ 40 ∷ (sumOf f ++ (41 ∷ []))), length-append (sumOf f) (41 ∷ []))
+product-length l f h = omega (arith, literal-short l h, length-append (literalText l) (42 ∷ 40 ∷ (sumOf f ++ (41 ∷ []))), length-append (sumOf f) (41 ∷ []))
 
 -- by the number of literals
-pub sum-length : (k : ℕ) (f : Cubes) → literalsOf f ≤ k → length (sumOf f) ≤ 5 * literalsOf f + 2 * length f + 1
-sum-length zero f h = rw (sum-plain f (omega (arith, literals-fall (mostUsed f) f))) (plain-length f)
-sum-length (suc k) f h = go (decided (ltb (uses (mostUsed f) f) 2)) (decided (isNil (rest (mostUsed f) f))) (sum-length k (over (mostUsed f) f)) (sum-length k (rest (mostUsed f) f))
+pub sum-length : (k : ℕ) (f : Cubes) → literalsOf f ≤ k → Inside f → length (sumOf f) ≤ 5 * literalsOf f + 2 * length f + 1
+sum-length zero f h n = rw (sum-plain f (omega (arith, literals-fall (mostUsed f) f))) (plain-length f n)
+sum-length (suc k) f h n =
+    go (decided (ltb (uses (mostUsed f) f) 2)) (decided (isNil (rest (mostUsed f) f)))
+    (λ i. sum-length k (over (mostUsed f) f) i (over-inside (mostUsed f) f n)) (λ i. sum-length k (rest (mostUsed f) f) i (rest-inside (mostUsed f) f n))
   where
     go : (ltb (uses (mostUsed f) f) 2 ≡ true) ⊎ (ltb (uses (mostUsed f) f) 2 ≡ false) → (isNil (rest (mostUsed f) f) ≡ true) ⊎ (isNil (rest (mostUsed f) f) ≡ false)
         → (literalsOf (over (mostUsed f) f) ≤ k → length (sumOf (over (mostUsed f) f)) ≤ 5 * literalsOf (over (mostUsed f) f) + 2 * length (over (mostUsed f) f) + 1)
         → (literalsOf (rest (mostUsed f) f) ≤ k → length (sumOf (rest (mostUsed f) f)) ≤ 5 * literalsOf (rest (mostUsed f) f) + 2 * length (rest (mostUsed f) f) + 1)
         → length (sumOf f) ≤ 5 * literalsOf f + 2 * length f + 1
-    go (inl t) n q r = rw (sum-plain f (ltb-true _ _ t)) (plain-length f)
-    go (inr t) (inl n) q r =
+    go (inl t) e q r = rw (sum-plain f (ltb-true _ _ t)) (plain-length f n)
+    go (inr t) (inl e) q r =
         let many : 2 ≤ uses (mostUsed f) f = ltb-false _ _ t in
-        rw (sum-times f many n)
-        (omega (arith, product-length (mostUsed f) (over (mostUsed f) f), q (omega (arith, over-less (mostUsed f) f many)), literals-fall (mostUsed f) f, cubes-split (mostUsed f) f, over-length (mostUsed f) f))
-    go (inr t) (inr n) q r =
+        rw (sum-times f many e)
+        (omega (arith, product-length (mostUsed f) (over (mostUsed f) f) (mostUsed-inside f), q (omega (arith, over-less (mostUsed f) f many)), literals-fall (mostUsed f) f, cubes-split (mostUsed f) f, over-length (mostUsed f) f))
+    go (inr t) (inr e) q r =
         let many : 2 ≤ uses (mostUsed f) f = ltb-false _ _ t in
-        rw (sum-plus f many n)
+        rw (sum-plus f many e)
         (omega (
           arith,
           length-append (productOf (mostUsed f) (over (mostUsed f) f)) (43 ∷ sumOf (rest (mostUsed f) f)),
-          product-length (mostUsed f) (over (mostUsed f) f),
+          product-length (mostUsed f) (over (mostUsed f) f) (mostUsed-inside f),
           q (omega (arith, over-less (mostUsed f) f many)),
           r (omega (arith, rest-less (mostUsed f) f many)),
           literals-fall (mostUsed f) f,

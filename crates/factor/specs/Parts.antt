@@ -1,24 +1,15 @@
--- What the contracts of the writers say: a text written as far as there is room, and a part of the lent cubes.
-use Prim.Native.Nat.{ℕ, _+_, _-_, _<_, _≤_}
+-- What the contracts of the writers say: a part of the lent cubes, and the texts made of it.
+use Prim.Native.Nat.{ℕ, _-_, _≤_}
 use mathlib.Core.Path.{_≡_}
 use mathlib.Core.List.{List, [], _∷_, _++_}
 use lib.ListN.{length, take, drop}
-use lib.Seq.{sets, slice}
+use lib.Seq.{slice}
+use Rattle.letters.specs.Letters.{literalText}
+use Rattle.letters.specs.Laid.{Laid}
 use Rattle.expression.specs.Words.{cubesOf}
 use Rattle.expression.specs.Expression.{literalsOf}
 use Rattle.factor.specs.Form.{over, rest, formBy}
-use Rattle.factor.specs.Text.{literalText, formText}
-
--- ---- a text in a room
-
--- the place after the text is a number of 64 bits
-abbrev pub Countable : ℕ → List ℕ → Type 0
-Countable at t = at + length t < 18446744073709551616
-
--- the bytes of the text are stored from a place on, each for which there is room; next is the place after the text
-pub record Laid (old new : List ℕ) (at next : ℕ) (t : List ℕ) : Type 0 where
-  pub place : next ≡ at + length t
-  pub bytes : new ≡ sets old at t
+use Rattle.factor.specs.Text.{formText}
 
 -- ---- a part of the cubes
 

@@ -1,24 +1,9 @@
 -- The text of a form, as bytes.
-use Prim.Native.Nat.{ℕ, _+_, _/_, _%_}
-use mathlib.Core.Bool.{cond}
+use Prim.Native.Nat.{ℕ}
 use mathlib.Core.List.{List, [], _∷_, _++_}
-use lib.Dec.{ltb, eqb}
+use Rattle.letters.specs.Letters.{literalText, cubeText}
 use Rattle.expression.specs.Words.{cubesOf}
 use Rattle.factor.specs.Form.{Form, sum, times, plus, formOf}
-
--- a number below 100 in decimal
-unfoldable pub decimal : ℕ → List ℕ
-decimal n = cond (ltb n 10) ((48 + n) ∷ []) ((48 + n / 10) ∷ (48 + n % 10) ∷ [])
-
--- `x3` and `x3'`
-unfoldable pub literalText : ℕ → List ℕ
-literalText l = 120 ∷ (decimal (l / 2) ++ cond (eqb (l % 2) 0) [] (39 ∷ []))
-
--- literals with `*` between them; the empty cube is `1`
-unfoldable pub cubeText : List ℕ → List ℕ
-cubeText [] = 49 ∷ []
-cubeText (l ∷ []) = literalText l
-cubeText (l ∷ m ∷ c) = literalText l ++ (42 ∷ cubeText (m ∷ c))
 
 -- cubes with `+` between them; no cubes is `0`
 unfoldable pub sumText : List (List ℕ) → List ℕ

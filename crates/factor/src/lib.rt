@@ -1,17 +1,15 @@
 // The factored text of a lent expression. A sum writer and a product writer call each other; the literal count of the cubes falls.
-// Each writer counts every byte and stores those that there is room for, so that the length is known before a byte is written.
-use cube::Cube;
-use cube::Found;
+// The writers count every byte, so that the length is known before a byte is written.
 use cube::Literal;
 use expression::Verdict;
 ghost use mathlib.Core.Path.{_≡_};
-ghost use mathlib.Core.List.{[], _∷_};
 ghost use Prim.Native.Nat.{_*_, _<_, _≤_};
 ghost use lib.ListN.{length};
-ghost use Rattle.cube.specs.Cube.{lits, width};
+ghost use Rattle.cube.specs.Cube.{width};
+ghost use Rattle.letters.specs.Laid.{Countable, Laid};
 ghost use Rattle.factor.specs.Form.{uses, mostUsed};
-ghost use Rattle.factor.specs.Text.{decimal, literalText, cubeText, sumText, textOf};
-ghost use Rattle.factor.specs.Parts.{Countable, Laid, part, Held, Lent, Parted, Gathered, Copied, sumOf, productOf, Wrought};
+ghost use Rattle.factor.specs.Text.{sumText, textOf};
+ghost use Rattle.factor.specs.Parts.{part, Held, Lent, Parted, Gathered, Copied, sumOf, productOf, Wrought};
 ghost use Rattle.factor.specs.Answers.{refusedBy, Told};
 
 // Literals of the variables that a cube has places for.
@@ -25,63 +23,7 @@ pub enum Wrote {
     Refused(u32),
 }
 
-// ---- a text in a room
-
-// One byte, where there is room for it; the next place.
-fn put(o: &mut [u8], at: usize, b: u8) -> usize
-    requires { ⌜ Countable at (b ∷ []) ⌝ }
-    ensures { λ r. ⌜ Laid (now (o .entry)) (now (o .exit)) at r (b ∷ []) ⌝ }
-{
-    if at < o.len() {
-        o[at] = b;
-    }
-    at + 1
-}
-
-fn put_number(o: &mut [u8], at: usize, n: u32) -> usize
-    requires { ⌜ (n < 100) × Countable at (decimal n) ⌝ }
-    ensures { λ r. ⌜ Laid (now (o .entry)) (now (o .exit)) at r (decimal n) ⌝ }
-{
-    if n < 10 {
-        return put(o, at, (48 + n) as u8);
-    }
-    let p = put(o, at, (48 + n / 10) as u8);
-    put(o, p, (48 + n % 10) as u8)
-}
-
-fn put_literal(o: &mut [u8], at: usize, l: Literal) -> usize
-    requires { ⌜ (l .0 < 2 * width) × Countable at (literalText (l .0)) ⌝ }
-    ensures { λ r. ⌜ Laid (now (o .entry)) (now (o .exit)) at r (literalText (l .0)) ⌝ }
-{
-    let p = put(o, at, b'x');
-    let q = put_number(o, p, l.0 / 2);
-    if l.0 % 2 == 0 {
-        return q;
-    }
-    put(o, q, b'\'')
-}
-
-// Literals with `*` between them; the empty cube is `1`.
-fn put_product(o: &mut [u8], at: usize, c: Cube) -> usize
-    requires { ⌜ Countable at (cubeText (lits c)) ⌝ }
-    ensures { λ r. ⌜ Laid (now (o .entry)) (now (o .exit)) at r (cubeText (lits c)) ⌝ }
-{
-    let first = order::first_from(c, Literal(0));
-    let Found::At(l) = first else {
-        return put(o, at, b'1');
-    };
-    let mut p = put_literal(o, at, l);
-    let mut from = l.0 + 1;
-    loop {
-        let found = order::first_from(c, Literal(from));
-        let Found::At(m) = found else {
-            return p;
-        };
-        p = put(o, p, b'*');
-        p = put_literal(o, p, m);
-        from = m.0 + 1;
-    }
-}
+// ---- the cubes as they stand
 
 // Cubes a up to e with `+` between them; no cubes is `0`.
 fn put_cubes(o: &mut [u8], at: usize, w: &[u64], a: usize, e: usize) -> usize
@@ -89,13 +31,13 @@ fn put_cubes(o: &mut [u8], at: usize, w: &[u64], a: usize, e: usize) -> usize
     ensures { λ r. ⌜ Laid (now (o .entry)) (now (o .exit)) at r (sumText (part a e (now (w .entry)))) ⌝ }
 {
     if a == e {
-        return put(o, at, b'0');
+        return letters::put(o, at, b'0');
     }
-    let mut p = put_product(o, at, expression::cube_at(w, a));
+    let mut p = letters::put_product(o, at, expression::cube_at(w, a));
     let mut i = a + 1;
     while i < e {
-        p = put(o, p, b'+');
-        p = put_product(o, p, expression::cube_at(w, i));
+        p = letters::put(o, p, b'+');
+        p = letters::put_product(o, p, expression::cube_at(w, i));
         i += 1;
     }
     p
@@ -197,7 +139,7 @@ fn sum(w: &mut [u64], spare: &mut [u64], a: usize, e: usize, o: &mut [u8], at: u
     if m == e {
         return p;
     }
-    let q = put(o, p, b'+');
+    let q = letters::put(o, p, b'+');
     sum(w, spare, m, e, o, q)
 }
 
@@ -211,14 +153,14 @@ fn product(
     o: &mut [u8],
     at: usize,
 ) -> usize
-    requires { ⌜ (l .0 < 2 * width) × Lent (now w) (now spare) a e × Countable at (productOf (l .0) (part a e (now w))) ⌝ }
+    requires { ⌜ Lent (now w) (now spare) a e × Countable at (productOf (l .0) (part a e (now w))) ⌝ }
     ensures { λ r. ⌜ Wrought (now (w .entry)) (now (w .exit)) (now (o .entry)) (now (o .exit)) a e at r (productOf (l .0) (part a e (now (w .entry)))) ⌝ }
 {
-    let p = put_literal(o, at, l);
-    let q = put(o, p, b'*');
-    let r = put(o, q, b'(');
+    let p = letters::put_literal(o, at, l);
+    let q = letters::put(o, p, b'*');
+    let r = letters::put(o, q, b'(');
     let s = sum(w, spare, a, e, o, r);
-    put(o, s, b')')
+    letters::put(o, s, b')')
 }
 
 // ---- the whole text

@@ -15,7 +15,7 @@ use Rattle.sets.specs.Sets.{mem, same}
 use Rattle.sets.proofs.Truth.{refuted}
 use Rattle.sets.proofs.Sets.{same-eq}
 use Rattle.sets.proofs.Places.{drop-next}
-use Rattle.text.specs.Text.{isBlank, isDigit, trimFront, written, decimal}
+use Rattle.text.specs.Text.{isBlank, isDigit, trimFront, written, valueOf}
 use Rattle.text.specs.Lines.{argument, withNumber, named, kindOf}
 use Rattle.text.specs.declared.Kind.the-variants.{Empty, Inputs, Outputs, Products, End, Other}
 
@@ -55,21 +55,21 @@ module _ (b : ℕ) (s : List ℕ) (i : ℕ) where
 -- ---- decimal numbers
 
 module _ (t : List ℕ) where
-  pub decimal-short : length t ≡ 0 → none ≡ decimal t
-  unfolding decimal
-  decimal-short h = rw (lt-leb 1 (length t) (omega arith))
+  pub value-short : length t ≡ 0 → none ≡ valueOf t
+  unfolding valueOf
+  value-short h = rw (lt-leb 1 (length t) (omega arith))
 
-  pub decimal-long : 5 < length t → none ≡ decimal t
-  unfolding decimal
-  decimal-long h = rw (lt-leb (length t) 5 h, and-false (leb 1 (length t)))
+  pub value-long : 5 < length t → none ≡ valueOf t
+  unfolding valueOf
+  value-long h = rw (lt-leb (length t) 5 h, and-false (leb 1 (length t)))
 
-  pub decimal-stray : all isDigit t ≡ false → none ≡ decimal t
-  unfolding decimal
-  decimal-stray h = rw (h, and-false (leb (length t) 5), and-false (leb 1 (length t)))
+  pub value-stray : all isDigit t ≡ false → none ≡ valueOf t
+  unfolding valueOf
+  value-stray h = rw (h, and-false (leb (length t) 5), and-false (leb 1 (length t)))
 
-  pub decimal-read : 0 < length t → length t ≤ 5 → all isDigit t ≡ true → some (written 0 t) ≡ decimal t
-  unfolding decimal
-  decimal-read h k e = rw (le-leb 1 (length t) (omega arith), le-leb (length t) 5 k, e)
+  pub value-read : 0 < length t → length t ≤ 5 → all isDigit t ≡ true → some (written 0 t) ≡ valueOf t
+  unfolding valueOf
+  value-read h k e = rw (le-leb 1 (length t) (omega arith), le-leb (length t) 5 k, e)
 
   pub written-on : (n i : ℕ) → i < length t → written n (drop i t) ≡ written (10 * n + (getD t i 0 - 48)) (drop (i + 1) t)
   unfolding written
@@ -111,7 +111,7 @@ unfolding argument
 argument-solid [] h e = refl
 argument-solid (b ∷ t) h e = rw e
 
-pub argument-read : (t : List ℕ) → (length t ≡ 0 → ⊥) → isBlank (getD t 0 0) ≡ true → argument t ≡ decimal (trimFront (drop 1 t))
+pub argument-read : (t : List ℕ) → (length t ≡ 0 → ⊥) → isBlank (getD t 0 0) ≡ true → argument t ≡ valueOf (trimFront (drop 1 t))
 unfolding argument
 argument-read [] h e = absurd (h refl)
 argument-read (b ∷ t) h e = rw e

@@ -54,5 +54,5 @@ written n [] = n
 written n (b ∷ t) = written (10 * n + (b - 48)) t
 
 -- one to five digits
-unfoldable pub decimal : List ℕ → Option ℕ
-decimal t = cond (leb 1 (length t) && (leb (length t) 5 && all isDigit t)) (some (written 0 t)) none
+unfoldable pub valueOf : List ℕ → Option ℕ
+valueOf t = cond (leb 1 (length t) && (leb (length t) 5 && all isDigit t)) (some (written 0 t)) none

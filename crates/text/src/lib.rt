@@ -10,7 +10,7 @@ ghost use Rattle.sets.specs.Lists.{all};
 ghost use Rattle.sets.specs.Sets.{mem, same};
 ghost use Rattle.sets.specs.Masks.{packed};
 ghost use Rattle.cube.specs.Cube.{lits};
-ghost use Rattle.text.specs.Text.{isBlank, lineOf, uncommented, trimFront, trimEnd, content, decimal};
+ghost use Rattle.text.specs.Text.{isBlank, lineOf, uncommented, trimFront, trimEnd, content, valueOf};
 ghost use Rattle.text.specs.Lines.{argument, named, kindOf, cubeFrom};
 ghost use Rattle.text.specs.Answers.{parsedOf, parsing};
 ghost use Rattle.text.specs.Parts.{upTo, among, numberIn, placed};
@@ -141,7 +141,7 @@ fn digit(b: u8) -> u32
 
 // The number of one to five digits and nothing else.
 fn decimal_of(t: &[u8]) -> Number
-    ensures { λ r. ⌜ numberIn r ≡ decimal (now (t .entry)) ⌝ }
+    ensures { λ r. ⌜ numberIn r ≡ valueOf (now (t .entry)) ⌝ }
 {
     if t.len() == 0 || t.len() > DIGITS {
         return Number::Missing;

@@ -1,21 +1,19 @@
 -- `choice::choose` meets its contract: all candidates are judged. Assumes nothing.
-use Prim.Native.Nat.{_-_}
-use mathlib.Core.Path.{_≡_, _∙_, ap}
+use mathlib.Core.Path.{_≡_, ap}
 use native.Mathlib.Omega.{arith}
-use lib.ListN.{length, take, length-take}
-use Rattle.sets.specs.Lists.{total}
+use lib.ListN.{length}
 use Rattle.expression.specs.Words.{cubesOf}
+use Rattle.network.specs.Handed.{flat}
+use Rattle.network.specs.Parts.{nodesOf}
+use Rattle.choice.proofs.Counting.{front-flat, flat-few}
 use Rattle.choice.proofs.Deciding.{all-judged}
 use borrow.Author.Needs.{needs}
 use Rattle.choice.proofs.choose.Statement.{statement}
 use Rattle.choice.proofs.choose.Tie as tie
 
 -- the part is the cubes in use
-used : (c : tie.After-part) → cubesOf (c .part .result .now) ≡ take (total (λ n. n) (take (c .before .before .before .before .args .e) (c .before .before .before .before .args .counts .now))) (cubesOf (c .before .before .before .before .args .words .now))
-used c =
-    let s = c .before .before .before .before in
-    let z : c .before .cubes-of .result - 0 ≡ total (λ n. n) (take (s .args .e) (s .args .counts .now)) = omega (arith, c .before .cubes-of .ensures) in
-    c .part .ensures .0 ∙ ap (λ k. take k (cubesOf (s .args .words .now))) z
+used : (c : tie.After-part) → cubesOf (c .part .result .now) ≡ flat (nodesOf (c .before .before .before .before .args .e) (c .before .before .before .before .args .counts .now) (c .before .before .before .before .args .words .now))
+used c = let s = c .before .before .before .before in front-flat (s .args .counts .now) (s .args .words .now) (s .args .e) (c .before .cubes-of .result) _ (c .before .cubes-of .ensures) (c .part .ensures .0)
 
 cubes-of-requires : tie.Need-cubes-of-requires
 cubes-of-requires c κs = search needs
@@ -27,10 +25,7 @@ no-step-requires : tie.Need-no-step-requires
 no-step-requires c κs = search needs
 
 judge-pairs-requires : tie.Need-judge-pairs-requires
-judge-pairs-requires c κs =
-    let s = c .before .before .before .before .before in
-    let f = cubesOf (s .args .words .now) in
-    omega (arith, ap length (used (c .before)), length-take (total (λ n. n) (take (s .args .e) (s .args .counts .now))) f, s .pre .few)
+judge-pairs-requires c κs = let s = c .before .before .before .before .before in omega (arith, ap length (used (c .before)), flat-few (s .args .words .now) (s .args .counts .now) (s .args .e) (s .pre))
 
 judge-sums-requires : tie.Need-judge-sums-requires
 judge-sums-requires c κs = search needs

@@ -6,6 +6,7 @@ use native.Mathlib.Omega.{arith}
 use borrow.Author.Needs.{needs}
 use lib.ListN.{length, getD, take, drop, drop-of-length-le}
 use Rattle.sets.specs.Lists.{total}
+use Rattle.sets.proofs.Places.{at-in}
 use Rattle.expression.specs.Words.{cubesOf}
 use Rattle.network.specs.Parts.{nodesOf}
 use Rattle.network.proofs.Parts.{start-next, nodes-length}
@@ -13,7 +14,7 @@ use Rattle.extraction.specs.Extract.{gather, sumsIn}
 use Rattle.choice.specs.Parts.{Adds, Nodes}
 use Rattle.choice.proofs.Judging.{adds-none, adds-more}
 use Rattle.choice.proofs.Counting.{node-part, node-ordered}
-use Rattle.choice.proofs.Sums.{gather-down}
+use Rattle.choice.proofs.Sums.{flat-in, gather-down}
 use Rattle.choice.proofs.judge_sums.Statement.{statement}
 use Rattle.choice.proofs.judge_sums.Tie as tie
 
@@ -78,7 +79,7 @@ judge-sums-in-requires : tie.Need-judge-sums-in-requires Inv-loop μ-loop
 judge-sums-in-requires c κs =
     let l = c .before .before .before in
     let s = start l in
-    (s .pre .0, rw (node c) (node-ordered _ _ _ (s .pre .0) (l .loop .k - 1) (omega arith)))
+    (s .pre .0, s .pre .1, rw (node c) (node-ordered _ _ _ (s .pre .0) (l .loop .k - 1) (omega arith)), rw (node c) (λ x m. flat-in (at-in (held s) (l .loop .k - 1) [] (omega (arith, many s))) m))
 
 loop-less : tie.Need-loop-less Inv-loop μ-loop
 loop-less c = search needs

@@ -1,10 +1,13 @@
 -- `choice::judge_sums_of` meets its contract. The loop's invariant: the sums with the cubes from j on are judged. Assumes nothing.
-use Prim.Native.Nat.{ℕ, _≤_}
+use Prim.Native.Nat.{ℕ, _-_, _≤_}
 use mathlib.Core.Path.{_≡_, sym, _∙_, ap, subst}
 use mathlib.Core.List.{List, [], _++_}
 use native.Mathlib.Omega.{arith}
 use borrow.Author.Needs.{needs}
 use lib.ListN.{length, drop, drop-of-length-le}
+use Rattle.sets.specs.Sets.{before}
+use Rattle.sets.proofs.Lists.{all-out, ahead}
+use Rattle.sets.proofs.Places.{at-in}
 use Rattle.cube.specs.Cube.{lits}
 use Rattle.expression.specs.Words.{cubesOf}
 use Rattle.network.specs.Parts.{nodesOf}
@@ -17,11 +20,11 @@ use Rattle.choice.proofs.judge_sums_of.Statement.{statement}
 use Rattle.choice.proofs.judge_sums_of.Tie as tie
 
 abbrev Inv-loop : tie.InvT-loop
-Inv-loop words counts e s c r₀ j₀ r j =
+Inv-loop words counts e s c alone r₀ j₀ r j =
     (j ≤ length (cubesOf s)) × Adds (Nodes (nodesOf e counts words)) (sumsIn (cubesOf s)) (gather (sumOf (lits c)) (drop j (cubesOf s))) r₀ r
 
 abbrev μ-loop : tie.MeasureT-loop
-μ-loop words counts e s c r₀ j₀ r j = j
+μ-loop words counts e s c alone r₀ j₀ r j = j
 
 -- the nodes, and the sums that are judged
 abbrev held : tie.Start Inv-loop μ-loop → List (List (List ℕ))
@@ -46,8 +49,13 @@ sub-j c = search needs
 cube-at-requires : tie.Need-cube-at-requires Inv-loop μ-loop
 cube-at-requires c κs = search needs
 
-judge-two-requires : tie.Need-judge-two-requires Inv-loop μ-loop
-judge-two-requires c κs = search needs
+judge-after-requires : tie.Need-judge-after-requires Inv-loop μ-loop
+judge-after-requires c κs =
+    let l = c .before .before in
+    let s = l .before .before .before .before .before in
+    let f = cubesOf (s .args .s .now) in
+    let o = ahead before (lits (s .args .c)) f (s .pre .1) in
+    (s .pre .0, o .1, rw (c .cube-at .ensures) (all-out (before (lits (s .args .c))) (at-in f (l .loop .j - 1) [] (omega arith)) (o .0)), s .pre .2)
 
 loop-less : tie.Need-loop-less Inv-loop μ-loop
 loop-less c = search needs
@@ -59,9 +67,9 @@ loop-again c =
     let f = cubesOf (s .args .s .now) in
     let g = sumOf (lits (s .args .c)) in (
       omega arith,
-      subst (λ x. Adds (Nodes (held s)) (known s) x (s .args .held) (c .judge-two .result))
+      subst (λ x. Adds (Nodes (held s)) (known s) x (s .args .held) (c .judge-after .result))
           (ap (λ x. g x ++ gather g (drop (l .loop .j) f)) (c .before .cube-at .ensures) ∙ sym (gather-down f (l .loop .j) [] (omega arith) (l .loop .inv .0) g))
-          (adds-more (l .loop .inv .1) (c .judge-two .ensures)),
+          (adds-more (l .loop .inv .1) (c .judge-after .ensures)),
     )
 
 returns : tie.Need-returns Inv-loop μ-loop
@@ -81,7 +89,7 @@ judge-sums-of-spec =
     loop-holds
     sub-j
     cube-at-requires
-    judge-two-requires
+    judge-after-requires
     loop-less
     loop-again
     returns)

@@ -9,9 +9,10 @@ use Rattle.sets.specs.Lists.{isNil}
 use Rattle.expression.specs.Words.{cubesOf}
 use Rattle.expression.specs.Expression.{literalsOf}
 use Rattle.factor.specs.Form.{uses, mostUsed}
-use Rattle.factor.specs.Text.{literalText, sumText}
+use Rattle.letters.specs.Letters.{literalText}
+use Rattle.factor.specs.Text.{sumText}
 use Rattle.factor.specs.Parts.{part, Outside, sumOf, productOf}
-use Rattle.factor.proofs.Laying.{Due, due-all, due-as, due-next, due-done, due-last, due-countable, due-rest}
+use Rattle.letters.proofs.Laying.{Due, due-all, due-as, due-next, due-done, due-last, due-countable, due-rest}
 use Rattle.factor.proofs.Choosing.{mostUsed-inside}
 use Rattle.factor.proofs.Parting.{cubes-kept, part-after, part-some, slice-none, outside-none, outside-join}
 use Rattle.factor.proofs.Falling.{literals-fall}
@@ -25,9 +26,9 @@ use Rattle.factor.proofs.sum.Reads as sum
 use Rattle.factor.proofs.sum.Kinds as sum-kinds
 use Rattle.factor.proofs.+product+sum.Lts-sum as sum-lts
 use Rattle.factor.proofs.most_used.Reads as most-used-reads
-use Rattle.factor.proofs.put.Reads as put-reads
+use Rattle.letters.proofs.put.Reads as put-reads
 use Rattle.factor.proofs.put_cubes.Reads as put-cubes-reads
-use Rattle.factor.proofs.put_literal.Reads as put-literal-reads
+use Rattle.letters.proofs.put_literal.Reads as put-literal-reads
 use Rattle.factor.proofs.split.Reads as split-reads
 use Rattle.factor.proofs.uses.Reads as uses-reads
 use Rattle.factor.proofs.+product+sum.{statement}
@@ -65,20 +66,20 @@ Owed t s o at u = Due (s .args .o .now) (s .args .at) (productOf (s .args .l .0)
 product-put-literal-requires : (t : ℕ) → product-lts.Need-put-literal-requires (put-literal-reads.Asked, put-literal-reads.Learnt, put-reads.Asked, put-reads.Learnt, sum-below t, sum.Post) (product-at t) product.Post
 product-put-literal-requires t c κs =
     let s = c .before .before .before .before in
-    (s .pre .1 .0, due-countable (literalText (s .args .l .0)) _ (due-all (s .args .o .now) (s .args .at) (product-start (s .args .l .0) _)) (s .pre .1 .2))
+    due-countable (literalText (s .args .l .0)) _ (due-all (s .args .o .now) (s .args .at) (product-start (s .args .l .0) _)) (s .pre .1 .1)
 
 -- after the literal `*` is due, then `(`, the sum and `)`
 star-due : (t : ℕ) (c : product-lts.After-put-literal (put-literal-reads.Asked, put-literal-reads.Learnt, put-reads.Asked, put-reads.Learnt, sum-below t, sum.Post) (product-at t) product.Post) → Owed t (c .before .before .before .before .before) (c .put-literal .last .0) (c .put-literal .result) (42 ∷ 40 ∷ (sumOf (factors t (c .before .before .before .before .before)) ++ (41 ∷ [])))
 star-due t c = due-next (due-all _ _ (product-start (c .before .before .before .before .before .args .l .0) _)) (c .put-literal .ensures)
 
 product-put-requires : (t : ℕ) → product-lts.Need-put-requires (put-literal-reads.Asked, put-literal-reads.Learnt, put-reads.Asked, put-reads.Learnt, sum-below t, sum.Post) (product-at t) product.Post
-product-put-requires t c κs = due-countable (_ ∷ []) _ (star-due t (c .before .before .before)) (c .before .before .before .before .before .before .before .before .pre .1 .2)
+product-put-requires t c κs = due-countable (_ ∷ []) _ (star-due t (c .before .before .before)) (c .before .before .before .before .before .before .before .before .pre .1 .1)
 
 open-due : (t : ℕ) (c : product-lts.After-put (put-literal-reads.Asked, put-literal-reads.Learnt, put-reads.Asked, put-reads.Learnt, sum-below t, sum.Post) (product-at t) product.Post) → Owed t (c .before .before .before .before .before .before .before .before .before) (c .put .last .0) (c .put .result) (40 ∷ (sumOf (factors t (c .before .before .before .before .before .before .before .before .before)) ++ (41 ∷ [])))
 open-due t c = due-next (star-due t (c .before .before .before .before)) (c .put .ensures)
 
 product-put-requires-2 : (t : ℕ) → product-lts.Need-put-requires-2 (put-literal-reads.Asked, put-literal-reads.Learnt, put-reads.Asked, put-reads.Learnt, sum-below t, sum.Post) (product-at t) product.Post
-product-put-requires-2 t c κs = due-countable (_ ∷ []) _ (open-due t (c .before .before .before)) (c .before .before .before .before .before .before .before .before .before .before .before .before .pre .1 .2)
+product-put-requires-2 t c κs = due-countable (_ ∷ []) _ (open-due t (c .before .before .before)) (c .before .before .before .before .before .before .before .before .before .before .before .before .pre .1 .1)
 
 inner-due : (t : ℕ) (c : product-lts.After-put2 (put-literal-reads.Asked, put-literal-reads.Learnt, put-reads.Asked, put-reads.Learnt, sum-below t, sum.Post) (product-at t) product.Post) → Owed t (c .before .before .before .before .before .before .before .before .before .before .before .before .before) (c .put2 .last .0) (c .put2 .result) (sumOf (factors t (c .before .before .before .before .before .before .before .before .before .before .before .before .before)) ++ (41 ∷ []))
 inner-due t c = due-next (open-due t (c .before .before .before .before)) (c .put2 .ensures)
@@ -86,13 +87,13 @@ inner-due t c = due-next (open-due t (c .before .before .before .before)) (c .pu
 product-sum-requires : (t : ℕ) → product-lts.Need-sum-requires (put-literal-reads.Asked, put-literal-reads.Learnt, put-reads.Asked, put-reads.Learnt, sum-below t, sum.Post) (product-at t) product.Post
 product-sum-requires t c κs =
     let s = c .before .before .before .before .before .before .before .before .before .before .before .before .before .before .before .before .before .before in
-    (omega (arith, s .pre .0), (s .pre .1 .1, due-countable (sumOf (factors t s)) (41 ∷ []) (inner-due t (c .before .before .before .before .before)) (s .pre .1 .2)))
+    (omega (arith, s .pre .0), (s .pre .1 .0, due-countable (sumOf (factors t s)) (41 ∷ []) (inner-due t (c .before .before .before .before .before)) (s .pre .1 .1)))
 
 close-due : (t : ℕ) (c : product-lts.After-sum (put-literal-reads.Asked, put-literal-reads.Learnt, put-reads.Asked, put-reads.Learnt, sum-below t, sum.Post) (product-at t) product.Post) → Owed t (c .before .before .before .before .before .before .before .before .before .before .before .before .before .before .before .before .before .before .before) (c .sum .last .1 .1 .1 .1 .0) (c .sum .result) (41 ∷ [])
 close-due t c = due-next (inner-due t (c .before .before .before .before .before .before)) (c .sum .ensures .laid)
 
 product-put-requires-3 : (t : ℕ) → product-lts.Need-put-requires-3 (put-literal-reads.Asked, put-literal-reads.Learnt, put-reads.Asked, put-reads.Learnt, sum-below t, sum.Post) (product-at t) product.Post
-product-put-requires-3 t c κs = due-rest (close-due t (c .before .before .before .before .before .before .before)) (c .before .before .before .before .before .before .before .before .before .before .before .before .before .before .before .before .before .before .before .before .before .before .before .before .before .before .pre .1 .2)
+product-put-requires-3 t c κs = due-rest (close-due t (c .before .before .before .before .before .before .before)) (c .before .before .before .before .before .before .before .before .before .before .before .before .before .before .before .before .before .before .before .before .before .before .before .before .before .before .pre .1 .1)
 
 product-same-length : (t : ℕ) → product-lts.Need-same-length (put-literal-reads.Asked, put-literal-reads.Learnt, put-reads.Asked, put-reads.Learnt, sum-below t, sum.Post) (product-at t) product.Post
 product-same-length t c = search needs
@@ -177,7 +178,6 @@ sum-product-requires t c κs =
     let p = d .split .ensures in (
       omega (arith, s .pre .0, ap literalsOf (p .first), literals-fall (chosen t d) (terms t s), many t d),
       (
-        inside t (c .before .before .before .before .before .before .before .before .before .before .before .before .before),
         record { held = record { forth = p .least; inside = omega (arith, p .most, held t d) }; places = omega (arith, p .most, places t d) },
         due-countable (productOf (chosen t d) (quotient t d)) _ (parted-due t d) (s .pre .1 .1),
       ),

@@ -10,9 +10,9 @@ use Rattle.expression.specs.Answers.{refusal}
 use Rattle.expression.specs.Answers as answers
 use Rattle.expression.proofs.Accepting.{accepted-iff}
 use Rattle.factor.specs.Text.{textOf}
-use Rattle.factor.specs.Parts.{Laid}
-use Rattle.factor.proofs.Laying.{laid-whole}
-use Rattle.factor.proofs.Answering.{laid-nowhere, told-refused, told-long, told-whole}
+use Rattle.letters.specs.Laid.{Laid}
+use Rattle.letters.proofs.Laying.{laid-whole, laid-nowhere}
+use Rattle.factor.proofs.Answering.{told-refused, told-long, told-whole}
 use Rattle.factor.proofs.factored.Statement.{statement}
 use Rattle.factor.proofs.factored.Tie as tie
 

@@ -8,9 +8,10 @@ use lib.ListN.{length, getD}
 use Rattle.cube.specs.Cube.{lits}
 use Rattle.expression.specs.Words.{cubesOf}
 use Rattle.expression.proofs.Words.{cubes-length}
-use Rattle.factor.specs.Text.{cubeText, sumText}
+use Rattle.letters.specs.Letters.{cubeText}
+use Rattle.factor.specs.Text.{sumText}
 use Rattle.factor.specs.Parts.{part}
-use Rattle.factor.proofs.Laying.{Due, due-all, due-as, due-next, due-done, due-last, due-trans, due-countable, due-rest}
+use Rattle.letters.proofs.Laying.{Due, due-all, due-as, due-next, due-done, due-last, due-trans, due-countable, due-rest}
 use Rattle.factor.proofs.Texts.{plussed, plussed-nil, plussed-cons, sum-first, sum-none}
 use Rattle.factor.proofs.Parting.{slice-next, slice-none}
 use Rattle.factor.proofs.put_cubes.Statement.{statement}

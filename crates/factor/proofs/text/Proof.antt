@@ -9,7 +9,7 @@ use Rattle.expression.specs.Words.{cubesOf}
 use Rattle.expression.proofs.Words.{cubes-length}
 use Rattle.factor.specs.Text.{textOf}
 use Rattle.factor.specs.Parts.{part, sumOf}
-use Rattle.factor.proofs.Laying.{Due, due-all, due-last, due-rest}
+use Rattle.letters.proofs.Laying.{Due, due-all, due-last, due-rest}
 use Rattle.factor.proofs.Parting.{cubes-kept}
 use Rattle.factor.proofs.Answering.{sorted-front, text-sum, text-countable}
 use Rattle.factor.proofs.text.Statement.{statement}

@@ -9,7 +9,7 @@ use lib.ListN.{length, getD, drop}
 use Rattle.sets.specs.Lists.{all}
 use Rattle.sets.proofs.Places.{all-stop, all-on, all-done}
 use Rattle.text.specs.Text.{isDigit, written}
-use Rattle.text.proofs.Reading.{decimal-short, decimal-long, decimal-stray, decimal-read, written-on, written-done, digit-low, digit-high, digit-in, digits-lt, digits-few}
+use Rattle.text.proofs.Reading.{value-short, value-long, value-stray, value-read, written-on, written-done, digit-low, digit-high, digit-in, digits-lt, digits-few}
 use borrow.Author.Needs.{needs}
 use Rattle.text.proofs.decimal_of.Statement.{statement}
 use Rattle.text.proofs.decimal_of.Tie as tie
@@ -22,7 +22,7 @@ abbrev μ-loop : tie.MeasureT-loop
 
 returns : tie.Need-returns Inv-loop μ-loop
 returns c = let t = c .before .before .args .t .now in
-    elim (c .if1 .came) [ inl w ↦ decimal-short t (w .taken) | inr (w, x) ↦ decimal-long t (ltb-true 5 (length t) (x .taken)) ]
+    elim (c .if1 .came) [ inl w ↦ value-short t (w .taken) | inr (w, x) ↦ value-long t (ltb-true 5 (length t) (x .taken)) ]
 
 loop-holds : tie.Need-loop-holds Inv-loop μ-loop
 loop-holds c = let t = c .before .before .before .args .t .now in
@@ -37,8 +37,8 @@ returns-2 c = let h = c .before .before .before in
     let i = h .loop .i in
     let inside : i < length t = omega arith in
     elim (c .if3 .came) [
-      | inl w ↦ decimal-stray t (sym (h .loop .inv .5) ∙ all-stop t i 0 inside isDigit (digit-low (getD t i 0) (w .taken)))
-      | inr (w, x) ↦ decimal-stray t (sym (h .loop .inv .5) ∙ all-stop t i 0 inside isDigit (digit-high (getD t i 0) (ltb-true 57 (getD t i 0) (x .taken))))
+      | inl w ↦ value-stray t (sym (h .loop .inv .5) ∙ all-stop t i 0 inside isDigit (digit-low (getD t i 0) (w .taken)))
+      | inr (w, x) ↦ value-stray t (sym (h .loop .inv .5) ∙ all-stop t i 0 inside isDigit (digit-high (getD t i 0) (ltb-true 57 (getD t i 0) (x .taken))))
     ]
 
 mul-n : tie.Need-mul-n Inv-loop μ-loop
@@ -83,7 +83,7 @@ returns-3 c = let h = c .before in
     let t = h .before .before .before .before .args .t .now in
     let i = h .loop .i in
     ap some (sym (written-done t (h .loop .n) i (c .loop-test .left)) ∙ h .loop .inv .4)
-    ∙ decimal-read t (h .loop .inv .1) (h .loop .inv .2) (sym (h .loop .inv .5) ∙ all-done t i (c .loop-test .left) isDigit)
+    ∙ value-read t (h .loop .inv .1) (h .loop .inv .2) (sym (h .loop .inv .5) ∙ all-done t i (c .loop-test .left) isDigit)
 
 pub decimal-of-spec : {M : Type 1} → statement M
 decimal-of-spec =

@@ -1,0 +1,76 @@
+-- `letters::put_number` meets its contract and ends: the digits before the last one are those of a tenth. Assumes nothing.
+use Prim.Native.Nat.{ℕ, _+_, _/_, _%_, _<_}
+use mathlib.Core.List.{[], _∷_, _++_}
+use native.Mathlib.Omega.{arith}
+use borrow.Author.Needs.{needs}
+use borrow.Fn.Kinds.{In}
+use borrow.Fn.PlainCycle.{Measures, is, falls, and}
+use Rattle.letters.specs.Letters.{decimal}
+use Rattle.letters.proofs.Laying.{Due, due-all, due-next, due-last, due-countable, due-rest}
+use Rattle.letters.proofs.Numbers.{decimal-one, decimal-more}
+use Rattle.letters.proofs.put_number.Reads as reads
+use Rattle.letters.proofs.put_number.Kinds as kinds
+use Rattle.letters.proofs.+put_number.Lts-put_number as lts
+use Rattle.letters.proofs.put.Reads as put-reads
+use Rattle.letters.proofs.+put_number.{statement}
+use Rattle.letters.proofs.+put_number.Tie.{close}
+
+abbrev μ : Measures 1 kinds.ps ℕ
+μ κs a = a .1 .1 .0
+
+-- what it is given at the measure t, and what a call of it asks below t
+abbrev at : ℕ → In 1 kinds.ps
+at t = and 1 kinds.ps (is 1 kinds.ps μ t) reads.Pre
+
+abbrev below : ℕ → In 1 kinds.ps
+below t = and 1 kinds.ps (falls 1 kinds.ps _<_ μ t) reads.Pre
+
+abbrev known : ℕ → lts.Claims
+known t = (put-reads.Asked, put-reads.Learnt, below t, reads.Post)
+
+module _ (t : ℕ) where
+  add-put : lts.Need-add-put (known t) (at t) reads.Post
+  add-put c = omega arith
+
+  cast-put : lts.Need-cast-put (known t) (at t) reads.Post
+  cast-put c = omega arith
+
+  put-requires : lts.Need-put-requires (known t) (at t) reads.Post
+  put-requires c κs = let s = c .before .before .before in due-rest (due-all (s .args .o .now) (s .args .at) (decimal-one (s .args .n) (c .before .if1 .taken))) (s .pre .1)
+
+  same-length : lts.Need-same-length (known t) (at t) reads.Post
+  same-length c = search needs
+
+  returns : lts.Need-returns (known t) (at t) reads.Post
+  returns c = due-last (due-all _ _ (decimal-one _ (c .before .before .before .before .if1 .taken))) (c .before .before .put .ensures)
+
+  -- the digits of a tenth are due, then the last one
+  digits : (c : lts.Else1 (known t) (at t) reads.Post) → let s = c .before .before .args in Due (s .o .now) (s .at) (decimal (s .n)) (s .o .now) (s .at) (decimal (s .n / 10) ++ ((48 + s .n % 10) ∷ []))
+  digits c = due-all _ _ (decimal-more _ (c .if1 .left))
+
+  put-number-requires : lts.Need-put-number-requires (known t) (at t) reads.Post
+  put-number-requires c κs = (omega arith, due-countable (decimal (c .before .before .before .args .n / 10)) _ (digits (c .before)) (c .before .before .before .pre .1))
+
+  add-put-2 : lts.Need-add-put-2 (known t) (at t) reads.Post
+  add-put-2 c = omega arith
+
+  cast-put-2 : lts.Need-cast-put-2 (known t) (at t) reads.Post
+  cast-put-2 c = omega arith
+
+  last : (c : lts.After-put-number (known t) (at t) reads.Post) → let s = c .before .before .before .before .args in Due (s .o .now) (s .at) (decimal (s .n)) (c .put-number .last .0) (c .put-number .result) ((48 + s .n % 10) ∷ [])
+  last c = due-next (digits (c .before .before)) (c .put-number .ensures)
+
+  put-requires-2 : lts.Need-put-requires-2 (known t) (at t) reads.Post
+  put-requires-2 c κs = due-rest (last (c .before .before .before)) (c .before .before .before .before .before .before .before .pre .1)
+
+  same-length-2 : lts.Need-same-length-2 (known t) (at t) reads.Post
+  same-length-2 c = search needs
+
+  returns-2 : lts.Need-returns-2 (known t) (at t) reads.Post
+  returns-2 c = due-last (last (c .before .before .before .before .before .before)) (c .before .before .put2 .ensures)
+
+pub +put-number-spec : {M : Type 1} → statement M
++put-number-spec =
+    close μ
+    (λ t. lts.spec (known t) (at t) reads.Post (add-put t) (cast-put t) (put-requires t) (same-length t) (returns t) (put-number-requires t)
+    (add-put-2 t) (cast-put-2 t) (put-requires-2 t) (same-length-2 t) (returns-2 t))

@@ -1,0 +1,4 @@
+pub mod Laying
+pub mod Numbers
+pub mod Texts
+pub mod Walking

@@ -1,0 +1,139 @@
+-- The lines of a report as they are written: words, numbers and divisors one after the other. Assumes nothing.
+use Prim.Native.Nat.{ℕ, zero, suc, _+_, _<_, _≤_}
+use mathlib.Core.Path.{_≡_, refl, sym, _∙_, ap, ap₂}
+use mathlib.Core.List.{List, [], _∷_, _++_, map}
+use native.Mathlib.Omega.{arith}
+use lib.IntN.{ℤ, pos, _-ℤ_}
+use lib.ListN.{length, getD, take, drop, length-map}
+use lib.Seq.{length-take-le, getD-take}
+use Rattle.sets.proofs.Places.{drop-next}
+use Rattle.letters.specs.Letters.{decimal, literalText, cubeText}
+use Rattle.extraction.specs.Divisor.{Divisor, pair, sum}
+use Rattle.extraction.specs.Run.{Stop, done, asked, numbers, rows, Made}
+use Rattle.choice.specs.Choice.{madeOf, noStep}
+use Rattle.choice.specs.declared.Step.{Step}
+use Rattle.extract.specs.Answers.{stopOf}
+use Rattle.table.specs.declared.Answer.the-variants.{Read, Refused}
+use Rattle.report.specs.Parts.{madeIn, runOf, unlessRefused, foundText}
+use Rattle.report.specs.declared.Findings.{Findings}
+use Rattle.report.specs.Report.{divisorText, integer, stepLine, linesOf, stopText, runText, refusalText}
+
+-- a word and a number after it
+abbrev pub field : List ℕ → ℕ → List ℕ
+field w n = w ++ decimal n
+
+abbrev pub lineEnd : List ℕ
+lineEnd = 10 ∷ []
+
+-- ` + `, `x`, ` = `, ` weight `, ` now `
+abbrev pub plusWord : List ℕ
+plusWord = 32 ∷ 43 ∷ 32 ∷ []
+
+abbrev pub variableWord : List ℕ
+variableWord = 120 ∷ []
+
+abbrev pub equalsWord : List ℕ
+equalsWord = 32 ∷ 61 ∷ 32 ∷ []
+
+abbrev pub weightWord : List ℕ
+weightWord = 32 ∷ 119 ∷ 101 ∷ 105 ∷ 103 ∷ 104 ∷ 116 ∷ 32 ∷ []
+
+abbrev pub nowWord : List ℕ
+nowWord = 32 ∷ 110 ∷ 111 ∷ 119 ∷ 32 ∷ []
+
+-- `start `, `end `, `refused `, ` at line `
+abbrev pub startWord : List ℕ
+startWord = 115 ∷ 116 ∷ 97 ∷ 114 ∷ 116 ∷ 32 ∷ []
+
+abbrev pub endWord : List ℕ
+endWord = 101 ∷ 110 ∷ 100 ∷ 32 ∷ []
+
+abbrev pub refusedWord : List ℕ
+refusedWord = 114 ∷ 101 ∷ 102 ∷ 117 ∷ 115 ∷ 101 ∷ 100 ∷ 32 ∷ []
+
+abbrev pub lineWord : List ℕ
+lineWord = 32 ∷ 97 ∷ 116 ∷ 32 ∷ 108 ∷ 105 ∷ 110 ∷ 101 ∷ 32 ∷ []
+
+-- ---- each text in the order in which it is written
+
+pub pair-start : (p q : ℕ) → divisorText (pair p q) ≡ literalText p ++ (42 ∷ literalText q)
+unfolding divisorText cubeText
+pair-start p q = refl
+
+pub sum-start : (a b : List ℕ) → divisorText (sum a b) ≡ cubeText a ++ (plusWord ++ cubeText b)
+unfolding divisorText
+sum-start a b = refl
+
+pub step-start : (v : ℕ) (d : Divisor) (w n : ℕ) → stepLine v d (pos w) (pos n) ≡ field variableWord v ++ (equalsWord ++ (divisorText d ++ (field weightWord w ++ (field nowWord n ++ lineEnd))))
+unfolding stepLine integer
+step-start v d w n = refl
+
+pub lines-none : (v : ℕ) (c : ℤ) → linesOf v c [] ≡ []
+unfolding linesOf
+lines-none v c = refl
+
+pub lines-first : (v : ℕ) (c : ℤ) (m : Made) (l : List Made) → linesOf v c (m ∷ l) ≡ stepLine v (m .divisor) (m .weight) (c -ℤ m .weight) ++ linesOf (suc v) (c -ℤ m .weight) l
+unfolding linesOf
+lines-first v c m l = refl
+
+-- step i, by the numbers that are printed of it
+pub lines-next : (v i c : ℕ) (m : Made) (l : List Made) {w r : ℕ} → pos w ≡ m .weight → pos r ≡ pos c -ℤ m .weight
+    → linesOf (v + i) (pos c) (m ∷ l) ≡ stepLine (v + i) (m .divisor) (pos w) (pos r) ++ linesOf (v + (i + 1)) (pos r) l
+lines-next v i c m l {w} {r} e f =
+    let k : suc (v + i) ≡ v + (i + 1) = omega arith in
+    lines-first (v + i) (pos c) m l
+    ∙ ap₂ (λ y z. stepLine (v + i) (m .divisor) y z ++ linesOf (suc (v + i)) z l) (sym e) (sym f)
+    ∙ ap (λ n. stepLine (v + i) (m .divisor) (pos w) (pos r) ++ linesOf n (pos r) l) k
+
+-- the steps from i on, of those that are counted
+pub made-next : (s : List Step) (n i : ℕ) → i < n → n ≤ length s → drop i (map madeOf (take n s)) ≡ madeOf (getD s i noStep) ∷ drop (i + 1) (map madeOf (take n s))
+made-next s n i h k =
+    let e : length (take n s) ≡ n = length-take-le n s k in
+    let j : i < length (map madeOf (take n s)) = omega (arith, length-map (take n s) madeOf) in
+    drop-next (map madeOf (take n s)) i (madeOf noStep) j
+    ∙ ap (_∷ drop (i + 1) (map madeOf (take n s))) (getD-map (take n s) i ∙ ap madeOf (getD-take n s i noStep h))
+  where
+    getD-map : (l : List Step) (i : ℕ) → getD (map madeOf l) i (madeOf noStep) ≡ madeOf (getD l i noStep)
+    getD-map [] i = refl
+    getD-map (x ∷ l) zero = refl
+    getD-map (x ∷ l) (suc i) = getD-map l i
+
+pub run-start : (n a : ℕ) (l : List Made) (e : ℕ) (r : Stop) → runText n a l e r ≡ field startWord a ++ (lineEnd ++ (linesOf n (pos a) l ++ (field endWord e ++ stopText r)))
+unfolding runText
+run-start n a l e r = refl
+
+pub refusal-start : (k l : ℕ) → refusalText k l ≡ field refusedWord k ++ (field lineWord l ++ lineEnd)
+unfolding refusalText
+refusal-start k l = refl
+
+-- the stop reasons
+
+pub stop-done : stopText done ≡ 32 ∷ 100 ∷ 111 ∷ 110 ∷ 101 ∷ 10 ∷ []
+unfolding stopText
+stop-done = refl
+
+pub stop-asked : stopText asked ≡ 32 ∷ 97 ∷ 115 ∷ 107 ∷ 101 ∷ 100 ∷ 10 ∷ []
+unfolding stopText
+stop-asked = refl
+
+pub stop-numbers : stopText numbers ≡ 32 ∷ 110 ∷ 117 ∷ 109 ∷ 98 ∷ 101 ∷ 114 ∷ 115 ∷ 10 ∷ []
+unfolding stopText
+stop-numbers = refl
+
+pub stop-rows : stopText rows ≡ 32 ∷ 114 ∷ 111 ∷ 119 ∷ 115 ∷ 10 ∷ []
+unfolding stopText
+stop-rows = refl
+
+-- ---- what was found
+
+pub found-start : (f : Findings) → runOf f ≡ field startWord (f .start) ++ (lineEnd ++ (linesOf (f .first) (pos (f .start)) (madeIn (f .steps)) ++ (field endWord (f .end) ++ stopText (stopOf (f .stop)))))
+unfolding runOf
+found-start f = run-start _ _ _ _ _
+
+pub found-read : (f : Findings) → f .answer ≡ Read → foundText f ≡ runOf f
+unfolding foundText
+found-read f e = ap (λ a. unlessRefused a (runOf f)) e
+
+pub found-refused : (f : Findings) (k l : ℕ) → f .answer ≡ Refused k l → foundText f ≡ refusalText k l
+unfolding foundText
+found-refused f k l e = ap (λ a. unlessRefused a (runOf f)) e

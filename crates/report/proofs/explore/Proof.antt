@@ -1,0 +1,104 @@
+-- `report::explore` meets its contract: a network that follows the rules is run and counted, and so is what the run leaves. Assumes nothing.
+use Prim.Native.Nat.{ℕ}
+use mathlib.Core.Path.{_≡_, sym, _∙_}
+use native.Mathlib.Omega.{arith}
+use borrow.Author.Needs.{needs}
+use lib.ListN.{length}
+use Rattle.network.specs.Answers.{counted}
+use Rattle.network.specs.declared.Number.the-variants.{Is, No}
+use Rattle.report.proofs.Exploring.{counted-rules, first-few, never-refused, counted-after, explored}
+use Rattle.report.proofs.explore.Statement.{statement}
+use Rattle.report.proofs.explore.Tie as tie
+
+slots : (s : tie.Start) → (length (s .args .n .counts) ≡ 96) × (length (s .args .n .words) ≡ 2176)
+slots s = search needs
+
+-- two answers to one question
+clash : (x : ℕ) (k : ℕ) → Is x ≡ No k → ⊥
+clash x k e = let z : _≡_ {A = ℕ} 0 1 = cc in omega arith
+
+same : (x y : ℕ) → Is x ≡ Is y → x ≡ y
+same x y e = cc
+
+run-requires : tie.Need-run-requires
+run-requires c κs = search needs
+
+enum-known-answer : tie.Need-enum-known-answer
+enum-known-answer c = search needs
+
+enum-told : tie.Need-enum-told
+enum-told c = search needs
+
+refused-requires : tie.Need-refused-requires
+refused-requires c κs = search needs
+
+returns : tie.Need-returns
+returns c =
+    let s = c .before .before .before .before in
+    absurd (never-refused (s .args .n) (slots s .0) (slots s .1) (s .pre) (c .before .before .before .run .result) (c .before .before .before .run .ensures) _ (c .before .enum-told .given .1))
+
+literals-requires : tie.Need-literals-requires
+literals-requires c κs = search needs
+
+enum-known-start : tie.Need-enum-known-start
+enum-known-start c = search needs
+
+enum-told-2 : tie.Need-enum-told-2
+enum-told-2 c = search needs
+
+refused-requires-2 : tie.Need-refused-requires-2
+refused-requires-2 c κs = search needs
+
+returns-2 : tie.Need-returns-2
+returns-2 c =
+    let s = c .before .before .before .before .before .before .before .before in
+    absurd (clash _ _ (sym (counted-rules (s .args .n) (s .pre)) ∙ sym (c .before .before .before .literals .ensures) ∙ c .before .enum-told2 .given .1))
+
+literals-requires-2 : tie.Need-literals-requires-2
+literals-requires-2 c κs = search needs
+
+enum-known-end : tie.Need-enum-known-end
+enum-known-end c = search needs
+
+enum-told-3 : tie.Need-enum-told-3
+enum-told-3 c = search needs
+
+refused-requires-3 : tie.Need-refused-requires-3
+refused-requires-3 c κs = search needs
+
+returns-3 : tie.Need-returns-3
+returns-3 c =
+    let s = c .before .before .before .before .before .before .before .before .before .before .before .before in
+    absurd (clash _ _ (sym (counted-after (s .args .n) (slots s .0) (slots s .1) (s .pre) (c .before .before .before .before .before .before .before .before .before .before .before .run .result) (c .before .before .before .before .before .before .before .before .before .before .before .run .ensures)) ∙ sym (c .before .before .before .literals2 .ensures) ∙ c .before .enum-told3 .given .1))
+
+add-t14 : tie.Need-add-t14
+add-t14 c = let s = c .before .before .before .before .before .before .before .before .before .before .before .before .before .before in omega (arith, first-few (s .args .n) (slots s .0) (slots s .1) (s .pre))
+
+returns-4 : tie.Need-returns-4
+returns-4 c =
+    let s = c .before .before .before .before .before .before .before .before .before .before .before .before .before .before in
+    explored (s .args .n) (slots s .0) (slots s .1) (s .pre) (c .before .before .before .before .before .before .before .before .before .before .before .before .before .run .result) (c .before .before .before .before .before .before .before .before .before .before .before .before .before .run .ensures) _ _ _ (c .before .before .before .before .before .before .before .before .before .before .before .answer .given .1)
+    (same _ _ (sym (c .before .before .before .before .before .before .before .start .given .1) ∙ c .before .before .before .before .before .before .before .before .before .literals .ensures ∙ counted-rules (s .args .n) (s .pre)))
+    (same _ _ (sym (c .before .before .before .end .given .1) ∙ c .before .before .before .before .before .literals2 .ensures ∙ counted-after (s .args .n) (slots s .0) (slots s .1) (s .pre) (c .before .before .before .before .before .before .before .before .before .before .before .before .before .run .result) (c .before .before .before .before .before .before .before .before .before .before .before .before .before .run .ensures)))
+
+pub explore-spec : {M : Type 1} → statement M
+explore-spec =
+    tie.close
+    (tie.spec
+    run-requires
+    enum-known-answer
+    enum-told
+    refused-requires
+    returns
+    literals-requires
+    enum-known-start
+    enum-told-2
+    refused-requires-2
+    returns-2
+    literals-requires-2
+    enum-known-end
+    enum-told-3
+    refused-requires-3
+    returns-3
+    add-t14
+    returns-4)

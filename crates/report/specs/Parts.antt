@@ -1,0 +1,61 @@
+-- What the contracts of the writers say: weights that can be taken off, and what was found as values.
+use Prim.Native.Nat.{ℕ, _-_, _<_, _≤_}
+use mathlib.Core.Path.{_≡_}
+use mathlib.Core.List.{List, [], _∷_, map}
+use lib.IntN.{ℤ, pos}
+use lib.ListN.{take}
+use Rattle.network.specs.Held.{netOf, mostVariables}
+use Rattle.network.specs.declared.Network.{Network}
+use Rattle.extraction.specs.Run.{Made, run}
+use Rattle.choice.specs.Choice.{madeOf}
+use Rattle.extract.specs.Answers.{stopOf}
+use Rattle.extract.specs.declared.Steps.{Steps}
+use Rattle.table.specs.declared.Answer.{Answer}
+use Rattle.table.specs.declared.Answer.the-variants.{Read, Refused}
+use Rattle.report.specs.Report.{runText, refusalText, askedSteps, ranText}
+use Rattle.report.specs.declared.Findings.{Findings}
+
+-- the weight can be taken off the count, which a network can have
+pub record Off (count : ℕ) (weight : ℤ) : Type 0 where
+  pub size : ℕ
+  pub is : weight ≡ pos size
+  pub fits : size ≤ count
+  pub small : count < 2147483648
+
+-- and so the weight of each step in turn
+pub data Falls : ℕ → List Made → Type 0 where
+  none : {c : ℕ} → Falls c []
+  more : {c : ℕ} {m : Made} {l : List Made} (o : Off c (m .weight)) → Falls (c - o .size) l → Falls c (m ∷ l)
+
+-- the numbers of the variables that the steps make, from v on
+pub record Numbered (v : ℕ) (s : Steps) : Type 0 where
+  pub first : v ≤ mostVariables
+  pub few : s .count ≤ mostVariables
+
+-- the steps that are counted
+abbrev pub madeIn : Steps → List Made
+madeIn s = map madeOf (take (s .count) (s .list))
+
+-- the text of a run that was found
+unfoldable pub runOf : Findings → List ℕ
+runOf f = runText (f .first) (f .start) (madeIn (f .steps)) (f .end) (stopOf (f .stop))
+
+-- a text, or a refusal in its place
+abbrev pub unlessRefused : Answer → List ℕ → List ℕ
+unlessRefused Read t = t
+unlessRefused (Refused k l) t = refusalText k l
+
+-- the text of what was found
+unfoldable pub foundText : Findings → List ℕ
+foundText f = unlessRefused (f .answer) (runOf f)
+
+-- the steps can be written
+pub record Steady (f : Findings) : Type 0 where
+  pub numbered : Numbered (f .first) (f .steps)
+  pub falls : Falls (f .start) (madeIn (f .steps))
+
+-- what a run of 64 steps leaves of a network
+pub record Explored (n : Network) (f : Findings) : Type 0 where
+  pub answer : f .answer ≡ Read
+  pub text : runOf f ≡ ranText (netOf n) (run askedSteps (netOf n))
+  pub steady : Steady f

@@ -1,0 +1,248 @@
+// The report on a table text: the literal count at the start, a line for each step, the count at the end and the stop reason; or the refusal.
+use choice::Divisor;
+use choice::Step;
+use cube::Literal;
+use extract::Steps;
+use extract::Stop;
+use network::Network;
+use network::Number;
+use table::Answer;
+ghost use mathlib.Core.Path.{_≡_};
+ghost use mathlib.Core.Bool.{true};
+ghost use mathlib.Core.List.{_++_};
+ghost use lib.Dec.{ltb};
+ghost use lib.IntN.{pos, _-ℤ_};
+ghost use lib.Signed.{_≤ℤ_};
+ghost use lib.ListN.{length};
+ghost use Rattle.letters.specs.Letters.{decimal};
+ghost use Rattle.letters.specs.Laid.{Countable, Laid};
+ghost use Rattle.choice.specs.Choice.{divisorOf};
+ghost use Rattle.network.specs.Held.{rules};
+ghost use Rattle.extract.specs.Answers.{stopOf};
+ghost use Rattle.report.specs.Report.{divisorText, stepLine, linesOf, stopText, refusalText, reportOf};
+ghost use Rattle.report.specs.Parts.{Off, Falls, Numbered, madeIn, runOf, foundText, Steady, Explored};
+ghost use Rattle.report.specs.Answers.{Told};
+
+// The program asks for 64 steps.
+const ASKED: u64 = 64;
+
+pub enum Wrote {
+    Bytes(usize),
+    Refused(u32),
+}
+
+// What a report tells: the number of the first divisor, the counts, the steps and the reason; of a refused table the answer alone.
+struct Findings {
+    answer: Answer,
+    first: usize,
+    start: u64,
+    steps: Steps,
+    end: u64,
+    stop: Stop,
+}
+
+// ---- lines
+
+// A word and a number after it.
+fn put_field(o: &mut [u8], at: usize, word: &[u8], n: u64) -> usize
+    requires { ⌜ Countable at (now word ++ decimal n) ⌝ }
+    ensures { λ r. ⌜ Laid (now (o .entry)) (now (o .exit)) at r (now (word .entry) ++ decimal n) ⌝ }
+{
+    let p = letters::put_bytes(o, at, word);
+    letters::put_number(o, p, n)
+}
+
+// A pair as a product, a sum with ` + ` between its parts.
+fn put_divisor(o: &mut [u8], at: usize, d: Divisor) -> usize
+    requires { ⌜ Countable at (divisorText (divisorOf d)) ⌝ }
+    ensures { λ r. ⌜ Laid (now (o .entry)) (now (o .exit)) at r (divisorText (divisorOf d)) ⌝ }
+{
+    match d {
+        Divisor::Pair(l, m) => {
+            let p = letters::put_literal(o, at, l);
+            let q = letters::put(o, p, b'*');
+            letters::put_literal(o, q, m)
+        }
+        Divisor::Sum(a, b) => {
+            let p = letters::put_product(o, at, a);
+            let q = letters::put_bytes(o, p, b" + ");
+            letters::put_product(o, q, b)
+        }
+    }
+}
+
+// What is left of a count when the weight is taken off.
+fn less(count: u64, weight: i32) -> u64
+    requires { ⌜ Off count weight ⌝ }
+    ensures { λ r. ⌜ pos r ≡ pos count -ℤ weight ⌝ }
+{
+    (count as i32 - weight) as u64
+}
+
+// A weight that is not below zero, as a number to print.
+fn size(weight: i32) -> u64
+    requires { ⌜ pos 0 ≤ℤ weight ⌝ }
+    ensures { λ r. ⌜ pos r ≡ weight ⌝ }
+{
+    weight as u64
+}
+
+// The line of a step: its number, its divisor and weight, and the count after it, which the weight was taken off.
+fn put_step(o: &mut [u8], at: usize, v: u64, d: Divisor, weight: u64, left: u64) -> usize
+    requires { ⌜ Countable at (stepLine v (divisorOf d) (pos weight) (pos left)) ⌝ }
+    ensures { λ r. ⌜ Laid (now (o .entry)) (now (o .exit)) at r (stepLine v (divisorOf d) (pos weight) (pos left)) ⌝ }
+{
+    let p = put_field(o, at, b"x", v);
+    let q = letters::put_bytes(o, p, b" = ");
+    let r = put_divisor(o, q, d);
+    let s = put_field(o, r, b" weight ", weight);
+    let t = put_field(o, s, b" now ", left);
+    letters::put(o, t, b'\n')
+}
+
+// The lines of all steps, from a number and a count on.
+fn put_steps(o: &mut [u8], at: usize, v: u64, count: u64, steps: Steps) -> usize
+    requires { ⌜ Numbered v steps × Falls count (madeIn steps) × Countable at (linesOf v (pos count) (madeIn steps)) ⌝ }
+    ensures { λ r. ⌜ Laid (now (o .entry)) (now (o .exit)) at r (linesOf v (pos count) (madeIn steps)) ⌝ }
+{
+    let n = steps.count;
+    let list = steps.list;
+    let mut left = count;
+    let mut p = at;
+    let mut i = 0;
+    while i < n {
+        let s = list[i];
+        let d = s.divisor;
+        left = less(left, s.weight);
+        p = put_step(o, p, v + i as u64, d, size(s.weight), left);
+        i += 1;
+    }
+    p
+}
+
+// The stop reason ends the last line.
+fn put_stop(o: &mut [u8], at: usize, stop: Stop) -> usize
+    requires { ⌜ Countable at (stopText (stopOf stop)) ⌝ }
+    ensures { λ r. ⌜ Laid (now (o .entry)) (now (o .exit)) at r (stopText (stopOf stop)) ⌝ }
+{
+    match stop {
+        Stop::Done => letters::put_bytes(o, at, b" done\n"),
+        Stop::Asked => letters::put_bytes(o, at, b" asked\n"),
+        Stop::Numbers => letters::put_bytes(o, at, b" numbers\n"),
+        Stop::Rows => letters::put_bytes(o, at, b" rows\n"),
+    }
+}
+
+// ---- the whole report
+
+// `start`, the steps, `end`.
+fn put_run(o: &mut [u8], f: Findings) -> usize
+    requires { ⌜ Steady f × Countable 0 (runOf f) ⌝ }
+    ensures { λ r. ⌜ Laid (now (o .entry)) (now (o .exit)) 0 r (runOf f) ⌝ }
+{
+    let p = put_field(o, 0, b"start ", f.start);
+    let q = letters::put(o, p, b'\n');
+    let steps = f.steps;
+    let r = put_steps(o, q, f.first as u64, f.start, steps);
+    let s = put_field(o, r, b"end ", f.end);
+    let stop = f.stop;
+    put_stop(o, s, stop)
+}
+
+// `refused 2 at line 3`.
+fn put_refusal(o: &mut [u8], number: u32, line: u32) -> usize
+    requires { ⌜ Countable 0 (refusalText number line) ⌝ }
+    ensures { λ r. ⌜ Laid (now (o .entry)) (now (o .exit)) 0 r (refusalText number line) ⌝ }
+{
+    let p = put_field(o, 0, b"refused ", number as u64);
+    let q = put_field(o, p, b" at line ", line as u64);
+    letters::put(o, q, b'\n')
+}
+
+// What was found, as far as there is room, and its length.
+fn put_findings(o: &mut [u8], f: Findings) -> usize
+    requires { ⌜ Steady f × Countable 0 (foundText f) ⌝ }
+    ensures { λ r. ⌜ Laid (now (o .entry)) (now (o .exit)) 0 r (foundText f) ⌝ }
+{
+    let answer = f.answer;
+    match answer {
+        Answer::Read => put_run(o, f),
+        Answer::Refused(k, l) => put_refusal(o, k, l),
+    }
+}
+
+// Of a refused table the answer alone is told.
+fn refused(answer: Answer) -> Findings
+    ensures { λ r. ⌜ (r .answer ≡ answer) × (r .first ≡ 0) × (r .steps .count ≡ 0) ⌝ }
+{
+    let none = Step {
+        divisor: Divisor::Pair(Literal(0), Literal(0)),
+        weight: 0,
+        uses: 0,
+    };
+    Findings {
+        answer,
+        first: 0,
+        start: 0,
+        steps: Steps {
+            count: 0,
+            list: [none; 64],
+        },
+        end: 0,
+        stop: Stop::Done,
+    }
+}
+
+// A run on the network of a table that was read. It follows the rules, and so does what the run leaves: nothing here is refused.
+fn explore(n: Network) -> Findings
+    requires { ⌜ rules n ≡ true ⌝ }
+    ensures { λ r. ⌜ Explored n r ⌝ }
+{
+    let r = extract::run(n, ASKED);
+    let answer = r.answer;
+    let extract::Answer::Stopped(stop) = answer else {
+        return refused(Answer::Read);
+    };
+    let Number::Is(start) = network::literals(n) else {
+        return refused(Answer::Read);
+    };
+    let Number::Is(end) = network::literals(r.network) else {
+        return refused(Answer::Read);
+    };
+    let steps = r.steps;
+    Findings {
+        answer: Answer::Read,
+        first: n.inputs + n.divisors,
+        start,
+        steps,
+        end,
+        stop,
+    }
+}
+
+// The table is read and its network run, once.
+fn find(text: &[u8]) -> Findings
+    ensures { λ r. ⌜ Steady r × (foundText r ≡ reportOf (now (text .entry))) ⌝ }
+{
+    let t = table::read(text);
+    let answer = t.answer;
+    let Answer::Read = answer else {
+        return refused(answer);
+    };
+    let n = t.network;
+    explore(n)
+}
+
+// The report into the lent room, and its length; 9 where it is longer than the room.
+pub fn report(text: &[u8], room: &mut [u8]) -> Wrote
+    ensures { λ a. ⌜ Told (ltb (length (now (room .entry))) (length (reportOf (now (text .entry))))) (reportOf (now (text .entry))) (now (room .entry)) (now (room .exit)) a ⌝ }
+{
+    let f = find(text);
+    let none = 0;
+    let n = put_findings(&mut room[..none], f);
+    if room.len() < n {
+        return Wrote::Refused(9);
+    }
+    put_findings(room, f);
+    Wrote::Bytes(n)
+}
