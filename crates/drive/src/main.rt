@@ -1,9 +1,7 @@
 // Answers requests of the line protocol, a line for a line, from standard input to standard output.
 use libc::STDIN_FILENO;
 use libc::STDOUT_FILENO;
-use table::Answer;
 use wire::Groups;
-use wire::Taken;
 use wire::Word;
 
 // What has come of the present line: how much, and whether it is too long to be one.
@@ -12,60 +10,19 @@ struct Coming {
     long: bool,
 }
 
-// The table of the first n bytes of the room.
-fn put_table(room: &[u8], n: usize, out: &mut [u8]) -> usize {
-    if n > room.len() {
-        return wire::put_none(out);
-    }
-    let t = table::read(&room[0..n]);
-    let answer = t.answer;
-    match answer {
-        Answer::Read => {
-            let network = t.network;
-            let at = wire::put_text(out, 0, b"ok");
-            nets::put_network(out, at, network)
-        }
-        Answer::Refused(k, l) => wire::put_refused(out, k, l),
-    }
-}
-
-// `table BYTES`
-fn on_table(line: &[u8], a: usize, e: usize, out: &mut [u8]) -> usize {
-    let mut room = [0u8; 131072];
-    let got = wire::bytes(line, a, e, &mut room);
-    let Taken::All(n) = got else {
-        return wire::put_none(out);
-    };
-    put_table(&room, n, out)
-}
-
-// `literals ; NET`
-fn on_literals(line: &[u8], g: Groups, out: &mut [u8]) -> usize {
-    let got = nets::read_net(line, g);
-    if !got.ok {
-        return wire::put_none(out);
-    }
-    let n = got.network;
-    nets::put_answer(out, network::literals(n))
-}
-
-// `evaluate SETTING ; NET`
-fn on_evaluate(line: &[u8], g: Groups, setting: u64, out: &mut [u8]) -> usize {
-    let got = nets::read_net(line, g);
-    if !got.ok {
-        return wire::put_none(out);
-    }
-    let n = got.network;
-    nets::put_answer(out, network::evaluate(n, setting))
-}
-
 // An operation with an argument, which stands at a..e.
 fn answer_with(line: &[u8], g: Groups, a: usize, e: usize, out: &mut [u8]) -> usize {
     let groups = g.count;
     let name = wire::first_word(line);
     if groups == 1 {
         if wire::is_word(line, 0, name, b"table") {
-            return on_table(line, a, e, out);
+            return tables::on_table(line, a, e, out);
+        }
+        if wire::is_word(line, 0, name, b"read") {
+            return images::on_read(line, a, e, out);
+        }
+        if wire::is_word(line, 0, name, b"report") {
+            return tables::on_report(line, a, e, out);
         }
     }
     if groups == 4 {
@@ -74,7 +31,7 @@ fn answer_with(line: &[u8], g: Groups, a: usize, e: usize, out: &mut [u8]) -> us
             return wire::put_none(out);
         };
         if wire::is_word(line, 0, name, b"evaluate") {
-            return on_evaluate(line, g, v, out);
+            return tables::on_evaluate(line, g, v, out);
         }
         if wire::is_word(line, 0, name, b"extract") {
             return runs::on_extract(line, g, v, out);
@@ -89,12 +46,15 @@ fn answer_without(line: &[u8], g: Groups, out: &mut [u8]) -> usize {
     let name = wire::first_word(line);
     if groups == 4 {
         if wire::is_word(line, 0, name, b"literals") {
-            return on_literals(line, g, out);
+            return tables::on_literals(line, g, out);
         }
     }
     if groups == 5 {
         if wire::is_word(line, 0, name, b"divide") {
             return ask::on_divide(line, g, out);
+        }
+        if wire::is_word(line, 0, name, b"write") {
+            return images::on_write(line, g, out);
         }
     }
     if groups == 3 {
@@ -218,7 +178,7 @@ fn serve(line: &mut [u8], out: &mut [u8]) -> Coming {
 
 fn main() {
     let mut line = [0u8; 262144];
-    let mut out = [0u8; 524288];
+    let mut out = [0u8; 65536];
     let c = serve(&mut line, &mut out);
     if c.length > 0 {
         respond(&line, c, &mut out);

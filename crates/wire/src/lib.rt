@@ -1,5 +1,6 @@
 // Lines of the protocol: a request line taken apart into groups of words, numbers and bytes, and an answer line put together.
 // Safety and an end are all that is promised here; what is answered is held to the second implementation.
+use libc::STDOUT_FILENO;
 ghost use Prim.Native.Nat.{_≤_};
 ghost use lib.ListN.{length};
 
@@ -269,12 +270,18 @@ pub fn is_word(line: &[u8], a: usize, e: usize, name: &[u8]) -> bool {
 
 // ---- answers
 
+// One byte after n others. A room that is full is written out first, so that an answer may have any length.
 pub fn put(out: &mut [u8], n: usize, b: u8) -> usize {
     if n < out.len() {
         out[n] = b;
         return n + 1;
     }
-    n
+    io::write_all(STDOUT_FILENO, out);
+    if out.len() > 0 {
+        out[0] = b;
+        return 1;
+    }
+    0
 }
 
 pub fn put_text(out: &mut [u8], n: usize, s: &[u8]) -> usize {

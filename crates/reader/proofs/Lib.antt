@@ -1,0 +1,10 @@
+pub mod Bits
+pub mod Flags
+pub mod Fielding
+pub mod Gathering
+pub mod Going
+pub mod Filling
+pub mod Heading
+pub mod Testing
+pub mod Standing
+pub mod Telling
