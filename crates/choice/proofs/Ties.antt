@@ -2,27 +2,25 @@
 use Prim.Native.Nat.{ℕ, zero, suc, _+_, _-_, _<_, _≤_}
 use mathlib.Core.Path.{_≡_, refl, sym, ap, _∙_}
 use mathlib.Core.Logic.{inl, inr}
-use mathlib.Core.Bool.{Bool, true, false, not, _&&_, _||_, false≢true}
+use mathlib.Core.Bool.{Bool, true, false, not, _&&_, _||_}
 use mathlib.Core.List.{List, [], _∷_}
-use mathlib.Core.Option.{Option, none, some}
 use native.Mathlib.Omega.{arith}
 use lib.Dec.{ltb}
-use lib.ListN.{length, getD}
+use lib.ListN.{length}
 use lib.IntN.{pos, _-ℤ_}
 use lib.Signed.{ltZ, mag}
 use borrow.Author.Tests.{lt-ltb, le-ltb}
 use Rattle.sets.specs.Lists.{isNil, isSome}
-use Rattle.sets.specs.Sets.{mem, sub, apart, union, without, meet, lex, before}
-use Rattle.sets.proofs.Truth.{iff, decided}
-use Rattle.sets.proofs.Places.{at-in, in-at}
+use Rattle.sets.specs.Sets.{sub, apart, union, without, meet, lex, before}
+use Rattle.sets.proofs.Truth.{decided}
+use Rattle.sets.proofs.Sets.{meet-none}
 use Rattle.sets.proofs.Ordering.{before-irrefl, before-asym}
 use Rattle.cube.specs.Cube.{orderOf}
 use Rattle.cube.specs.declared.Order.{Order}
 use Rattle.cube.specs.declared.Order.the-variants.{Before, Same, After}
 use Rattle.cube.proofs.Verdict.{Told, told-of}
-use Rattle.expression.specs.Expression.{ordered, has, findIn}
-use Rattle.expression.proofs.Searching.{find-iff}
-use Rattle.expression.proofs.Members.{has-in, has-out}
+use Rattle.expression.specs.Expression.{ordered, findIn}
+use Rattle.expression.proofs.Searching.{find-has}
 use Rattle.extraction.specs.Divisor.{small, useOf}
 
 -- ---- weights
@@ -94,25 +92,8 @@ module _ (a : List ℕ) (n : ℕ) (e : n ≡ length a) where
 
 -- ---- uses
 
--- no common literals
-pub meet-apart : (a b : List ℕ) → isNil (meet a b) ≡ apart a b
-unfolding meet apart
-meet-apart [] b = refl
-meet-apart (x ∷ a) b = elim (decided (mem x b)) [ inl h ↦ rw h | inr h ↦ rw h (meet-apart a b) ]
-
 pub base-tested : (x y c a b : List ℕ) → x ≡ without c a → y ≡ meet x b → isNil y ≡ apart (without c a) b
-base-tested x y c a b e h = ap isNil h ∙ meet-apart x b ∙ ap (λ z. apart z b) e
-
--- halving finds a cube exactly where it is one of them
-pub find-has : (c : List ℕ) (f : List (List ℕ)) → ordered f ≡ true → isSome (findIn c f) ≡ has c f
-find-has c f o = iff (λ h. forth (findIn c f) refl h) (λ h. back (in-at [] (has-out c f h)))
-  where
-    forth : (r : Option ℕ) → findIn c f ≡ r → isSome r ≡ true → has c f ≡ true
-    forth none e h = absurd (false≢true h)
-    forth (some i) e h = let q = (find-iff c f i o) .0 e in has-in (rw (q .1) at (at-in f i [] (q .0)))
-
-    back : (i : ℕ) × (i < length f) × (getD f i [] ≡ c) → isSome (findIn c f) ≡ true
-    back (i, h, e) = ap isSome ((find-iff c f i o) .1 (h, e))
+base-tested x y c a b e h = ap isNil h ∙ meet-none x b ∙ ap (λ z. apart z b) e
 
 module _ (a b : List ℕ) (f : List (List ℕ)) (c : List ℕ) where
   pub use-no-part : sub a c ≡ false → false ≡ useOf a b f c

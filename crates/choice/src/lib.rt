@@ -49,7 +49,7 @@ struct Counted {
 // ---- steps and their order
 
 // The step of zeros.
-fn no_step() -> Step
+pub fn no_step() -> Step
     ensures { λ r. ⌜ r ≡ noStep ⌝ }
 {
     Step {
@@ -214,7 +214,7 @@ fn judge_pairs(s: &[u64], held: Step) -> Step
 // ---- sums
 
 // Whether c is base and a, of a base that shares no literal with b, and base and b is a cube too.
-fn is_use(s: &[u64], c: Cube, a: Cube, b: Cube) -> bool
+pub fn is_use(s: &[u64], c: Cube, a: Cube, b: Cube) -> bool
     requires { ⌜ ordered (cubesOf (now s)) ≡ true ⌝ }
     ensures { λ r. ⌜ r ≡ useOf (lits a) (lits b) (cubesOf (now (s .entry))) (lits c) ⌝ }
 {

@@ -1,43 +1,24 @@
--- What the parts of a division compute is the quotient and the remainder: the search of a cube, the tests of one, the lists made of the dividend in cube order. Assumes nothing.
+-- What the parts of a division compute is the quotient and the remainder: the lists made of the dividend in cube order. Assumes nothing.
 use Prim.Native.Nat.{ℕ, _+_, _<_, _≤_}
 use mathlib.Core.Path.{_≡_, refl, sym, _∙_, ap, subst}
-use mathlib.Core.Bool.{Bool, true, false, cond, not, _&&_}
-use mathlib.Core.List.{List, [], _∷_, Memᴰ·cast}
-use mathlib.Core.Option.{none, some}
+use mathlib.Core.Bool.{Bool, true, false, not, _&&_}
+use mathlib.Core.List.{List, [], _∷_}
 use native.Mathlib.Omega.{arith}
 use lib.ListN.{length, getD, drop, length-map}
 use borrow.Author.Tests.{not-true}
-use Rattle.sets.specs.Lists.{all, keep, isNil}
-use Rattle.sets.specs.Sets.{mem, sub, apart, asc, without, meet, before}
+use Rattle.sets.specs.Lists.{keep}
+use Rattle.sets.specs.Sets.{sub, asc, without, before}
 use Rattle.sets.proofs.Truth.{iff, both, together, clash, refuted}
-use Rattle.sets.proofs.First.{some-not-none}
 use Rattle.sets.proofs.Lists.{all-in, all-out, keep-in, keep-out, keep-all, keep-le, pairwise-keep}
-use Rattle.sets.proofs.Places.{at-in, in-at, drop-next}
+use Rattle.sets.proofs.Places.{drop-next}
 use Rattle.sets.proofs.Orders.{before-order, ext-in}
 use Rattle.sets.proofs.Sets.{rejoin, unjoin, union-right}
-use Rattle.expression.specs.Expression.{expression, has, sort, ordered, findIn}
+use Rattle.expression.specs.Expression.{expression, has, sort}
 use Rattle.expression.proofs.Members.{has-in, has-out}
-use Rattle.expression.proofs.Searching.{find-iff}
 use Rattle.expression.proofs.Sorting.{sort-in, sort-out, expression-sort}
 use Rattle.division.specs.Division.{divides, leftOver, quotient, product, remainder}
 use Rattle.division.specs.Parts.{divisors, spared}
 use Rattle.division.proofs.Quotients.{cube-asc, quotient-in, quotient-out, quotient-form, product-in, product-out, remainder-in, remainder-out, remainder-form}
-
--- ---- a search among cubes in order tells whether a cube is one of them
-
-module _ (c : List ℕ) (f : List (List ℕ)) (o : ordered f ≡ true) where
-  pub found-has : (i : ℕ) → findIn c f ≡ some i → has c f ≡ true
-  found-has i e = let r = (find-iff c f i o) .0 e in has-in (Memᴰ·cast (sym (r .1)) (at-in f i [] (r .0)))
-
-  pub missed-has : findIn c f ≡ none → has c f ≡ false
-  missed-has e = refuted (λ h. let r = in-at [] (has-out c f h) in some-not-none (findIn c f) ((find-iff c f (r .0) o) .1 (r .1, r .2)) e)
-
--- two cubes share no literal where they have none in common
-pub meet-none : (a b : List ℕ) → isNil (meet a b) ≡ apart a b
-unfolding meet apart
-meet-none [] b = refl
-meet-none (x ∷ a) b = elim (mem x b) as (λ t. isNil (cond t (x ∷ keep (λ z. mem z b) a) (keep (λ z. mem z b) a)) ≡ (not t && all (λ z. not (mem z b)) a))
-    [ true ↦ refl | false ↦ meet-none a b ]
 
 -- ---- the lists, one cube of the dividend after the other
 

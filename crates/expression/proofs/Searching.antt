@@ -1,20 +1,21 @@
 -- The search by halving: its turns; and in cube order it finds the one place at which a cube stands. Assumes nothing.
 use Prim.Native.Nat.{ℕ, zero, suc, _+_, _-_, _/_, _<_, _≤_}
 use mathlib.Core.Path.{_≡_, refl, sym, _∙_, ap, subst}
-use mathlib.Core.Bool.{Bool, true, false, cond}
-use mathlib.Core.List.{List, []}
+use mathlib.Core.Bool.{Bool, true, false, cond, false≢true}
+use mathlib.Core.List.{List, [], Memᴰ·cast}
 use mathlib.Core.Logic.{_⊎_, inl, inr, _↔_}
 use mathlib.Core.Option.{Option, none, some}
 use native.Mathlib.Omega.{arith}
 use lib.Dec.{ltb}
 use lib.ListN.{length, getD}
 use borrow.Author.Tests.{lt-ltb, le-ltb, ltb-true}
-use Rattle.sets.specs.Lists.{all, pairwise}
+use Rattle.sets.specs.Lists.{all, pairwise, isSome}
 use Rattle.sets.specs.Sets.{before}
-use Rattle.sets.proofs.Truth.{decided, clash, Stand, below, equal, beyond, stand}
-use Rattle.sets.proofs.Places.{pairwise-at}
+use Rattle.sets.proofs.Truth.{iff, decided, clash, Stand, below, equal, beyond, stand}
+use Rattle.sets.proofs.Places.{pairwise-at, at-in, in-at}
 use Rattle.sets.proofs.Ordering.{before-irrefl, before-asym, before-linear}
-use Rattle.expression.specs.Expression.{ordered, halve, findIn}
+use Rattle.expression.specs.Expression.{ordered, has, halve, findIn}
+use Rattle.expression.proofs.Members.{has-in, has-out}
 
 -- ---- the turns
 
@@ -124,3 +125,14 @@ find-iff c f i o = (
   (λ e. halve-sound (length f) c f 0 (length f) i e),
   (λ (h, e). subst (λ d. findIn d f ≡ some i) e (halve-complete (length f) f 0 (length f) i o (omega arith) (omega arith) h (omega arith))),
 )
+
+-- in cube order a search finds a cube exactly where it is one of them
+pub find-has : (c : List ℕ) (f : List (List ℕ)) → ordered f ≡ true → isSome (findIn c f) ≡ has c f
+find-has c f o = iff (forth (findIn c f) refl) (λ h. back (in-at [] (has-out c f h)))
+  where
+    forth : (r : Option ℕ) → findIn c f ≡ r → isSome r ≡ true → has c f ≡ true
+    forth none e h = absurd (false≢true h)
+    forth (some i) e h = let q = (find-iff c f i o) .0 e in has-in (Memᴰ·cast (sym (q .1)) (at-in f i [] (q .0)))
+
+    back : (i : ℕ) × (i < length f) × (getD f i [] ≡ c) → isSome (findIn c f) ≡ true
+    back (i, h, e) = ap isSome ((find-iff c f i o) .1 (h, e))

@@ -5,7 +5,7 @@ use mathlib.Core.Bool.{Bool, true, false, _&&_}
 use mathlib.Core.List.{List, [], _∷_, _++_, append-assoc, nil≢cons, cons≢nil, head-eq-of-cons-eq, tail-eq-of-cons-eq}
 use native.Mathlib.Omega.{arith}
 use lib.Dec.{ltb}
-use lib.ListN.{length, getD, set, take, drop, length-set, length-take, length-drop, take-append-drop, drop-of-length-le, List·getD-eq-default}
+use lib.ListN.{length, getD, set, take, drop, replicate, length-set, length-take, length-drop, take-append-drop, drop-of-length-le, List·getD-eq-default}
 use lib.Seq.{set-out, take-nil, drop-nil, take-all, drop-drop, drop-append-le, length-take-le}
 use borrow.Rule.Slice.PartMut.{putMid, postOf, post-is}
 use borrow.Author.Tests.{ltb-true}
@@ -13,7 +13,7 @@ use Rattle.sets.specs.Lists.{all}
 use Rattle.sets.specs.Sets.{asc}
 use Rattle.sets.specs.Masks.{literals}
 use Rattle.sets.proofs.Truth.{both, Stand, below, equal, beyond, stand}
-use Rattle.sets.proofs.Literals.{literals-asc, plain-injective, negated-injective}
+use Rattle.sets.proofs.Literals.{literals-asc, literals-none, plain-injective, negated-injective}
 use Rattle.cube.specs.Cube.{width}
 use Rattle.expression.specs.Words.{cubesOf, spareOf, Spans, Put, Written, Placed}
 
@@ -108,6 +108,12 @@ part-held f a e = go (stand a (min e (length f))) (stand e (length f))
         rw (p, q) (take-all (length f - a) (drop a f) (omega (arith, length-drop a f)) ∙ sym (take-all (e - a) (drop a f) (omega (arith, length-drop a f))))
     go (equal h _ _) s = gone (omega arith) s
     go (beyond h _ _) s = gone (omega arith) s
+
+-- words of zeros are empty cubes
+pub zeros : (n : ℕ) → cubesOf (replicate (2 * n) 0) ≡ replicate n []
+unfolding cubesOf
+zeros zero = refl
+zeros (suc n) = let e : 2 * suc n ≡ suc (suc (2 * n)) = omega arith in rw e (ap₂ _∷_ (literals-none width) (zeros n))
 
 -- whole cubes in front, and then what follows
 pub cubes-append : (a b : List ℕ) → spareOf a ≡ [] → cubesOf (a ++ b) ≡ cubesOf a ++ cubesOf b

@@ -17,7 +17,8 @@ use Rattle.network.specs.Net.{Net, nodes, variables, cubeCount}
 use Rattle.network.specs.Held.{netOf, rules, mostVariables, mostCubes}
 use Rattle.network.specs.Handed.{Holds}
 use Rattle.network.specs.declared.Network.{Network}
-use Rattle.network.proofs.Holding.{rules-outputs, rules-divisors, rules-iff}
+use Rattle.network.proofs.Holding.{rules-divisors, rules-iff}
+use Rattle.network.proofs.Ruling.{rules-lawful}
 use Rattle.network.proofs.Handing.{holds-net}
 use Rattle.extraction.specs.Divisor as extraction
 use Rattle.extraction.specs.Extract.{step}
@@ -71,7 +72,7 @@ going-first k n list s a b r e c = record { ready = r; slots = a; words = b; few
 -- a network that a run comes to
 module _ (n : Network) (slots : length (n .counts) ≡ 96) (words : length (n .words) ≡ 2176) (r : Ready n) where
   ready-good : Good (netOf n)
-  ready-good = rules-good n slots (r .lawful)
+  ready-good = rules-good n slots words (r .lawful)
 
   ready-within : Within (netOf n)
   ready-within = rules-within n slots words (r .lawful)
@@ -81,7 +82,7 @@ module _ (n : Network) (slots : length (n .counts) ≡ 96) (words : length (n .w
   ready-few = let w = rules-iff n slots .0 (r .lawful) in omega (arith, w .inputs, w .variables)
 
   -- and the one that a step leads to
-  module _ (p : Network) (slots-p : length (p .counts) ≡ 96) (d : extraction.Divisor) (w : Worth (netOf n) d) (l : variables (netOf n) < mostVariables)
+  module _ (p : Network) (d : extraction.Divisor) (w : Worth (netOf n) d) (l : variables (netOf n) < mostVariables)
       (k : cubeCount (step (netOf n) d) ≤ mostCubes) (t : Holds p (step (netOf n) d)) where
     next-good : Good (step (netOf n) d)
     next-good = step-good (netOf n) ready-good d (w .best .chosen)
@@ -101,8 +102,8 @@ module _ (n : Network) (slots : length (n .counts) ≡ 96) (words : length (n .w
 
     next-lawful : rules p ≡ true
     next-lawful =
-        let f = rules-iff n slots .0 (r .lawful) in
-        holds-rules p slots-p (step (netOf n) d) t next-good next-within (f .inputs) (omega (arith, f .outputs, leads-outputs next-leads, rules-outputs n slots (r .lawful)))
+        let f = rules-lawful n slots words (r .lawful) in
+        holds-rules p (step (netOf n) d) t next-good next-within (f .inputs) (omega (arith, f .outputs, leads-outputs next-leads))
 
     next-ready : Ready p
     next-ready = record {
@@ -235,10 +236,10 @@ module _ {k : ℕ} {m : Net} {list : List Step} {count left : ℕ} {net : Networ
                 ran = runFrom (left - 1) (step (netOf net) d)
 
                 ready : Ready (t .network)
-                ready = next-ready net (g .slots) (g .words) (g .ready) (t .network) slots-t d (worth .0) l₁ l₂ i
+                ready = next-ready net (g .slots) (g .words) (g .ready) (t .network) d (worth .0) l₁ l₂ i
 
                 is : netOf (t .network) ≡ step (netOf net) d
-                is = next-is net (g .slots) (g .words) (g .ready) (t .network) slots-t d (worth .0) l₁ l₂ i
+                is = next-is net (g .slots) (g .words) (g .ready) (t .network) d (worth .0) l₁ l₂ i
 
                 more : (t .network .divisors ≡ suc (net .divisors)) × (t .network .inputs ≡ net .inputs)
-                more = next-divisors net (g .slots) (g .words) (g .ready) (t .network) slots-t d (worth .0) l₁ l₂ i
+                more = next-divisors net (g .slots) (g .words) (g .ready) (t .network) d (worth .0) l₁ l₂ i

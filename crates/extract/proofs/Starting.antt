@@ -10,7 +10,7 @@ use Rattle.network.specs.Net.{Net, nodes}
 use Rattle.network.specs.Held.{netOf, rules, mostVariables}
 use Rattle.network.specs.Handed.{Holds, Blank}
 use Rattle.network.specs.declared.Network.{Network}
-use Rattle.network.proofs.Holding.{rules-outputs, rules-iff}
+use Rattle.network.proofs.Ruling.{rules-lawful}
 use Rattle.network.proofs.Handing.{holds-net}
 use Rattle.extraction.specs.Run.{runFrom, inOrder, run}
 use Rattle.extraction.specs.Meaning.{Good, Within}
@@ -23,9 +23,9 @@ use Rattle.extract.specs.Parts.{Ready}
 use Rattle.extract.specs.declared.Answer.the-variants.{Refused}
 use Rattle.extract.specs.declared.Ran.{Ran}
 
-module _ (n p : Network) (slots : length (n .counts) ≡ 96) (words : length (n .words) ≡ 2176) (slots-p : length (p .counts) ≡ 96) (r : rules n ≡ true) (h : Holds p (inOrder (netOf n))) where
+module _ (n p : Network) (slots : length (n .counts) ≡ 96) (words : length (n .words) ≡ 2176) (r : rules n ≡ true) (h : Holds p (inOrder (netOf n))) where
   good : Good (inOrder (netOf n))
-  good = in-order-good (netOf n) (rules-good n slots r)
+  good = in-order-good (netOf n) (rules-good n slots words r)
 
   within : Within (inOrder (netOf n))
   within = let w = rules-within n slots words r in record {
@@ -39,15 +39,15 @@ module _ (n p : Network) (slots : length (n .counts) ≡ 96) (words : length (n 
 
   lawful : rules p ≡ true
   lawful =
-      let w = rules-iff n slots .0 r in
-      holds-rules p slots-p (inOrder (netOf n)) h good within (omega (arith, w .inputs, in-order-inputs (netOf n)))
-      (omega (arith, w .outputs, in-order-outputs (netOf n), rules-outputs n slots r))
+      let w = rules-lawful n slots words r in
+      holds-rules p (inOrder (netOf n)) h good within (omega (arith, w .inputs, in-order-inputs (netOf n)))
+      (omega (arith, w .outputs, in-order-outputs (netOf n)))
 
   -- a run can start from it
   pub start-ready : Ready p
   start-ready = record {
     lawful = lawful;
-    tidy = arranged-in p lawful (λ f m. in-order-ordered (netOf n) (rules-good n slots r) f (subst (λ (z : Net). f ∈ nodes z) start-is m));
+    tidy = arranged-in p lawful (λ f m. in-order-ordered (netOf n) (rules-good n slots words r) f (subst (λ (z : Net). f ∈ nodes z) start-is m));
     held = subst (Holds p) (sym start-is) h;
   }
 

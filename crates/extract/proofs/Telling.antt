@@ -19,14 +19,14 @@ use Rattle.network.specs.Held.{netOf, rules}
 use Rattle.network.specs.Answers.{counted, evaluated}
 use Rattle.network.specs.declared.Network.{Network}
 use Rattle.network.specs.declared.Number.the-variants.{Is}
-use Rattle.network.proofs.Handing.{holds-net, holds-one}
+use Rattle.network.proofs.Handing.{holds-net, holds-one, blank-one}
 use Rattle.extraction.specs.Run as extraction
 use Rattle.extraction.specs.Run.{Made, Result, done, asked, numbers, rows, inOrder, run}
 use Rattle.extraction.specs.Meaning.{Leads, fall}
 use Rattle.extraction.proofs.Running.{run-leads}
 use Rattle.extraction.proofs.Keeping.{run-good, run-literals}
 use Rattle.extraction.proofs.Following.{rules-good, run-rules, run-evaluated}
-use Rattle.tidy.proofs.Tidied.{Shaped, blank-one}
+use Rattle.tidy.proofs.Tidied.{Shaped}
 use Rattle.choice.specs.Choice.{divisorOf, madeOf}
 use Rattle.choice.specs.declared.Divisor.{Divisor}
 use Rattle.choice.specs.declared.Divisor.the-variants.{Pair, Sum}
@@ -137,7 +137,7 @@ told-one k n r s a b = go (ran k n)
 abbrev pub stepsOf : Ran → List Made
 stepsOf r = map madeOf (take (r .steps .count) (r .steps .list))
 
-module _ (k : ℕ) (n : Network) (r : Ran) (slots : length (n .counts) ≡ 96) (words : length (n .words) ≡ 2176) (slots-r : length (r .network .counts) ≡ 96)
+module _ (k : ℕ) (n : Network) (r : Ran) (slots : length (n .counts) ≡ 96) (words : length (n .words) ≡ 2176)
     (h : rules n ≡ true) (t : Told (ran k n) r) where
   ran-told : Told (some (run k (netOf n))) r
   unfolding ran
@@ -147,15 +147,15 @@ module _ (k : ℕ) (n : Network) (r : Ran) (slots : length (n .counts) ≡ 96) (
   ran-steps = let l = ran-told .2 in ap (λ (c : ℕ). map madeOf (take c (r .steps .list))) (l .number) ∙ l .steps
 
   ran-network : netOf (r .network) ≡ run k (netOf n) .network
-  ran-network = holds-net (r .network) (run k (netOf n) .network) (ran-told .1) ((run-good k (netOf n) (rules-good n slots h)) .inTurn)
+  ran-network = holds-net (r .network) (run k (netOf n) .network) (ran-told .1) ((run-good k (netOf n) (rules-good n slots words h)) .inTurn)
 
   -- the resulting network follows the rules and keeps the limits
   pub ran-rules : rules (r .network) ≡ true
-  ran-rules = run-rules n (r .network) slots words slots-r k h (ran-told .1)
+  ran-rules = run-rules n (r .network) slots words k h (ran-told .1)
 
   -- outputs after a run are those before, for every setting
   pub ran-outputs : (s : ℕ) → evaluated (r .network) s ≡ evaluated n s
-  ran-outputs = run-evaluated n (r .network) slots words slots-r k h (ran-told .1)
+  ran-outputs = run-evaluated n (r .network) slots words k h (ran-told .1)
 
   -- each step listed takes the best divisor of the network that it is made on
   pub ran-leads : Leads (inOrder (netOf n)) (stepsOf r) (netOf (r .network))
@@ -170,5 +170,5 @@ module _ (k : ℕ) (n : Network) (r : Ran) (slots : length (n .counts) ≡ 96) (
   ran-literals = (
     rw h,
     rw ran-rules,
-    ap (λ z. pos (literalCount z)) ran-network ∙ run-literals k (netOf n) (rules-good n slots h) ∙ ap (λ l. pos (literalCount (netOf n)) -ℤ fall l) (sym ran-steps),
+    ap (λ z. pos (literalCount z)) ran-network ∙ run-literals k (netOf n) (rules-good n slots words h) ∙ ap (λ l. pos (literalCount (netOf n)) -ℤ fall l) (sym ran-steps),
   )

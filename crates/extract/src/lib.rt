@@ -1,7 +1,5 @@
 // Runs: the best divisor again and again, until the first reason to stop.
-use choice::Divisor;
 use choice::Step;
-use cube::Literal;
 use network::Judged;
 use network::Network;
 use replace::Outcome;
@@ -42,22 +40,11 @@ pub struct Ran {
     pub steps: Steps,
 }
 
-// The step of zeros.
-fn nothing() -> Step
-    ensures { λ r. ⌜ r ≡ noStep ⌝ }
-{
-    Step {
-        divisor: Divisor::Pair(Literal(0), Literal(0)),
-        weight: 0,
-        uses: 0,
-    }
-}
-
 // A list of no steps.
 fn no_steps() -> [Step; STEPS]
     ensures { λ r. ⌜ r ≡ replicate mostVariables noStep ⌝ }
 {
-    [nothing(); STEPS]
+    [choice::no_step(); STEPS]
 }
 
 // Why a step that there is no room for is not made.

@@ -3,12 +3,12 @@ use Prim.Native.Nat.{ℕ, _<_}
 use mathlib.Core.Path.{_≡_, refl, sym, ap, _∙_, subst}
 use mathlib.Core.Logic.{inl, inr}
 use mathlib.Core.Bool.{true}
-use mathlib.Core.List.{List, [], _∷_, map, List·Memᴰ·head as here, List·Memᴰ·tail as there, List·Memᴰ·not-nil, List·Memᴰ·append-cases}
+use mathlib.Core.List.{List, [], _∷_, map, List·Memᴰ·not-nil, List·Memᴰ·append-cases}
 use native.Mathlib.Omega.{arith}
 use lib.ListN.{length, length-map}
 use Rattle.sets.specs.Lists.{total}
 use Rattle.sets.specs.Sets.{without}
-use Rattle.sets.proofs.Lists.{_∈_, map-out, total-map, total-const}
+use Rattle.sets.proofs.Lists.{_∈_, map-out, map-fixed, total-map, total-const}
 use Rattle.sets.proofs.Ordering.{before-asym}
 use Rattle.expression.specs.Expression.{place, sort, ordered, literalsOf}
 use Rattle.expression.proofs.Sorting.{sort-in, sort-out, total-sort, sort-length, sort-sort, expression-sort}
@@ -17,6 +17,7 @@ use Rattle.network.specs.Held.{numbered}
 use Rattle.network.specs.Evaluation.{evaluate}
 use Rattle.network.specs.Meaning.{Reads, SameCubes, Along, SameNode, Reordered}
 use Rattle.network.specs.Meaning.Along.{none as end, more as on}
+use Rattle.network.proofs.Numbering.{in-output, in-divisor}
 use Rattle.network.proofs.Evaluating.{listing-order, evaluate-order}
 use Rattle.network.proofs.Handing.{InTurn}
 use Rattle.extraction.specs.Divisor.{Divisor, pair, own, rewrite}
@@ -25,7 +26,7 @@ use Rattle.extraction.specs.Run.{inOrder}
 use Rattle.extraction.specs.Meaning.{Good}
 use Rattle.extraction.proofs.Making.{cubes, onNode, cubes-map, nodes-map, numbered-map, step-node}
 use Rattle.extraction.proofs.Offering.{gather-out, sums-out, sum-of-out}
-use Rattle.extraction.proofs.Reading.{in-output, in-divisor, turn-listing, good-sound}
+use Rattle.extraction.proofs.Reading.{turn-listing, good-sound}
 
 same-sort : (f : List (List ℕ)) → SameCubes f (sort f)
 same-sort f = record { into = λ c m. sort-in m; back = λ c m. sort-out f m }
@@ -104,10 +105,6 @@ module _ (n : Net) where
   in-order-ordered g f m = let q = in-order-node f m in rw (q .2) ((expression-sort (q .0) (g .expressions (q .0) (q .1))) .1)
 
 -- ---- where the cubes are in order already
-
-map-fixed : {A : Type 0} (h : A → A) (l : List A) → ((x : A) → x ∈ l → h x ≡ x) → map h l ≡ l
-map-fixed h [] k = refl
-map-fixed h (x ∷ l) k = λ i. k x (here refl) i ∷ map-fixed h l (λ y m. k y (there m)) i
 
 in-order-fixed : (n : Net) → ((f : List (List ℕ)) → f ∈ nodes n → sort f ≡ f) → inOrder n ≡ n
 unfolding inOrder

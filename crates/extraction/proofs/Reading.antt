@@ -3,15 +3,15 @@ use Prim.Native.Nat.{ℕ, _*_, _/_, _<_}
 use mathlib.Core.Path.{_≡_, refl, sym, ap, _∙_, subst}
 use mathlib.Core.Logic.{_⊎_, inl, inr, _↔_}
 use mathlib.Core.Bool.{true}
-use mathlib.Core.List.{List, map, Memᴰ·append-left, Memᴰ·append-right}
+use mathlib.Core.List.{List, map}
 use native.Mathlib.Omega.{arith}
 use lib.ListN.{length, length-map}
-use Rattle.sets.proofs.Lists.{_∈_, map-in}
+use Rattle.sets.proofs.Lists.{_∈_}
 use Rattle.network.specs.Net.{Node, Net, nodes, variables}
 use Rattle.network.specs.Listing.{listing}
 use Rattle.network.specs.Meaning.{Reads, Through, Distinct, Closed, Sound}
 use Rattle.network.specs.Meaning.Through.{itself, others}
-use Rattle.network.proofs.Numbering.{numbered-distinct, numbered-range, reach-in, reach-closed}
+use Rattle.network.proofs.Numbering.{in-divisor, numbered-distinct, numbered-range, reach-in, reach-closed}
 use Rattle.network.proofs.Listings.{listing-all}
 use Rattle.network.proofs.Handing.{InTurn}
 use Rattle.extraction.specs.Divisor.{Divisor, own, hit}
@@ -19,12 +19,6 @@ use Rattle.extraction.specs.Extract.{step}
 use Rattle.extraction.specs.Meaning.{Good, Fit}
 use Rattle.extraction.proofs.Replacing.{rewrite-reads, own-reads}
 use Rattle.extraction.proofs.Making.{step-divisor}
-
-pub in-output : (n : Net) {f : List (List ℕ)} → f ∈ n .outputs → f ∈ nodes n
-in-output n m = Memᴰ·append-left (map (λ (e : Node). e .cubes) (n .divisors)) m
-
-pub in-divisor : (n : Net) {e : Node} → e ∈ n .divisors → e .cubes ∈ nodes n
-in-divisor n m = Memᴰ·append-right (n .outputs) (map-in (λ (e : Node). e .cubes) m)
 
 -- where divisors are numbered in turn and only variables of the network are read, the listing is whole exactly when none reads itself through others
 pub turn-listing : (n : Net) → InTurn n → ((f : List (List ℕ)) → f ∈ nodes n → (v : ℕ) → Reads f v → v < variables n)

@@ -14,6 +14,7 @@ use Rattle.network.specs.Net.{Net, nodes, variables}
 use Rattle.network.specs.Listing.{listing}
 use Rattle.network.specs.Evaluation.{settle, answers, evaluate}
 use Rattle.network.specs.Meaning.{Reads, Consistent}
+use Rattle.network.proofs.Numbering.{in-output, in-divisor}
 use Rattle.network.proofs.Evaluating.{evaluate-settled, evaluate-read}
 use Rattle.extraction.specs.Divisor.{Divisor, pair, sum, own, sound, rewrite}
 use Rattle.extraction.specs.Extract.{candidates, redo, step}
@@ -22,7 +23,7 @@ use Rattle.extraction.proofs.Using.{sum-parts}
 use Rattle.extraction.proofs.Replacing.{rewrite-value, rewrite-expression, rewrite-ordered, rewrite-reads}
 use Rattle.extraction.proofs.Making.{step-node, step-variables, step-turn}
 use Rattle.extraction.proofs.Offering.{candidate-fit}
-use Rattle.extraction.proofs.Reading.{in-output, in-divisor, good-sound, step-acyclic}
+use Rattle.extraction.proofs.Reading.{good-sound, step-acyclic}
 
 own-ordered : (d : Divisor) → sound d ≡ true → ordered (own d) ≡ true
 own-ordered (pair p q) s = refl

@@ -18,9 +18,10 @@ use Rattle.expression.specs.Expression.{isCube, loose, ordered, literalsOf}
 use Rattle.network.specs.Net.{Node, Net, nodes}
 use Rattle.network.specs.Meaning.{Reads, Through, itself, others}
 use Rattle.network.specs.Held.{numbered, reach, mostCubes, mostLiterals}
+use Rattle.network.specs.Rules.{Lawful}
 use Rattle.network.proofs.Numbering.{numbered-length, numbered-cubes, reach-in, reach-out}
 use Rattle.imaging.specs.Reading.{Raw, rawNodes, rawNet, summed, inTheOrder, readsEarlier, oneOrder}
-use Rattle.imaging.specs.Meaning.{Lawful, InOrder}
+use Rattle.imaging.specs.Meaning.{InOrder}
 use Rattle.imaging.proofs.Fielding.{divisorCubes}
 use Rattle.imaging.proofs.Reading.{FitCube, FitRaw}
 

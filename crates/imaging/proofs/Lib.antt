@@ -1,6 +1,5 @@
 pub mod NewNumbers
 pub mod Renumbering
-pub mod Ruling
 pub mod Fielding
 pub mod Reading
 pub mod Judging

@@ -12,17 +12,13 @@ use Rattle.sets.specs.Lists.{any, all, pairwise, from}
 use Rattle.sets.specs.Literal.{oppositeOf}
 use Rattle.sets.specs.Sets.{mem, sub, asc, proper, insert}
 use Rattle.sets.proofs.Truth.{iff, both, together, either, neither, decided, clash}
-use Rattle.sets.proofs.Lists.{_∈_, all-in, all-out, map-out, total-map, total-const, pairwise-map, ahead}
+use Rattle.sets.proofs.Lists.{_∈_, all-in, all-out, map-out, map-fixed, total-map, total-const, pairwise-map, ahead}
 use Rattle.sets.proofs.Sets.{mem-of, of-mem, insert-mem, insert-asc, insert-all, insert-length, sub-in, sub-out, proper-in, proper-out, head-once, ext}
 use Rattle.expression.specs.Expression.{isCube, loose, expression, sort, ordered, literalsOf}
 use Rattle.expression.specs.Value.{lit, value}
 use Rattle.expression.proofs.Sorting.{sort-out, any-sort, total-sort, sort-length, ordered-sort, expression-sort}
 use Rattle.network.specs.Meaning.{Reads}
 use Rattle.imaging.specs.Renumber.{indexOf, newNumber, newLiteral, newCube, newNode}
-
-pub map-fixed : {A : Type 0} (h : A → A) (l : List A) → ((x : A) → x ∈ l → h x ≡ x) → map h l ≡ l
-map-fixed h [] k = refl
-map-fixed h (x ∷ l) k = ap₂ _∷_ (k x (here refl)) (map-fixed h l (λ y m. k y (there m)))
 
 -- ---- the place of a number in a list
 

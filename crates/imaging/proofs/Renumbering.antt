@@ -12,7 +12,7 @@ use Rattle.sets.specs.Lists.{all, total, pairwise, from}
 use Rattle.sets.specs.Sets.{mem}
 use Rattle.sets.specs.Masks.{bit, packed}
 use Rattle.sets.proofs.Truth.{both, together, or-left, or-right, decided, clash, refuted}
-use Rattle.sets.proofs.Lists.{_∈_, all-in, map-in, map-out, map-cong, map-map, total-append, total-const, total-map, total-same, pairwise-imp}
+use Rattle.sets.proofs.Lists.{_∈_, all-in, map-in, map-out, map-cong, map-map, map-fixed, total-append, total-const, total-map, total-same, pairwise-imp}
 use Rattle.sets.proofs.Sets.{from-mem}
 use Rattle.expression.specs.Expression.{expression, ordered, literalsOf}
 use Rattle.expression.specs.Value.{lit, value}
@@ -22,23 +22,18 @@ use Rattle.network.specs.Evaluation.{settle, answers, evaluate}
 use Rattle.network.specs.Meaning.{Reads, Through, Consistent, Sound, differ}
 use Rattle.network.specs.Meaning.Through.{itself, others}
 use Rattle.network.specs.Held.{numbered}
+use Rattle.network.specs.Rules.{Lawful}
 use Rattle.network.proofs.Places.{differ-in, differ-out}
-use Rattle.network.proofs.Numbering.{numbered-length, numbered-numbers, numbered-cubes, numbered-distinct, cubes-at, reach-in, reach-closed, known-below, below-known}
+use Rattle.network.proofs.Numbering.{in-output, in-divisor, numbered-length, numbered-numbers, numbered-cubes, numbered-distinct, cubes-at, reach-in, reach-closed, known-below, below-known}
 use Rattle.network.proofs.Listings.{ready-out, listing-once, listing-number, listing-in, listing-step, listing-all}
 use Rattle.network.proofs.Evaluating.{evaluate-settled, evaluate-read}
 use Rattle.imaging.specs.Renumber.{indexOf, newNumber, newNode, renumbered}
-use Rattle.imaging.specs.Meaning.{Lawful, InOrder}
-use Rattle.imaging.proofs.NewNumbers.{map-fixed, index-before, index-new, index-from, Named, Over, Reaches, oldNumber, new-input, new-listed, old-new, new-injective, new-below, new-node-reads, new-node-length, new-node-literals, new-node-expression, new-node-value, new-node-same}
+use Rattle.imaging.specs.Meaning.{InOrder}
+use Rattle.imaging.proofs.NewNumbers.{index-before, index-new, index-from, Named, Over, Reaches, oldNumber, new-input, new-listed, old-new, new-injective, new-below, new-node-reads, new-node-length, new-node-literals, new-node-expression, new-node-value, new-node-same}
 
 -- the expressions of divisors
 abbrev cubes : List Node → List (List (List ℕ))
 cubes l = map (λ (e : Node). e .cubes) l
-
-pub in-output : (n : Net) {f : List (List ℕ)} → f ∈ n .outputs → f ∈ nodes n
-in-output n m = Memᴰ·append-left (cubes (n .divisors)) m
-
-pub in-divisor : (n : Net) {e : Node} → e ∈ n .divisors → e .cubes ∈ nodes n
-in-divisor n m = Memᴰ·append-right (n .outputs) (map-in (λ (e : Node). e .cubes) m)
 
 -- ---- the listing of a network by the rules
 

@@ -15,10 +15,11 @@ use Rattle.sets.proofs.Lists.{_∈_}
 use Rattle.fields.specs.Fields.{fieldBits, bitsIn, bytesFor, bytesOf}
 use Rattle.fields.proofs.Bytes.{bytes-length, bytes-bits, bits-bytes, bits-in-length, bits-in-append, bytes-pad}
 use Rattle.network.specs.Net.{Net}
+use Rattle.network.specs.Rules.{Lawful}
 use Rattle.imaging.specs.Renumber.{renumbered}
 use Rattle.imaging.specs.Image.{netFields, netBytes, imageOf}
 use Rattle.imaging.specs.Reading.{Raw, rawNet, padding, summed, oneOrder, accepted, refused, readImage}
-use Rattle.imaging.specs.Meaning.{Lawful, InOrder}
+use Rattle.imaging.specs.Meaning.{InOrder}
 use Rattle.imaging.proofs.Reading.{rawBits}
 use Rattle.imaging.proofs.Refusing.{begins-early, Stands, Judged, early, over, taken, judged-iff, judged-read}
 use Rattle.imaging.proofs.Renumbering.{renumbered-same, renumbered-lawful, renumbered-order}

@@ -1,12 +1,12 @@
 -- The texts case by case, as they are written: a literal, a cube as its first literal and the others; and how long they are. Assumes nothing.
 use Prim.Native.Nat.{ℕ, suc, _+_, _*_, _/_, _%_, _^_, _<_, _≤_}
-use mathlib.Core.Path.{_≡_, refl, sym, ap}
+use mathlib.Core.Path.{_≡_, refl, sym, _∙_, ap}
 use mathlib.Core.Bool.{true, false, cond}
 use mathlib.Core.List.{List, [], _∷_, _++_, append-nil, List·Memᴰ·head as here, List·Memᴰ·tail as there}
 use native.Mathlib.Omega.{arith}
 use lib.Dec.{eqb}
 use lib.ListN.{length, length-append}
-use borrow.Author.Tests.{eq-eqb, ne-eqb}
+use borrow.Author.Tests.{eqb-true, eqb-false, eq-eqb, ne-eqb}
 use Rattle.sets.proofs.Lists.{_∈_}
 use Rattle.cube.specs.Cube.{width}
 use Rattle.letters.specs.Letters.{decimal, literalText, cubeText}
@@ -20,29 +20,40 @@ pub literal-start : (l : ℕ) → literalText l ≡ 120 ∷ (decimal (l / 2) ++ 
 unfolding literalText
 literal-start l = refl
 
-pub mark-none : (l : ℕ) → l % 2 ≡ 0 → mark l ≡ []
-mark-none l h = rw (eq-eqb (l % 2) 0 h)
+pub mark-none : (l : ℕ) → eqb (l % 2) 1 ≡ false → mark l ≡ []
+mark-none l h = let f = eqb-false (l % 2) 1 h in rw (eq-eqb (l % 2) 0 (omega arith))
 
-pub mark-one : (l : ℕ) → (l % 2 ≡ 0 → ⊥) → mark l ≡ 39 ∷ []
-mark-one l h = rw (ne-eqb (l % 2) 0 h)
+pub mark-one : (l : ℕ) → eqb (l % 2) 1 ≡ true → mark l ≡ 39 ∷ []
+mark-one l h = rw (ne-eqb (l % 2) 0 (λ z. omega (arith, eqb-true (l % 2) 1 h)))
+
+module _ {A : Type 0} (text : A → List ℕ) (b : ℕ) where
+  -- a byte and a text, for each
+  pub marked : List A → List ℕ
+  marked [] = []
+  marked (x ∷ l) = b ∷ (text x ++ marked l)
+
+  pub marked-nil : marked [] ≡ []
+  unfolding marked
+  marked-nil = refl
+
+  pub marked-cons : (x : A) (l : List A) → marked (x ∷ l) ≡ b ∷ (text x ++ marked l)
+  unfolding marked
+  marked-cons x l = refl
+
+  -- texts with the byte between them are the first and then the others, each with the byte before it
+  pub marked-first : (all : List A → List ℕ) → ((x : A) → all (x ∷ []) ≡ text x) → ((x y : A) (l : List A) → all (x ∷ y ∷ l) ≡ text x ++ (b ∷ all (y ∷ l)))
+      → (x : A) (l : List A) → all (x ∷ l) ≡ text x ++ marked l
+  unfolding marked
+  marked-first all one more x [] = one x ∙ sym (append-nil (text x))
+  marked-first all one more x (y ∷ l) = more x y l ∙ ap (λ t. text x ++ (b ∷ t)) (marked-first all one more y l)
 
 -- `*` and a literal, for each
-pub starred : List ℕ → List ℕ
-starred [] = []
-starred (l ∷ c) = 42 ∷ (literalText l ++ starred c)
-
-pub starred-nil : starred [] ≡ []
-unfolding starred
-starred-nil = refl
-
-pub starred-cons : (l : ℕ) (c : List ℕ) → starred (l ∷ c) ≡ 42 ∷ (literalText l ++ starred c)
-unfolding starred
-starred-cons l c = refl
+abbrev pub starred : List ℕ → List ℕ
+starred c = marked literalText 42 c
 
 pub cube-first : (l : ℕ) (c : List ℕ) → cubeText (l ∷ c) ≡ literalText l ++ starred c
-unfolding cubeText starred
-cube-first l [] = sym (append-nil (literalText l))
-cube-first l (m ∷ c) = ap (λ t. literalText l ++ (42 ∷ t)) (cube-first m c)
+unfolding cubeText
+cube-first l c = marked-first literalText 42 cubeText (λ x. refl) (λ x y s. refl) l c
 
 pub cube-none : cubeText [] ≡ 49 ∷ []
 unfolding cubeText

@@ -51,11 +51,12 @@ pub fn put_literal(o: &mut [u8], at: usize, l: Literal) -> usize
     ensures { λ r. ⌜ Laid (now (o .entry)) (now (o .exit)) at r (literalText (l .0)) ⌝ }
 {
     let p = put(o, at, b'x');
-    let q = put_number(o, p, (l.0 / 2) as u64);
-    if l.0 % 2 == 0 {
-        return q;
+    let v = cube::variable_of(l);
+    let q = put_number(o, p, v.0 as u64);
+    if cube::is_negated(l) {
+        return put(o, q, b'\'');
     }
-    put(o, q, b'\'')
+    q
 }
 
 // Literals with `*` between them; the empty cube is `1`.

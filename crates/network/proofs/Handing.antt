@@ -2,7 +2,7 @@
 use Prim.Native.Nat.{ℕ, suc, _+_, _-_, _*_, _/_, _≤_}
 use mathlib.Core.Path.{_≡_, refl, sym, ap, ap₂, _∙_}
 use mathlib.Core.Bool.{Bool, true}
-use mathlib.Core.List.{List, [], _∷_, _++_, map, append-assoc}
+use mathlib.Core.List.{List, [], _∷_, _++_, map, append-assoc, append-nil}
 use native.Mathlib.Omega.{arith}
 use lib.ListN.{length, take, drop, replicate, length-append, length-map}
 use lib.Seq.{take-append-seam, drop-append-seam, take-at}
@@ -11,7 +11,7 @@ use Rattle.expression.specs.Words.{cubesOf, spareOf}
 use Rattle.expression.proofs.Words.{fit, words-ext, cubes-length, spare-length}
 use Rattle.network.specs.Net.{Node, Net, nodes}
 use Rattle.network.specs.Held.{cut, numbered, used, netOf}
-use Rattle.network.specs.Handed.{flat, Holds}
+use Rattle.network.specs.Handed.{flat, Holds, Blank}
 use Rattle.network.specs.declared.Network.{Network}
 
 -- cubes written node after node are cut into the nodes again
@@ -23,6 +23,14 @@ cut-flat (f ∷ fs) rest = rw (append-assoc f (flat fs) rest, take-append-seam f
 pub flat-length : {A : Type 0} (fs : List (List A)) → length (flat fs) ≡ total length fs
 flat-length [] = refl
 flat-length (f ∷ fs) = omega (arith, length-append f (flat fs), flat-length fs)
+
+pub flat-append : {A : Type 0} (l m : List (List A)) → flat (l ++ m) ≡ flat l ++ flat m
+flat-append [] m = refl
+flat-append (x ∷ l) m = ap (x ++_) (flat-append l m) ∙ sym (append-assoc x (flat l) (flat m))
+
+-- one list more
+pub flat-last : {A : Type 0} (l : List (List A)) (x : List A) → flat (l ++ (x ∷ [])) ≡ flat l ++ x
+flat-last l x = flat-append l (x ∷ []) ∙ ap (flat l ++_) (append-nil x)
 
 -- the divisors have the numbers from the inputs on
 abbrev pub InTurn : Net → Type 0
@@ -63,3 +71,13 @@ holds-one n p m ln lp fn fp h k = λ i. record {
         go : (l : List ℕ) → length l ≡ 0 → l ≡ []
         go [] z = refl
         go (x ∷ l) z = absurd (omega arith)
+
+-- no two networks of zeros differ
+pub blank-one : (n p : Network) → Blank n → Blank p → n ≡ p
+blank-one n p h k = λ i. record {
+  inputs = (h .inputs ∙ sym (k .inputs)) i;
+  outputs = (h .outputs ∙ sym (k .outputs)) i;
+  divisors = (h .divisors ∙ sym (k .divisors)) i;
+  counts = (h .counts ∙ sym (k .counts)) i;
+  words = (h .words ∙ sym (k .words)) i;
+}

@@ -4,6 +4,7 @@ pub mod Listings
 pub mod Evaluating
 pub mod Holding
 pub mod Handing
+pub mod Ruling
 pub mod Parts
 pub mod Knowing
 pub mod Limits

@@ -17,6 +17,13 @@ use Rattle.network.specs.Net.{Node, Net, nodes, variables, cubesAt}
 use Rattle.network.specs.Meaning.{Reads, Known, Closed, Distinct}
 use Rattle.network.specs.Held.{numbered, reach}
 
+-- the nodes are the outputs and the divisors
+pub in-output : (n : Net) {f : List (List ℕ)} → f ∈ n .outputs → f ∈ nodes n
+in-output n m = Memᴰ·append-left (map (λ (e : Node). e .cubes) (n .divisors)) m
+
+pub in-divisor : (n : Net) {e : Node} → e ∈ n .divisors → e .cubes ∈ nodes n
+in-divisor n m = Memᴰ·append-right (n .outputs) (map-in (λ (e : Node). e .cubes) m)
+
 pub numbered-length : (v : ℕ) (fs : List (List (List ℕ))) → length (numbered v fs) ≡ length fs
 unfolding numbered
 numbered-length v [] = refl
@@ -134,6 +141,6 @@ module _ (n : Net) (fs : List (List (List ℕ))) (e : n .divisors ≡ numbered (
   -- so where every literal is of a variable of the network, the expressions read inputs and divisors only
   pub reach-closed : all (reach (variables n)) (nodes n) ≡ true → Closed n
   reach-closed h = record {
-    outputs = λ f m v r. below-known v (reach-out (variables n) (nodes n) h f (Memᴰ·append-left (map (λ (g : Node). g .cubes) (n .divisors)) m) v r);
-    divisors = λ g m v r. below-known v (reach-out (variables n) (nodes n) h (g .cubes) (Memᴰ·append-right (n .outputs) (map-in (λ (z : Node). z .cubes) m)) v r);
+    outputs = λ f m v r. below-known v (reach-out (variables n) (nodes n) h f (in-output n m) v r);
+    divisors = λ g m v r. below-known v (reach-out (variables n) (nodes n) h (g .cubes) (in-divisor n m) v r);
   }

@@ -17,6 +17,7 @@ ghost use Rattle.expression.specs.Expression.{expression, literalsOf};
 ghost use Rattle.expression.specs.Answers.{placeOf, capped};
 ghost use Rattle.network.specs.Listing.{listing};
 ghost use Rattle.network.specs.Evaluation.{evaluate};
+ghost use Rattle.network.specs.Handed.{Blank};
 ghost use Rattle.network.specs.Held.{cut, upTo, reach, lawful, rules};
 ghost use Rattle.network.specs.Answers.{judged, counted, evaluated, listedOf};
 ghost use Rattle.network.specs.Parts.{Lent, startOf, nodesOf, divisorsOf, heldIn, netAt, sizedAt, Sized, within, Spans, nextIn, signed, holds, Truths, settledIn, Lists, Ordered};
@@ -346,6 +347,19 @@ fn answer(words: &[u64], counts: &[usize], n: usize, m: usize, k: usize, setting
     let l = list(words, counts, n, m, k);
     let t = settle(words, counts, n, m, k, l, given(n, setting));
     collect(words, counts, m, t)
+}
+
+// The network of zeros, handed back beside a refusal.
+pub fn blank() -> Network
+    ensures { λ r. ⌜ Blank r ⌝ }
+{
+    Network {
+        inputs: 0,
+        outputs: 0,
+        divisors: 0,
+        counts: [0usize; NODES],
+        words: [0u64; WORDS],
+    }
 }
 
 // Whether the network keeps the rules: 10 where it does not.

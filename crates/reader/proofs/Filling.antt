@@ -2,7 +2,7 @@
 use Prim.Native.Nat.{ℕ, suc, _+_, _-_, _*_, _<_, _≤_}
 use mathlib.Core.Path.{_≡_, refl, sym, ap, ap₂, subst, _∙_}
 use mathlib.Core.Bool.{Bool, _&&_}
-use mathlib.Core.List.{List, [], _∷_, _++_, map, append-assoc, append-nil, map-append}
+use mathlib.Core.List.{List, [], _∷_, _++_, map, map-append}
 use native.Mathlib.Omega.{arith}
 use native.Mathlib.Numerals.{add-one}
 use lib.Dec.{leb}
@@ -16,6 +16,7 @@ use Rattle.network.proofs.Places.{all-append}
 use Rattle.cube.specs.Cube.{lits}
 use Rattle.expression.specs.Words.{cubesOf, Put}
 use Rattle.network.specs.Handed.{flat}
+use Rattle.network.proofs.Handing.{flat-last}
 use Rattle.network.specs.Held.{mostCubes}
 use Rattle.imaging.specs.Reading.{Got, bad, getMany, getCube, getNode}
 use Rattle.reader.specs.Parts.{FieldIs, setOf, CubeGot, added, Near, Added, CubesGot, CubesAre, NodesGot}
@@ -148,13 +149,6 @@ module _ (bits : List Bool) (v : ℕ) (s : State) where
 
 -- ---- nodes
 
-pub flat-two : {A : Type 0} (l m : List (List A)) → flat (l ++ m) ≡ flat l ++ flat m
-flat-two [] m = refl
-flat-two (x ∷ l) m = ap (x ++_) (flat-two l m) ∙ sym (append-assoc x (flat l) (flat m))
-
-flat-more : {A : Type 0} (l : List (List A)) (x : List A) → flat l ++ x ≡ flat (l ++ (x ∷ []))
-flat-more l x = sym (flat-two l (x ∷ []) ∙ ap (flat l ++_) (append-nil x))
-
 -- i of k nodes are read and put, their counts too
 pub record Counting (bits : List Bool) (v k i : ℕ) (start : State) (old new : List ℕ) (first : ℕ) (was are : List ℕ) (s : State) : Type 0 where
   pub read : List (List (List ℕ))
@@ -181,7 +175,7 @@ module _ {bits : List Bool} {v k i : ℕ} {start : State} {old new : List ℕ} {
   count-next more new' t c = record {
     read = h .read ++ (c .read ∷ []);
     going = going-next (getNode v) k (h .going) more (c .read) (drop (t .at) bits) (c .is);
-    put = subst (Added start t old new') (flat-more (h .read) (c .read)) (added-then (h .put) (c .put));
+    put = subst (Added start t old new') (sym (flat-last (h .read) (c .read))) (added-then (h .put) (c .put));
     counts =
         let a : first + i ≡ first + length (map length (h .read)) = omega (arith, length-map (h .read) length, h .going .number) in
         let b : t .cubes - s .cubes ≡ length (c .read) = omega (arith, c .put .cubes) in

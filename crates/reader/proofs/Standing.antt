@@ -1,5 +1,5 @@
 -- What stands in the words and counts once all nodes are read. Assumes nothing.
-use Prim.Native.Nat.{ℕ, zero, suc, _+_, _-_, _*_, _≤_}
+use Prim.Native.Nat.{ℕ, zero, suc, _+_, _-_, _≤_}
 use mathlib.Core.Path.{_≡_, refl, sym, ap, ap₂, _∙_}
 use mathlib.Core.Bool.{true}
 use mathlib.Core.List.{List, [], _∷_, _++_, map, append-assoc}
@@ -10,23 +10,15 @@ use Rattle.sets.specs.Lists.{all, total}
 use Rattle.sets.specs.Sets.{asc}
 use Rattle.sets.proofs.Lists.{total-append}
 use Rattle.sets.proofs.Truth.{both}
-use Rattle.sets.proofs.Literals.{literals-none}
-use Rattle.cube.specs.Cube.{width}
 use Rattle.expression.specs.Words.{cubesOf}
 use Rattle.expression.specs.Expression.{literalsOf}
+use Rattle.expression.proofs.Words.{zeros}
 use Rattle.network.specs.Handed.{flat}
 use Rattle.network.specs.Held.{cut, mostCubes}
-use Rattle.network.proofs.Handing.{cut-flat, flat-length}
+use Rattle.network.proofs.Handing.{cut-flat, flat-length, flat-append}
 use Rattle.reader.specs.Parts.{setOf, Added, blankWords, blankCounts}
 use Rattle.reader.specs.declared.State.{State}
 use Rattle.reader.proofs.Gathering.{set-asc}
-use Rattle.reader.proofs.Filling.{flat-two}
-
--- words of zeros are empty cubes
-zeros : (n : ℕ) → cubesOf (replicate (2 * n) 0) ≡ replicate n []
-unfolding cubesOf
-zeros zero = refl
-zeros (suc n) = let e : 2 * suc n ≡ suc (suc (2 * n)) = omega arith in rw e (ap₂ _∷_ (literals-none width) (zeros n))
 
 drop-blank : {A : Type 0} (k n : ℕ) (x : A) → drop k (replicate n x) ≡ replicate (n - k) x
 drop-blank zero n x = let e : n ≡ n - 0 = omega arith in ap (λ m. replicate m x) e
@@ -100,4 +92,4 @@ both-stand os ds words apart new few w a e =
     let n : (mostCubes - length (flat os)) - length (flat ds) ≡ mostCubes - total length (os ++ ds) = omega (arith, flat-length os, flat-length ds, total-append length os ds) in
     e ∙ ap₂ (λ p q. sets p (length (flat os)) q) w (ap (take (length (flat ds))) a ∙ take-at (flat ds) (replicate (mostCubes - length (flat ds)) []) (length (flat ds)) refl)
     ∙ more-stand (flat os) (flat ds) (mostCubes - length (flat os)) [] (omega arith)
-    ∙ ap₂ (λ p m. p ++ replicate m []) (sym (flat-two os ds)) n
+    ∙ ap₂ (λ p m. p ++ replicate m []) (sym (flat-append os ds)) n

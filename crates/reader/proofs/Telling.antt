@@ -18,8 +18,7 @@ use Rattle.expression.specs.Expression.{literalsOf}
 use Rattle.network.specs.Net.{Net, nodes, cubeCount}
 use Rattle.network.specs.Handed.{flat, Blank}
 use Rattle.network.specs.Held.{mostCubes, mostLiterals}
-use Rattle.network.specs.declared.Network.{Network}
-use Rattle.network.proofs.Handing.{flat-length, holds-one}
+use Rattle.network.proofs.Handing.{flat-length, holds-one, blank-one}
 use Rattle.fields.specs.Fields.{bitsIn}
 use Rattle.expression.proofs.Words.{fit}
 use Rattle.network.proofs.Numbering.{numbered-cubes, numbered-length}
@@ -300,15 +299,6 @@ pub told-one : (bytes : List ℕ) (a b : Image) → length (a .network .words) �
     → Told (readImage bytes) a → Told (readImage bytes) b → a ≡ b
 told-one bytes a b la lb fa fb = go (readImage bytes)
   where
-    blank-one : (n p : Network) → Blank n → Blank p → n ≡ p
-    blank-one n p h k = λ i. record {
-      inputs = (h .inputs ∙ sym (k .inputs)) i;
-      outputs = (h .outputs ∙ sym (k .outputs)) i;
-      divisors = (h .divisors ∙ sym (k .divisors)) i;
-      counts = (h .counts ∙ sym (k .counts)) i;
-      words = (h .words ∙ sym (k .words)) i;
-    }
-
     go : (o : Outcome) → Told o a → Told o b → a ≡ b
     go (accepted n) h k = λ i. record { answer = (h .0 ∙ sym (k .0)) i; network = holds-one (a .network) (b .network) n la lb fa fb (h .1) (k .1) i }
     go (refused e) h k = λ i. record { answer = (h .0 ∙ sym (k .0)) i; network = blank-one (a .network) (b .network) (h .1) (k .1) i }

@@ -490,13 +490,7 @@ fn refused(k: u32) -> Image
 {
     Image {
         answer: Answer::Refused(k),
-        network: Network {
-            inputs: 0,
-            outputs: 0,
-            divisors: 0,
-            counts: [0usize; 96],
-            words: [0u64; 2176],
-        },
+        network: network::blank(),
     }
 }
 

@@ -1,30 +1,18 @@
 -- A network built node by node: each expression after the others, its count beside theirs, all other slots zero. Assumes nothing.
-use Prim.Native.Nat.{ℕ, zero, suc, _+_, _-_, _*_, _<_, _≤_}
+use Prim.Native.Nat.{ℕ, zero, suc, _+_, _-_, _<_, _≤_}
 use mathlib.Core.Path.{_≡_, refl, sym, ap, ap₂, _∙_}
-use mathlib.Core.List.{List, [], _∷_, _++_, map, append-assoc, append-nil, map-append}
+use mathlib.Core.List.{List, [], _∷_, _++_, map, append-assoc, map-append}
 use native.Mathlib.Numerals.{add-one}
 use native.Mathlib.Omega.{arith}
 use lib.ListN.{length, take, drop, set, getD, replicate, length-map, length-replicate, replicate-append-replicate}
 use lib.Seq.{length-take-le, take-suc, take-all, set-at, take-at, drop-at}
 use Rattle.sets.specs.Lists.{total}
-use Rattle.sets.proofs.Literals.{literals-none}
-use Rattle.cube.specs.Cube.{width}
 use Rattle.expression.specs.Words.{cubesOf, Placed}
 use Rattle.expression.proofs.Counting.{total-next}
-use Rattle.expression.proofs.Words.{cubes-length}
+use Rattle.expression.proofs.Words.{cubes-length, zeros}
 use Rattle.network.specs.Handed.{flat}
-use Rattle.network.proofs.Handing.{flat-length}
+use Rattle.network.proofs.Handing.{flat-length, flat-last}
 use Rattle.renumber.proofs.Summing.{front-le}
-
-flat-append : {A : Type 0} (l m : List (List A)) → flat (l ++ m) ≡ flat l ++ flat m
-flat-append [] m = refl
-flat-append (x ∷ l) m = ap (x ++_) (flat-append l m) ∙ sym (append-assoc x (flat l) (flat m))
-
--- words of zeros are empty cubes
-zeros : (n : ℕ) → cubesOf (replicate (2 * n) 0) ≡ replicate n []
-unfolding cubesOf
-zeros zero = refl
-zeros (suc n) = let e : 2 * suc n ≡ suc (suc (2 * n)) = omega arith in rw e (ap₂ _∷_ (literals-none width) (zeros n))
 
 -- the first j of the nodes stand
 pub record Built (fs : List (List (List ℕ))) (counts ws : List ℕ) (a j : ℕ) : Type 0 where
@@ -53,7 +41,7 @@ module _ {fs : List (List (List ℕ))} {counts ws : List ℕ} {a j : ℕ} (b : B
       more = ap (λ i. take i fs) (add-one j) ∙ take-suc fs j [] h ∙ ap (λ (g : List (List ℕ)). done ++ (g ∷ [])) (sym e)
 
       flat-more : flat (take (j + 1) fs) ≡ flat done ++ f
-      flat-more = ap flat more ∙ flat-append done (f ∷ []) ∙ ap (flat done ++_) (append-nil f)
+      flat-more = ap flat more ∙ flat-last done f
 
       size : length (flat done) ≡ a
       size = flat-length done ∙ sym (b .number)

@@ -17,7 +17,7 @@ use Rattle.network.specs.declared.Network.{Network}
 use Rattle.network.specs.declared.Listed.{Listed}
 use Rattle.network.specs.declared.Judged.{Judged}
 use Rattle.network.specs.declared.Judged.the-variants.{Accepted, Refused}
-use Rattle.network.proofs.Handing.{holds-one}
+use Rattle.network.proofs.Handing.{holds-one, blank-one}
 use Rattle.imaging.specs.Renumber.{renumbered}
 use Rattle.renumber.specs.Answers.{toldBy, Told}
 use Rattle.renumber.specs.declared.Renumbered.{Renumbered}
@@ -60,15 +60,6 @@ module _ (n : Network) (h : rules n ≡ true) where
   told-held r a k = subst (λ b. toldBy b n r) (sym h) (a, k)
 
 -- ---- one answer
-
-blank-one : (n p : Network) → Blank n → Blank p → n ≡ p
-blank-one n p a b = λ i. record {
-  inputs = (a .inputs ∙ sym (b .inputs)) i;
-  outputs = (a .outputs ∙ sym (b .outputs)) i;
-  divisors = (a .divisors ∙ sym (b .divisors)) i;
-  counts = (a .counts ∙ sym (b .counts)) i;
-  words = (a .words ∙ sym (b .words)) i;
-}
 
 -- words that fit their type, as many as the struct has
 pub told-one : (n : Network) (r p : Renumbered) → length (r .network .words) ≡ 2176 → length (p .network .words) ≡ 2176 → fit (r .network .words) ≡ true → fit (p .network .words) ≡ true

@@ -189,13 +189,7 @@ fn refused(answer: Judged) -> Renumbered
 {
     Renumbered {
         answer,
-        network: Network {
-            inputs: 0,
-            outputs: 0,
-            divisors: 0,
-            counts: [0usize; 96],
-            words: [0u64; 2176],
-        },
+        network: network::blank(),
     }
 }
 

@@ -14,11 +14,11 @@ use Rattle.expression.specs.Expression.{ordered}
 use Rattle.expression.proofs.Words.{fit}
 use Rattle.network.specs.Net.{Net, nodes, variables, cubeCount}
 use Rattle.network.specs.Held.{used, netOf, sized, mostVariables, mostCubes}
-use Rattle.network.specs.Handed.{flat, cubeSlots, Holds, Blank}
+use Rattle.network.specs.Handed.{flat, cubeSlots, Holds}
 use Rattle.network.specs.Parts.{nodesOf, heldIn, netAt, Sized}
 use Rattle.network.specs.declared.Network.{Network}
 use Rattle.network.proofs.Holding.{nodes-held, outputs-held, divisors-held}
-use Rattle.network.proofs.Handing.{flat-length, holds-one}
+use Rattle.network.proofs.Handing.{flat-length, holds-one, blank-one}
 use Rattle.network.proofs.Limits.{sized-out}
 use Rattle.extraction.specs.Divisor.{own, rewrite}
 use Rattle.extraction.specs.Divisor as extraction
@@ -122,15 +122,6 @@ module _ (n : Network) (d : Divisor) where
   stepped-as r p h = subst (λ m. Stepped n d m r) (sym p) h
 
 -- ---- one answer
-
-blank-one : (n p : Network) → Blank n → Blank p → n ≡ p
-blank-one n p h k = λ i. record {
-  inputs = (h .inputs ∙ sym (k .inputs)) i;
-  outputs = (h .outputs ∙ sym (k .outputs)) i;
-  divisors = (h .divisors ∙ sym (k .divisors)) i;
-  counts = (h .counts ∙ sym (k .counts)) i;
-  words = (h .words ∙ sym (k .words)) i;
-}
 
 -- two answers to one step are the same, where their words are words
 module _ (n : Network) (d : Divisor) (r t : Next)

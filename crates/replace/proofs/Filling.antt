@@ -1,23 +1,17 @@
 -- Words filled from the front with cubes, and with nodes one after the other. Assumes nothing.
-use Prim.Native.Nat.{ℕ, zero, suc, _+_, _-_, _*_, _<_}
+use Prim.Native.Nat.{ℕ, suc, _+_, _-_, _<_}
 use mathlib.Core.Path.{_≡_, refl, sym, ap, ap₂, _∙_, subst}
 use mathlib.Core.List.{List, [], _∷_, _++_, map, map-append, append-assoc, append-nil}
 use native.Mathlib.Omega.{arith}
 use lib.ListN.{length, take, drop, set, replicate, length-append, length-map}
 use lib.Seq.{append-snoc, set-at, take-at, drop-at}
-use Rattle.sets.proofs.Literals.{literals-none}
-use Rattle.cube.specs.Cube.{width}
 use Rattle.expression.specs.Words.{cubesOf, Put, Placed}
 use Rattle.expression.specs.Expression.{sort}
 use Rattle.expression.proofs.Sorting.{sort-length}
+use Rattle.expression.proofs.Words.{zeros}
 use Rattle.network.specs.Handed.{flat, nodeSlots, cubeSlots}
+use Rattle.network.proofs.Handing.{flat-last}
 use Rattle.replace.specs.Parts.{Front, Adds, Laid}
-
--- words of zeros are empty cubes
-zeros : (n : ℕ) → cubesOf (replicate (2 * n) 0) ≡ replicate n []
-unfolding cubesOf
-zeros zero = refl
-zeros (suc n) = let e : 2 * suc n ≡ suc (suc (2 * n)) = omega arith in rw e (ap₂ _∷_ (literals-none width) (zeros n))
 
 -- ---- cubes
 
@@ -78,17 +72,13 @@ adds-sort {old} {mid} {new} {a} {t} {h} w p = record { number = w .number ∙ ap
 
 -- ---- nodes
 
-flat-snoc : (fs : List (List (List ℕ))) (h : List (List ℕ)) → flat (fs ++ (h ∷ [])) ≡ flat fs ++ h
-flat-snoc [] h = append-nil h
-flat-snoc (f ∷ fs) h = ap (f ++_) (flat-snoc fs h) ∙ sym (append-assoc f (flat fs) h)
-
 pub laid-none : Laid (replicate 2176 0) (replicate 96 0) 0 []
 laid-none = record { front = record { number = refl; few = omega arith; cubes = zeros 1088 }; counted = refl }
 
 -- one node more
 module _ {ws new sizes : List ℕ} {t u i : ℕ} {fs : List (List (List ℕ))} {h : List (List ℕ)} where
   pub laid-next : Laid ws sizes t fs → length fs ≡ i → i < nodeSlots → Adds ws new t u h → Laid new (set sizes i (u - t)) u (fs ++ (h ∷ []))
-  laid-next l e k w = record { front = rw (flat-snoc fs h) (w .front (flat fs) (l .front)); counted = counted }
+  laid-next l e k w = record { front = rw (flat-last fs h) (w .front (flat fs) (l .front)); counted = counted }
     where
       rest : List ℕ
       rest = replicate (nodeSlots - (length fs + 1)) 0

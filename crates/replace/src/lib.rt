@@ -3,7 +3,6 @@ use choice::Divisor;
 use cube::Cube;
 use cube::Literal;
 use cube::Variable;
-use expression::Place;
 use network::Network;
 ghost use mathlib.Core.Path.{_≡_};
 ghost use mathlib.Core.Bool.{true};
@@ -15,7 +14,7 @@ ghost use Rattle.expression.specs.Words.{cubesOf};
 ghost use Rattle.expression.specs.Expression.{ordered};
 ghost use Rattle.network.specs.Handed.{Blank};
 ghost use Rattle.network.specs.Parts.{nodesOf, heldIn, netAt};
-ghost use Rattle.extraction.specs.Divisor.{own, useOf, part, hit, gone, rewrite};
+ghost use Rattle.extraction.specs.Divisor.{own, part, hit, gone, rewrite};
 ghost use Rattle.extraction.specs.Run.{room};
 ghost use Rattle.choice.specs.Choice.{divisorOf};
 ghost use Rattle.replace.specs.Replace.{placed, Stepped, outcome};
@@ -48,25 +47,6 @@ enum Fate {
     Goes,
 }
 
-// Whether c is a base with the part a, and the base with b is one of the cubes too, which stand in cube order.
-fn is_use(f: &[u64], a: Cube, b: Cube, c: Cube) -> bool
-    requires { ⌜ ordered (cubesOf (now f)) ≡ true ⌝ }
-    ensures { λ r. ⌜ r ≡ useOf (lits a) (lits b) (cubesOf (now (f .entry))) (lits c) ⌝ }
-{
-    if !cubes::contains(c, a) {
-        return false;
-    }
-    let base = cubes::without(c, a);
-    if !cubes::is_empty(cubes::common(base, b)) {
-        return false;
-    }
-    let p = expression::find(f, cubes::union(base, b));
-    match p {
-        Place::At(_) => true,
-        Place::Nothing => false,
-    }
-}
-
 // Whether c has both literals.
 fn has_pair(p: Literal, q: Literal, c: Cube) -> bool
     ensures { λ r. ⌜ r ≡ hit (divisorOf (Divisor.Pair p q)) [] (lits c) ⌝ }
@@ -84,7 +64,7 @@ fn is_hit(f: &[u64], d: Divisor, c: Cube) -> bool
 {
     match d {
         Divisor::Pair(p, q) => has_pair(p, q, c),
-        Divisor::Sum(a, b) => is_use(f, a, b, c),
+        Divisor::Sum(a, b) => choice::is_use(f, c, a, b),
     }
 }
 
@@ -96,10 +76,10 @@ fn is_gone(f: &[u64], d: Divisor, c: Cube) -> bool
     match d {
         Divisor::Pair(p, q) => has_pair(p, q, c),
         Divisor::Sum(a, b) => {
-            if is_use(f, a, b, c) {
+            if choice::is_use(f, c, a, b) {
                 return true;
             }
-            is_use(f, b, a, c)
+            choice::is_use(f, c, b, a)
         }
     }
 }
@@ -218,13 +198,7 @@ fn refused(outcome: Outcome) -> Next
 {
     Next {
         outcome,
-        network: Network {
-            inputs: 0,
-            outputs: 0,
-            divisors: 0,
-            counts: [0usize; 96],
-            words: [0u64; 2176],
-        },
+        network: network::blank(),
     }
 }
 

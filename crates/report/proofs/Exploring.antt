@@ -5,7 +5,7 @@ use mathlib.Core.Bool.{true}
 use mathlib.Core.List.{List, [], map, append-nil, List·Memᴰ·not-nil}
 use mathlib.Core.Option.{Option, some}
 use native.Mathlib.Omega.{arith}
-use lib.ListN.{length, take, replicate, length-append, length-map, length-replicate}
+use lib.ListN.{length, take}
 use Rattle.sets.proofs.Lists.{_∈_}
 use Rattle.network.specs.Net.{Node, Net, nodes, variables, literalCount}
 use Rattle.network.specs.Meaning.{Through, itself, others}
@@ -14,11 +14,11 @@ use Rattle.network.specs.Answers.{counted}
 use Rattle.network.specs.declared.Network.{Network}
 use Rattle.network.specs.declared.Number.the-variants.{Is}
 use Rattle.network.proofs.Handing.{holds-net}
-use Rattle.network.proofs.Holding.{rules-outputs, rules-divisors, rules-iff}
+use Rattle.network.proofs.Holding.{rules-divisors}
 use Rattle.extraction.specs.Run.{Made, Result, run}
 use Rattle.extraction.specs.Meaning.{Good, Within}
 use Rattle.extraction.proofs.Running.{run-few}
-use Rattle.extraction.proofs.Keeping.{run-outputs, run-good, run-within}
+use Rattle.extraction.proofs.Keeping.{run-good}
 use Rattle.extraction.proofs.Following.{rules-good, rules-within, run-rules}
 use Rattle.choice.specs.Choice.{madeOf}
 use Rattle.extract.specs.Answers as extract
@@ -93,7 +93,7 @@ steps-are s l h = ap (λ k. map madeOf (take k (s .list))) (h .number) ∙ h .st
 
 module _ (n : Network) (slots : length (n .counts) ≡ 96) (words : length (n .words) ≡ 2176) (h : rules n ≡ true) where
   good : Good (netOf n)
-  good = rules-good n slots h
+  good = rules-good n slots words h
 
   within : Within (netOf n)
   within = rules-within n slots words h
@@ -115,28 +115,9 @@ module _ (n : Network) (slots : length (n .counts) ≡ 96) (words : length (n .w
     pub never-refused : (k : ℕ) → r .answer ≡ Refused k → ⊥
     never-refused k e = let q = told .0 .1 in let z : _≡_ {A = ℕ} 0 1 = cc in omega arith
 
-    -- what the run leaves has places for its nodes
-    places : length (nodes (result .network)) ≤ 96
-    places =
-        omega (
-          arith,
-          length-append (result .network .outputs) (map (λ (e : Node). e .cubes) (result .network .divisors)),
-          length-map (result .network .divisors) (λ (e : Node). e .cubes),
-          run-outputs 64 (netOf n),
-          rules-outputs n slots h,
-          (rules-iff n slots .0 h) .outputs,
-          run-within 64 (netOf n) good within .variables,
-        )
-
-    room : length (r .network .counts) ≡ 96
-    room =
-        ap length (told .1 .counts)
-        ∙ length-append (map length (nodes (result .network))) (replicate (96 - length (nodes (result .network))) 0)
-        ∙ omega (arith, length-map (nodes (result .network)) length, length-replicate {A = ℕ} (96 - length (nodes (result .network))) 0, places)
-
     pub counted-after : counted (r .network) ≡ Is (literalCount (result .network))
     counted-after =
-        counted-rules (r .network) (run-rules n (r .network) slots words room 64 h (told .1))
+        counted-rules (r .network) (run-rules n (r .network) slots words 64 h (told .1))
         ∙ ap (λ (m : Net). Is (literalCount m)) (holds-net (r .network) (result .network) (told .1) (run-good 64 (netOf n) good .inTurn))
 
     -- what is found is what the definitions say

@@ -200,3 +200,7 @@ module _ {A B : Type 0} where
 pub map-map : {A B C : Type 0} (f : B → C) (g : A → B) (l : List A) → map f (map g l) ≡ map (λ x. f (g x)) l
 map-map f g [] = refl
 map-map f g (x ∷ l) = ap (f (g x) ∷_) (map-map f g l)
+
+pub map-fixed : {A : Type 0} (h : A → A) (l : List A) → ((x : A) → x ∈ l → h x ≡ x) → map h l ≡ l
+map-fixed h [] k = refl
+map-fixed h (x ∷ l) k = ap₂ _∷_ (k x (here refl)) (map-fixed h l (λ y m. k y (there m)))

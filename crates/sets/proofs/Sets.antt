@@ -265,6 +265,12 @@ meet-left a b = sub-in (meet a b) a (λ z m. (both (mem z a) (mem z b) (sym (mee
 pub meet-right : (a b : List ℕ) → sub (meet a b) b ≡ true
 meet-right a b = sub-in (meet a b) b (λ z m. (both (mem z a) (mem z b) (sym (meet-mem z a b) ∙ m)) .1)
 
+-- nothing is in both exactly where the two are apart
+pub meet-none : (a b : List ℕ) → isNil (meet a b) ≡ apart a b
+unfolding meet apart
+meet-none [] b = refl
+meet-none (x ∷ a) b = elim (decided (mem x b)) [ inl h ↦ rw h | inr h ↦ rw h (meet-none a b) ]
+
 -- the largest that is in both
 pub meet-most : (a b c : List ℕ) → sub c a ≡ true → sub c b ≡ true → sub c (meet a b) ≡ true
 meet-most a b c p q = sub-in c (meet a b) (λ z m. meet-mem z a b ∙ together _ _ (sub-out c a z p m) (sub-out c b z q m))

@@ -2,7 +2,7 @@
 use Prim.Native.Nat.{ℕ, _+_, _-_, _<_, _≤_}
 use mathlib.Core.Path.{_≡_, refl, sym, ap, ap₂, _∙_}
 use mathlib.Core.Bool.{Bool, true, false, cond}
-use mathlib.Core.List.{List, [], _∷_, _++_, map, append-nil}
+use mathlib.Core.List.{List, [], _∷_, _++_, map, map-append, append-nil}
 use mathlib.Core.Option.{Option, none, some}
 use native.Mathlib.Numerals.{add-one}
 use native.Mathlib.Omega.{arith}
@@ -24,7 +24,6 @@ use Rattle.table.specs.Table as table
 use Rattle.table.specs.Meaning.{Good}
 use Rattle.table.specs.Parts.{marked, Stands, withLine}
 use Rattle.table.specs.declared.State.{State}
-use Rattle.table.proofs.Building.{map-append}
 use Rattle.table.proofs.Standing.{wide-none, tall-none, wide-some, tall-some, wide-most, tall-most}
 
 keep-append : {A : Type 0} (p : A → Bool) (l m : List A) → keep p (l ++ m) ≡ keep p l ++ keep p m

@@ -1,19 +1,17 @@
 -- A network built output by output: each expression after the others, its count beside theirs, all other slots zero. Assumes nothing.
-use Prim.Native.Nat.{ℕ, zero, suc, _+_, _-_, _*_, _<_, _≤_}
+use Prim.Native.Nat.{ℕ, zero, suc, _+_, _-_, _<_, _≤_}
 use mathlib.Core.Path.{_≡_, refl, sym, ap, ap₂, _∙_, subst}
-use mathlib.Core.List.{List, [], _∷_, _++_, map, append-assoc, append-nil}
+use mathlib.Core.List.{List, [], _∷_, _++_, map, map-append, append-assoc, append-nil}
 use native.Mathlib.Numerals.{add-one}
 use native.Mathlib.Omega.{arith}
 use lib.ListN.{length, take, drop, set, replicate, length-append, length-map, length-replicate}
 use lib.Seq.{set-at, take-at, drop-at}
 use Rattle.sets.specs.Lists.{total, from}
 use Rattle.sets.proofs.Lists.{total-append}
-use Rattle.sets.proofs.Literals.{literals-none}
-use Rattle.cube.specs.Cube.{width}
 use Rattle.expression.specs.Words.{cubesOf}
-use Rattle.expression.proofs.Words.{cubes-length}
+use Rattle.expression.proofs.Words.{cubes-length, zeros}
 use Rattle.network.specs.Handed.{flat, Holds}
-use Rattle.network.proofs.Handing.{flat-length}
+use Rattle.network.proofs.Handing.{flat-length, flat-last}
 use Rattle.table.specs.Parts.{Vacant, Filled}
 
 -- ---- numbers in a row, and lists one after the other
@@ -31,16 +29,8 @@ unfolding from
 from-length k zero = refl
 from-length k (suc m) = ap suc (from-length (suc k) m)
 
-pub map-append : {A B : Type 0} (f : A → B) (l m : List A) → map f (l ++ m) ≡ map f l ++ map f m
-map-append f [] m = refl
-map-append f (x ∷ l) m = ap (f x ∷_) (map-append f l m)
-
 pub map-next : {A : Type 0} (f : ℕ → A) (m : ℕ) → map f (from 0 (m + 1)) ≡ map f (from 0 m) ++ (f m ∷ [])
 map-next f m = ap (map f) (from-next m) ∙ map-append f (from 0 m) (m ∷ [])
-
-flat-append : {A : Type 0} (l m : List (List A)) → flat (l ++ m) ≡ flat l ++ flat m
-flat-append [] m = refl
-flat-append (x ∷ l) m = ap (x ++_) (flat-append l m) ∙ sym (append-assoc x (flat l) (flat m))
 
 pub total-next : (g : ℕ → ℕ) (m : ℕ) → total g (from 0 (m + 1)) ≡ total g (from 0 m) + g m
 total-next g m = ap (total g) (from-next m) ∙ total-append g (from 0 m) (m ∷ []) ∙ omega arith
@@ -57,12 +47,6 @@ pub total-front : (g : ℕ → ℕ) (j m : ℕ) → j < m → total g (from 0 j)
 total-front g j m h =
     let e : (j + 1) + (m - (j + 1)) ≡ m = omega arith in
     omega (arith, total-next g j, subst (λ (z : ℕ). total g (from 0 (j + 1)) ≤ total g (from 0 z)) e (total-more g (j + 1) (m - (j + 1))))
-
--- words of zeros are empty cubes
-zeros : (n : ℕ) → cubesOf (replicate (2 * n) 0) ≡ replicate n []
-unfolding cubesOf
-zeros zero = refl
-zeros (suc n) = let e : 2 * suc n ≡ suc (suc (2 * n)) = omega arith in rw e (ap₂ _∷_ (literals-none width) (zeros n))
 
 -- ---- the outputs so far
 
@@ -93,7 +77,7 @@ module _ (f : ℕ → List (List ℕ)) (g : ℕ → ℕ) where
 
     module _ {new : List ℕ} {k : ℕ} (h : j < 96) (s : length (f j) ≤ g j) (w : length new ≡ 2176) (p : Filled (f j) ws new a k) where
       flat-next : flat (done (j + 1)) ≡ flat (done j) ++ f j
-      flat-next = ap flat (map-next f j) ∙ flat-append (done j) (f j ∷ []) ∙ ap (flat (done j) ++_) (append-nil (f j))
+      flat-next = ap flat (map-next f j) ∙ flat-last (done j) (f j)
 
       pub built-next : Built (set counts j k) new (a + k) (j + 1)
       built-next = record {

@@ -1,24 +1,12 @@
 -- No two answers to one text differ: what the contract of reading says leaves one. Assumes nothing.
-use Prim.Native.Nat.{ℕ}
 use mathlib.Core.Path.{_≡_, sym, _∙_}
 use mathlib.Core.Bool.{true}
 use lib.ListN.{length}
 use Rattle.expression.proofs.Words.{fit}
-use Rattle.network.specs.Handed.{Holds, Blank}
-use Rattle.network.specs.declared.Network.{Network}
-use Rattle.network.proofs.Handing.{holds-one}
+use Rattle.network.proofs.Handing.{holds-one, blank-one}
 use Rattle.table.specs.Table.{Outcome, accepted, refused, tableNet}
 use Rattle.table.specs.Answers.{Told}
 use Rattle.table.specs.declared.Table.{Table}
-
-blank-one : (n p : Network) → Blank n → Blank p → n ≡ p
-blank-one n p a b = λ i. record {
-  inputs = (a .inputs ∙ sym (b .inputs)) i;
-  outputs = (a .outputs ∙ sym (b .outputs)) i;
-  divisors = (a .divisors ∙ sym (b .divisors)) i;
-  counts = (a .counts ∙ sym (b .counts)) i;
-  words = (a .words ∙ sym (b .words)) i;
-}
 
 -- words that fit their type, as many as the struct has
 pub told-one : (o : Outcome) (r p : Table) → length (r .network .words) ≡ 2176 → length (p .network .words) ≡ 2176 → fit (r .network .words) ≡ true → fit (p .network .words) ≡ true

@@ -1,15 +1,13 @@
 -- Nodes put in cube order one after the other, and a front part of a list with zeros after it. Assumes nothing.
-use Prim.Native.Nat.{ℕ, zero, suc, _+_, _-_, _*_, _<_, _≤_}
+use Prim.Native.Nat.{ℕ, suc, _+_, _-_, _<_, _≤_}
 use mathlib.Core.Path.{_≡_, refl, sym, ap, ap₂, _∙_}
-use mathlib.Core.List.{List, [], _∷_, _++_, map, map-append, append-assoc, append-nil}
+use mathlib.Core.List.{List, [], _∷_, _++_, map, map-append, append-assoc}
 use native.Mathlib.Numerals.{add-one}
 use native.Mathlib.Omega.{arith}
 use lib.ListN.{length, getD, take, drop, set, replicate, length-drop}
 use lib.Seq.{take-suc, take-at, drop-at, set-at, append-snoc, length-take-le, drop-drop, take-add}
 use Rattle.sets.specs.Lists.{total}
 use Rattle.sets.proofs.Lists.{total-map, total-const, total-append}
-use Rattle.sets.proofs.Literals.{literals-none}
-use Rattle.cube.specs.Cube.{width}
 use Rattle.expression.specs.Words.{cubesOf, Placed}
 use Rattle.expression.specs.Expression.{sort}
 use Rattle.expression.proofs.Sorting.{sort-length}
@@ -17,7 +15,7 @@ use Rattle.network.specs.Held.{cut}
 use Rattle.network.specs.Handed.{flat}
 use Rattle.network.specs.Parts.{nodesOf}
 use Rattle.network.proofs.Holding.{cut-length, cut-node, cut-lengths}
-use Rattle.network.proofs.Handing.{flat-length}
+use Rattle.network.proofs.Handing.{flat-length, flat-last}
 use Rattle.network.proofs.Parts.{cut-take, start-next}
 use Rattle.tidy.specs.Parts.{Sorts}
 
@@ -33,17 +31,7 @@ module _ {A : Type 0} (n : ℕ) (z : A) (l : List A) where
       ∙ sym (append-snoc (take i l) (getD l i z) (replicate (n - (i + 1)) z))
       ∙ ap (_++ replicate (n - (i + 1)) z) (sym (ap (λ (x : ℕ). take x l) (add-one i) ∙ take-suc l i z h))
 
--- words of zeros are empty cubes
-pub zeros : (n : ℕ) → cubesOf (replicate (2 * n) 0) ≡ replicate n []
-unfolding cubesOf
-zeros zero = refl
-zeros (suc n) = let e : 2 * suc n ≡ suc (suc (2 * n)) = omega arith in rw e (ap₂ _∷_ (literals-none width) (zeros n))
-
 -- ---- nodes in cube order
-
-pub flat-last : {A : Type 0} (l : List (List A)) (x : List A) → flat (l ++ (x ∷ [])) ≡ flat l ++ x
-flat-last [] x = append-nil x
-flat-last (y ∷ l) x = ap (y ++_) (flat-last l x) ∙ sym (append-assoc y (flat l) x)
 
 module _ (counts words : List ℕ) where
   abbrev sorted : ℕ → List (List (List ℕ))

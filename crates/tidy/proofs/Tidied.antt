@@ -10,7 +10,7 @@ use Rattle.sets.specs.Lists.{total}
 use Rattle.expression.specs.Words.{cubesOf}
 use Rattle.expression.specs.Expression.{sort}
 use Rattle.expression.proofs.Sorting.{sort-length}
-use Rattle.expression.proofs.Words.{fit, cubes-length, cubes-take, cubes-append, spare-take}
+use Rattle.expression.proofs.Words.{fit, cubes-length, cubes-take, cubes-append, spare-take, zeros}
 use Rattle.network.specs.Net.{nodes, cubeCount}
 use Rattle.network.specs.Held.{cut, used, netOf, rules}
 use Rattle.network.specs.Handed.{flat, Holds, Blank}
@@ -20,13 +20,13 @@ use Rattle.network.specs.declared.Network.{Network}
 use Rattle.network.specs.declared.Judged.{Judged}
 use Rattle.network.specs.declared.Judged.the-variants.{Accepted, Refused}
 use Rattle.network.proofs.Holding.{cut-length, nodes-held, rules-outputs, rules-divisors, rules-iff}
-use Rattle.network.proofs.Handing.{flat-length, holds-one}
+use Rattle.network.proofs.Handing.{flat-length, holds-one, blank-one}
 use Rattle.extraction.specs.Run.{inOrder}
 use Rattle.extraction.proofs.Arranging.{in-order-nodes, in-order-inputs, in-order-outputs, in-order-divisors}
 use Rattle.tidy.specs.Tidy.{tidied, Tidied}
 use Rattle.tidy.specs.Parts.{Sorts}
 use Rattle.tidy.specs.declared.Tidy.{Tidy}
-use Rattle.tidy.proofs.Sorted.{zeros, sorted-length}
+use Rattle.tidy.proofs.Sorted.{sorted-length}
 
 -- nodes in another order of cubes have the counts that they were cut by
 sorted-counts : (ns : List ℕ) (f : List (List ℕ)) → total (λ c. c) ns ≤ length f → map length (map sort (cut ns f)) ≡ ns
@@ -127,15 +127,6 @@ module _ (n : Network) (r : Tidy) where
 pub record Shaped (n : Network) : Type 0 where
   pub places : length (n .words) ≡ 2176
   pub fits : fit (n .words) ≡ true
-
-pub blank-one : (n p : Network) → Blank n → Blank p → n ≡ p
-blank-one n p h k = λ i. record {
-  inputs = (h .inputs ∙ sym (k .inputs)) i;
-  outputs = (h .outputs ∙ sym (k .outputs)) i;
-  divisors = (h .divisors ∙ sym (k .divisors)) i;
-  counts = (h .counts ∙ sym (k .counts)) i;
-  words = (h .words ∙ sym (k .words)) i;
-}
 
 -- two answers for one network are the same
 pub tidied-one : (n : Network) (r s : Tidy) → Shaped (r .network) → Shaped (s .network) → Tidied n r → Tidied n s → r ≡ s

@@ -9,7 +9,6 @@ ghost use lib.ListN.{length, take, replicate};
 ghost use Rattle.expression.specs.Words.{cubesOf};
 ghost use Rattle.expression.specs.Expression.{ordered};
 ghost use Rattle.network.specs.Held.{upTo};
-ghost use Rattle.network.specs.Handed.{Blank};
 ghost use Rattle.tidy.specs.Tidy.{arranged, Tidied};
 ghost use Rattle.tidy.specs.Parts.{arrangedIn, Sortable, Sorts};
 
@@ -136,19 +135,6 @@ fn front_counts(counts: &[usize], n: usize) -> [usize; 96]
     out
 }
 
-// The network of zeros.
-fn blank() -> Network
-    ensures { λ r. ⌜ Blank r ⌝ }
-{
-    Network {
-        inputs: 0,
-        outputs: 0,
-        divisors: 0,
-        counts: [0usize; 96],
-        words: [0u64; 2176],
-    }
-}
-
 // The network with the cubes of every node in cube order: 10 where it breaks a rule.
 pub fn in_order(n: Network) -> Tidy
     ensures { λ r. ⌜ Tidied n r ⌝ }
@@ -157,7 +143,7 @@ pub fn in_order(n: Network) -> Tidy
     let Judged::Accepted = answer else {
         return Tidy {
             answer,
-            network: blank(),
+            network: network::blank(),
         };
     };
     let mut words = n.words;

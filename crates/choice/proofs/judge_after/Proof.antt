@@ -1,7 +1,7 @@
 -- `choice::judge_after` meets its contract. Assumes nothing.
 use mathlib.Core.Path.{sym, _∙_, ap}
 use Rattle.sets.specs.Lists.{isNil}
-use Rattle.choice.proofs.Ties.{meet-apart}
+use Rattle.sets.proofs.Sets.{meet-none}
 use Rattle.choice.proofs.Sums.{lone-judged}
 use borrow.Author.Needs.{needs}
 use Rattle.choice.proofs.judge_after.Statement.{statement}
@@ -17,7 +17,7 @@ returns : tie.Need-returns
 returns c =
     let s = c .before .before .before .before .before .before .before in
     lone-judged _ _ _ _ (s .args .held) (s .pre .3 (c .before .before .before .if1 .taken)) (s .pre .2)
-    (sym (meet-apart _ _) ∙ ap isNil (sym (c .before .before .common .ensures)) ∙ sym (c .before .is-empty .ensures) ∙ c .if2 .taken)
+    (sym (meet-none _ _) ∙ ap isNil (sym (c .before .before .common .ensures)) ∙ sym (c .before .is-empty .ensures) ∙ c .if2 .taken)
 
 judge-two-requires : tie.Need-judge-two-requires
 judge-two-requires c κs = search needs

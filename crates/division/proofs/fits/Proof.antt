@@ -4,10 +4,10 @@ use borrow.Author.Tests.{not-true, not-false}
 use borrow.Author.Needs.{needs}
 use Rattle.sets.specs.Lists.{isNil}
 use Rattle.sets.specs.Sets.{apart}
+use Rattle.sets.proofs.Sets.{meet-none}
 use Rattle.cube.specs.Cube.{lits}
 use Rattle.expression.specs.Words.{cubesOf}
 use Rattle.expression.specs.Expression.{has}
-use Rattle.division.proofs.Making.{meet-none}
 use Rattle.division.proofs.fits.Statement.{statement}
 use Rattle.division.proofs.fits.Tie as tie
 

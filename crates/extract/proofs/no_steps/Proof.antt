@@ -6,11 +6,11 @@ use borrow.Author.Needs.{needs}
 use Rattle.extract.proofs.no_steps.Statement.{statement}
 use Rattle.extract.proofs.no_steps.Tie as tie
 
-nothing-requires : tie.Need-nothing-requires
-nothing-requires c κs = search needs
+no-step-requires : tie.Need-no-step-requires
+no-step-requires c κs = search needs
 
 returns : tie.Need-returns
-returns c = ap (replicate mostVariables) (c .nothing .ensures)
+returns c = ap (replicate mostVariables) (c .no-step .ensures)
 
 pub no-steps-spec : {M : Type 1} → statement M
-no-steps-spec = tie.close (tie.spec nothing-requires returns)
+no-steps-spec = tie.close (tie.spec no-step-requires returns)

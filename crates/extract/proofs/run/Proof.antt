@@ -18,10 +18,6 @@ slots s = search needs
 kept : (c : tie.After-enum-told) → let i = c .before .before .before in let n = i .before .args .n in (rules n ≡ true) × Holds (i .in-order .result .network) (inOrder (netOf n))
 kept c = let i = c .before .before .before in tidied-accepted (i .before .args .n) (i .in-order .result) (i .in-order .ensures) (c .enum-told .given .1)
 
--- the network in cube order has the slots of its type
-held : (c : tie.After-in-order) → length (c .in-order .result .network .counts) ≡ 96
-held c = search needs
-
 in-order-requires : tie.Need-in-order-requires
 in-order-requires c κs = search needs
 
@@ -46,14 +42,14 @@ follow-requires : tie.Need-follow-requires
 follow-requires c κs =
     let i = c .before .before .before in
     let s = i .before in
-    start-ready (s .args .n) (i .in-order .result .network) (slots s .0) (slots s .1) (held i) (kept c .0) (kept c .1)
+    start-ready (s .args .n) (i .in-order .result .network) (slots s .0) (slots s .1) (kept c .0) (kept c .1)
 
 returns-2 : tie.Need-returns-2
 returns-2 c =
     let m = c .before in
     let i = m .before .before .before in
     let s = i .before in
-    start-told (s .args .n) (i .in-order .result .network) (slots s .0) (slots s .1) (held i) (kept m .0) (kept m .1) (s .args .steps) (c .follow .result) (c .follow .ensures)
+    start-told (s .args .n) (i .in-order .result .network) (slots s .0) (slots s .1) (kept m .0) (kept m .1) (s .args .steps) (c .follow .result) (c .follow .ensures)
 
 pub run-spec : {M : Type 1} → statement M
 run-spec =

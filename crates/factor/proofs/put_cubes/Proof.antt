@@ -11,8 +11,9 @@ use Rattle.expression.proofs.Words.{cubes-length}
 use Rattle.letters.specs.Letters.{cubeText}
 use Rattle.factor.specs.Text.{sumText}
 use Rattle.factor.specs.Parts.{part}
+use Rattle.letters.proofs.Texts.{marked-nil, marked-cons}
 use Rattle.letters.proofs.Laying.{Due, due-all, due-as, due-next, due-done, due-last, due-trans, due-countable, due-rest}
-use Rattle.factor.proofs.Texts.{plussed, plussed-nil, plussed-cons, sum-first, sum-none}
+use Rattle.factor.proofs.Texts.{plussed, sum-first, sum-none}
 use Rattle.factor.proofs.Parting.{slice-next, slice-none}
 use Rattle.factor.proofs.put_cubes.Statement.{statement}
 use Rattle.factor.proofs.put_cubes.Tie as tie
@@ -82,7 +83,7 @@ Left c o at t = Due (c .before .before .before .before .put-product .last .0) (c
 plus-due : (c : tie.In-loop Inv-loop μ-loop) → Left c (c .before .loop .o) (c .before .loop .p) (43 ∷ (cubeText (getD (cubesOf (c .before .before .before .before .before .before .before .before .before .before .args .w .now)) (c .before .loop .i) []) ++ others (c .before .before .before .before .before .before .before .before .before .before) (c .before .loop .i + 1)))
 plus-due c =
     let h = c .before in
-    due-as (h .loop .inv .1) (ap plussed (next (c .before .before .before .before .before .before .before .before .before .before) (h .loop .i) (c .loop-test .taken)) ∙ plussed-cons _ _)
+    due-as (h .loop .inv .1) (ap plussed (next (c .before .before .before .before .before .before .before .before .before .before) (h .loop .i) (c .loop-test .taken)) ∙ marked-cons cubeText 43 _ _)
 
 put-requires-2 : tie.Need-put-requires-2 Inv-loop μ-loop
 put-requires-2 c κs = due-countable (_ ∷ []) _ (due-trans (begun (c .before .before .before .before .before)) (plus-due (c .before))) (c .before .before .before .before .before .before .before .before .before .before .before .pre .1)
@@ -117,7 +118,7 @@ returns-2 c =
     let h = c .before in
     let s = c .before .before .before .before .before .before .before .before .before .before .args in
     let done = slice-none (cubesOf (s .w .now)) (h .loop .i) (s .e) (omega (arith, h .loop .inv .0, c .loop-test .left)) in
-    due-done (due-as (due-trans (begun (c .before .before .before .before)) (h .loop .inv .1)) (ap plussed done ∙ plussed-nil))
+    due-done (due-as (due-trans (begun (c .before .before .before .before)) (h .loop .inv .1)) (ap plussed done ∙ marked-nil cubeText 43))
 
 pub put-cubes-spec : {M : Type 1} → statement M
 put-cubes-spec =

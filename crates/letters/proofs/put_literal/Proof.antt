@@ -1,5 +1,7 @@
 -- `letters::put_literal` meets its contract: `x`, the variable's number, and `'` where it is negated. Assumes nothing.
-use Prim.Native.Nat.{ℕ, _/_}
+use Prim.Native.Nat.{ℕ}
+use mathlib.Core.Path.{_≡_, sym, ap, _∙_}
+use mathlib.Core.Bool.{true}
 use mathlib.Core.List.{List, [], _∷_, _++_}
 use borrow.Author.Needs.{needs}
 use Rattle.letters.specs.Letters.{decimal, literalText}
@@ -17,45 +19,72 @@ put-requires c κs =
     let s = c .before .before in
     due-countable (120 ∷ []) _ (due-all (s .args .o .now) (s .args .at) (literal-start (s .args .l .0))) (s .pre)
 
--- after `x` the number and the mark are due
-number : (c : tie.After-put) → Owed (c .before .before .before) (c .put .last .0) (c .put .result) (decimal (c .before .before .before .args .l .0 / 2) ++ mark (c .before .before .before .args .l .0))
-number c = due-next (due-all _ _ (literal-start (c .before .before .before .args .l .0))) (c .put .ensures)
+variable-of-requires : tie.Need-variable-of-requires
+variable-of-requires c κs = search needs
+
+module _ (c : tie.After-variable-of) where
+  abbrev put : tie.After-put
+  put = c .before .before .before
+
+  abbrev start : tie.Start
+  start = put .before .before .before
+
+  -- after `x` the variable's number and the mark are due
+  number : Owed start (put .put .last .0) (put .put .result) (decimal (c .variable-of .result .0) ++ mark (start .args .l .0))
+  number =
+      let l = start .args .l .0 in
+      due-next (due-all _ _ (literal-start l ∙ ap (λ v. 120 ∷ (decimal v ++ mark l)) (sym (c .variable-of .ensures)))) (put .put .ensures)
 
 cast-put-number : tie.Need-cast-put-number
 cast-put-number c = search needs
 
 put-number-requires : tie.Need-put-number-requires
-put-number-requires c κs =
-    let s = c .before .before .before .before .before .before .before in
-    due-countable (decimal (s .args .l .0 / 2)) (mark (s .args .l .0)) (number (c .before .before .before .before)) (s .pre)
+put-number-requires c κs = let v = c .before .before in due-countable (decimal (v .variable-of .result .0)) (mark (start v .args .l .0)) (number v) (start v .pre)
+
+is-negated-requires : tie.Need-is-negated-requires
+is-negated-requires c κs = search needs
+
+module _ (c : tie.After-is-negated) where
+  abbrev told : tie.After-put-number
+  told = c .before .before .before
+
+  abbrev first : tie.Start
+  first = start (told .before .before .before)
+
+  -- and then the mark
+  after : Owed first (told .put-number .last .0) (told .put-number .result) (mark (first .args .l .0))
+  after = due-next (number (told .before .before .before)) (told .put-number .ensures)
+
+  -- `'` where it is negated
+  quote-due : c .is-negated .result ≡ true → Owed first (told .put-number .last .0) (told .put-number .result) (39 ∷ [])
+  quote-due t = due-as after (mark-one (first .args .l .0) (sym (c .is-negated .ensures) ∙ t))
+
+put-requires-2 : tie.Need-put-requires-2
+put-requires-2 c κs = let n = c .before .before in due-rest (quote-due n (c .before .if1 .taken)) (first n .pre)
 
 same-length : tie.Need-same-length
 same-length c = search needs
 
-after : (c : tie.After-put-number) → Owed (c .before .before .before .before .before .before .before .before) (c .put-number .last .0) (c .put-number .result) (mark (c .before .before .before .before .before .before .before .before .args .l .0))
-after c = due-next (number (c .before .before .before .before .before)) (c .put-number .ensures)
-
 returns : tie.Need-returns
-returns c = due-done (due-as (after (c .before .before .before .before)) (mark-none _ (c .if1 .taken)))
-
-put-requires-2 : tie.Need-put-requires-2
-put-requires-2 c κs = due-rest (due-as (after (c .before .before .before .before .before)) (mark-one _ (c .before .if1 .left))) (c .before .before .before .before .before .before .before .before .before .before .before .before .before .pre)
+returns c = let p = c .before .before in due-last (quote-due (p .before .before .before) (p .before .before .if1 .taken)) (p .put2 .ensures)
 
 same-length-2 : tie.Need-same-length-2
 same-length-2 c = search needs
 
 returns-2 : tie.Need-returns-2
-returns-2 c = due-last (due-as (after (c .before .before .before .before .before .before .before .before)) (mark-one _ (c .before .before .before .before .if1 .left))) (c .before .before .put2 .ensures)
+returns-2 c = due-done (due-as (after (c .before)) (mark-none (first (c .before) .args .l .0) (sym (c .before .is-negated .ensures) ∙ c .if1 .left)))
 
 pub put-literal-spec : {M : Type 1} → statement M
 put-literal-spec =
     tie.close
     (tie.spec
     put-requires
+    variable-of-requires
     cast-put-number
     put-number-requires
+    is-negated-requires
+    put-requires-2
     same-length
     returns
-    put-requires-2
     same-length-2
     returns-2)

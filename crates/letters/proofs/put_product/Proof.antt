@@ -11,7 +11,7 @@ use Rattle.sets.proofs.Literals.{literals-asc}
 use Rattle.cube.specs.Cube.{lits, answer, width}
 use Rattle.letters.specs.Letters.{cubeText, literalText}
 use Rattle.letters.proofs.Laying.{Due, due-all, due-as, due-next, due-done, due-last, due-trans, due-countable, due-rest}
-use Rattle.letters.proofs.Texts.{starred, starred-nil, starred-cons, cube-first, cube-none}
+use Rattle.letters.proofs.Texts.{marked-nil, marked-cons, starred, cube-first, cube-none}
 use Rattle.letters.proofs.Walking.{above, above-all, above-none, above-some, first-inside}
 use Rattle.letters.proofs.put_product.Statement.{statement}
 use Rattle.letters.proofs.put_product.Tie as tie
@@ -99,7 +99,7 @@ same-length-2 c = c .before .before .before .loop .inv .1 ∙ c .before .before 
 returns-2 : tie.Need-returns-2 Inv-loop μ-loop
 returns-2 c =
     let h : firstFrom (c .before .before .before .loop .from) (held (c .before .before .before .before .before .before .before .before .before .before .before .before .before .before)) ≡ none = sym (c .before .before .first-from2 .ensures) ∙ ap answer (c .enum-told2 .given .1) in
-    due-done (due-as (due-trans (begun (c .before .before .before .before .before .before .before)) (c .before .before .before .loop .inv .0)) (ap starred (above-none _ _ h) ∙ starred-nil))
+    due-done (due-as (due-trans (begun (c .before .before .before .before .before .before .before)) (c .before .before .before .loop .inv .0)) (ap starred (above-none _ _ h) ∙ marked-nil literalText 42))
 
 -- the next literal
 abbrev next : tie.After-found Inv-loop μ-loop → ℕ
@@ -116,7 +116,7 @@ abbrev Left : tie.After-found Inv-loop μ-loop → List ℕ → ℕ → List ℕ
 Left c o at t = Due (c .before .before .before .before .before .before .before .put-literal .last .0) (c .before .before .before .before .before .before .before .put-literal .result) (others (c .before .before .before .before .before .before .before .before .before .before .before .before .before .before) (head (c .before .before .before .before .before .before .before .before .before .before) + 1)) o at t
 
 star-due : (c : tie.After-found Inv-loop μ-loop) → Left c (c .before .before .before .loop .o) (c .before .before .before .loop .p) (42 ∷ (literalText (next c) ++ others (c .before .before .before .before .before .before .before .before .before .before .before .before .before .before) (next c + 1)))
-star-due c = due-as (c .before .before .before .loop .inv .0) (ap starred (next-above c) ∙ starred-cons _ _)
+star-due c = due-as (c .before .before .before .loop .inv .0) (ap starred (next-above c) ∙ marked-cons literalText 42 _ _)
 
 literal-due : (c : tie.After-put2 Inv-loop μ-loop) → Left (c .before .before .before) (c .put2 .last .0) (c .put2 .result) (literalText (next (c .before .before .before)) ++ others (c .before .before .before .before .before .before .before .before .before .before .before .before .before .before .before .before .before) (next (c .before .before .before) + 1))
 literal-due c = due-next (star-due (c .before .before .before)) (c .put2 .ensures)

@@ -9,18 +9,18 @@ use Rattle.sets.specs.Lists.{total}
 use Rattle.sets.proofs.Lists.{_∈_, total-map}
 use Rattle.expression.specs.Words.{cubesOf}
 use Rattle.expression.proofs.Words.{cubes-length}
 use Rattle.network.specs.Net.{Node, Net, nodes, literalCount}
 use Rattle.network.specs.Meaning.{Through}
 use Rattle.network.specs.Held.{cut, numbered, used, netOf, rules}
+use Rattle.network.specs.Rules.{Lawful}
 use Rattle.network.specs.Handed.{Holds, nodeSlots}
 use Rattle.network.specs.declared.Network.{Network}
 use Rattle.network.proofs.Numbering.{numbered-cubes}
 use Rattle.network.proofs.Holding.{cubes-held, rules-outputs, rules-divisors, rules-iff}
 use Rattle.network.proofs.Handing.{used-held, holds-net}
-use Rattle.imaging.specs.Meaning.{Lawful}
 
-pub rules-lawful : (n : Network) → length (n .words) ≡ 2176 → length (n .counts) ≡ 96 → rules n ≡ true → Lawful (netOf n)
-rules-lawful n full slots h = let w = rules-iff n slots .0 h in record {
+pub rules-lawful : (n : Network) → length (n .counts) ≡ 96 → length (n .words) ≡ 2176 → rules n ≡ true → Lawful (netOf n)
+rules-lawful n slots words h = let w = rules-iff n slots .0 h in record {
   inputs = w .inputs;
   outputs = omega (arith, w .outputs, rules-outputs n slots h);
   few = omega (arith, w .variables, rules-divisors n slots h);
