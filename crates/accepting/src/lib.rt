@@ -10,10 +10,12 @@ ghost use Rattle.sets.specs.Sets.{proper};
 ghost use Rattle.cube.specs.Cube.{lits};
 ghost use Rattle.expression.specs.Words.{cubesOf};
 ghost use Rattle.expression.specs.Expression.{loose, expression};
-ghost use Rattle.expression.specs.Answers.{refusedBy, refusal};
+ghost use Rattle.expression.specs.Answers.{refusalOf, refusal};
 
-// The most cubes of an expression handed in.
-const CUBES: usize = 1024;
+// The most cubes of an expression handed in, and their words.
+pub const CUBES: usize = 1024;
+
+pub const WORDS: usize = 2 * CUBES;
 
 // Whether no cube has a variable both ways.
 fn all_proper(s: &[u64]) -> bool
@@ -81,9 +83,9 @@ pub fn is_expression(s: &[u64]) -> bool
 
 // 6 over 1,024 cubes; else 7 where a word is left over, a cube has a variable both ways, or one cube contains or equals another.
 pub fn accept(s: &[u64]) -> Verdict
-    ensures { λ r. ⌜ refusedBy r ≡ refusal (now (s .entry)) ⌝ }
+    ensures { λ r. ⌜ refusalOf r ≡ refusal (now (s .entry)) ⌝ }
 {
-    if s.len() > 2 * CUBES {
+    if s.len() > WORDS {
         return Verdict::Refused(6);
     }
     if s.len() % 2 != 0 {

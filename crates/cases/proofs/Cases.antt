@@ -15,29 +15,29 @@ use Rattle.network.specs.Net.{cubesAt}
 use Rattle.network.specs.Listing.{ready, nextReady, listMore, listing}
 use Rattle.network.specs.Held.{numbered}
 use Rattle.extraction.specs.Divisor.{small, useOf, swap, rewrite}
-use Rattle.extraction.specs.Extract.{allUses, allBases, weight, pairsIn, smallerFirst, sumOf, sumsIn, candidates, sooner, better, bestOf, best}
-use Rattle.extraction.specs.Run.{room, choose, move, runFrom, inOrder, run}
+use Rattle.extraction.specs.Extract.{allUses, basesLiterals, weight, pairsIn, smallerFirst, sumOf, sumsIn, candidates, sooner, better, bestOf, best}
+use Rattle.extraction.specs.Run.{roomFor, choose, move, runFrom, inOrder, run}
 use Rattle.fields.specs.Fields.{bitsOf, valueOf, fieldBits, bytesFrom, bitsIn}
 use Rattle.imaging.specs.Renumber.{indexOf, newNumber, newLiteral, newCube, newNode, renumbered}
 use Rattle.imaging.specs.Image.{cubeFields, nodeFields, headFields, netFields, netBytes, imageOf}
 use Rattle.imaging.specs.Reading.{getField, getMany, getLiterals, getCube, getNode, getNodes, getRaw, padding, summed, inTheOrder, readsEarlier, oneOrder, judgeRaw, readImage}
-use Rattle.cases.specs.Tests.{alike, sameCubes, sameInteger, sameDivisor, turn, sameStop, sameNode, sameNet}
-use Rattle.cases.specs.Cases.{Case, begins, finishes, readAs, holds, f₁, f₆, f₉, f₁₂, image₅, table}
+use Rattle.cases.specs.Tests.{alike, equalCubes, sameInteger, sameDivisor, turn, sameStop, equalNode, sameNet}
+use Rattle.cases.specs.Cases.{Case, begins, finishes, readAs, isRight, f₁, f₆, f₉, f₁₂, image₅, table}
 use Rattle.cases.specs.Meaning.{Says}
 use Rattle.cases.proofs.Opening.{opened, cokernels-opened}
 use Rattle.cases.proofs.Testing.{holds-says}
 
 -- the co-kernels come by the cheaper walk, all else as it is defined
-pub cases-hold : all holds table ≡ true
-unfolding holds table
+pub cases-hold : all isRight table ≡ true
+unfolding isRight table
 cases-hold = simp cokernels-opened (unfold
-    f₁ f₆ f₉ f₁₂ image₅ alike sameCubes sameInteger sameDivisor turn sameStop sameNode sameNet begins finishes readAs
+    f₁ f₆ f₉ f₁₂ image₅ alike equalCubes sameInteger sameDivisor turn sameStop equalNode sameNet begins finishes readAs
     mem sub apart insert union without meet same before has place sort loose
     divides quotient product remainder
     common isCokernel opens opened
     most formBy digits decimal literalText cubeText sumText formText
-    small useOf swap rewrite allUses allBases weight pairsIn smallerFirst sumOf sumsIn candidates sooner better bestOf best
-    room choose move runFrom inOrder run cubesAt
+    small useOf swap rewrite allUses basesLiterals weight pairsIn smallerFirst sumOf sumsIn candidates sooner better bestOf best
+    roomFor choose move runFrom inOrder run cubesAt
     ready nextReady listMore listing numbered indexOf newNumber newLiteral newCube newNode renumbered
     bit bitsOf valueOf fieldBits bytesFrom bitsIn cubeFields nodeFields headFields netFields netBytes imageOf
     getField getMany getLiterals getCube getNode getNodes getRaw padding summed inTheOrder readsEarlier oneOrder judgeRaw readImage
@@ -45,4 +45,4 @@ cases-hold = simp cokernels-opened (unfold
 
 -- so what each row says is so
 pub cases-say : {c : Case} → c ∈ table → Says c
-cases-say {c} m = holds-says c (all-out holds m cases-hold)
+cases-say {c} m = holds-says c (all-out isRight m cases-hold)

@@ -20,8 +20,8 @@ use Rattle.extraction.specs.Extract.{weight}
 use Rattle.extraction.specs.Run.{Stop, done, asked, numbers, rows, Made, Result, run}
 use Rattle.imaging.specs.Image.{imageOf}
 use Rattle.imaging.specs.Reading.{Outcome, accepted, refused, readImage}
-use Rattle.cases.specs.Tests.{alike, sameCubes, sameInteger, sameDivisor, turn, sameStop, sameNode, sameNet}
-use Rattle.cases.specs.Cases.{Case, hasCokernels, divides, hasText, counts, weighs, takes, ends, hasImage, readsBack, whole, begins, finishes, readAs, holds}
+use Rattle.cases.specs.Tests.{alike, equalCubes, sameInteger, sameDivisor, turn, sameStop, equalNode, sameNet}
+use Rattle.cases.specs.Cases.{Case, hasCokernels, divides, hasText, counts, weighs, takes, ends, hasImage, readsBack, whole, begins, finishes, readAs, isRight}
 use Rattle.cases.specs.Meaning.{Says}
 
 -- ---- the tests
@@ -34,8 +34,8 @@ module _ {A : Type 0} (t : A → A → Bool) (k : (x y : A) → t x y ≡ true �
   alike-eq (x ∷ l) [] h = absurd (false≢true h)
   alike-eq (x ∷ l) (y ∷ m) h = let q = both (t x y) (alike t l m) h in ap₂ _∷_ (k x y (q .0)) (alike-eq l m (q .1))
 
-pub cubes-eq : (f g : List (List ℕ)) → sameCubes f g ≡ true → f ≡ g
-unfolding sameCubes
+pub cubes-eq : (f g : List (List ℕ)) → equalCubes f g ≡ true → f ≡ g
+unfolding equalCubes
 cubes-eq f g h = alike-eq same same-eq f g h
 
 pub integer-eq : (u v : ℤ) → sameInteger u v ≡ true → u ≡ v
@@ -69,21 +69,21 @@ pub stop-eq : (r s : Stop) → sameStop r s ≡ true → r ≡ s
 unfolding sameStop
 stop-eq r s h = sym (reason-turn r) ∙ ap reason (eqb-true (turn r) (turn s) h) ∙ reason-turn s
 
-pub node-eq : (e g : Node) → sameNode e g ≡ true → e ≡ g
-unfolding sameNode
+pub node-eq : (e g : Node) → equalNode e g ≡ true → e ≡ g
+unfolding equalNode
 node-eq e g h =
-    let q = both (eqb (e .number) (g .number)) (sameCubes (e .cubes) (g .cubes)) h in
+    let q = both (eqb (e .number) (g .number)) (equalCubes (e .cubes) (g .cubes)) h in
     λ i. record { number = eqb-true (e .number) (g .number) (q .0) i; cubes = cubes-eq (e .cubes) (g .cubes) (q .1) i }
 
 pub net-eq : (n m : Net) → sameNet n m ≡ true → n ≡ m
 unfolding sameNet
 net-eq n m h =
     let q = both (eqb (n .inputs) (m .inputs)) _ h in
-    let r = both (alike sameCubes (n .outputs) (m .outputs)) (alike sameNode (n .divisors) (m .divisors)) (q .1) in
+    let r = both (alike equalCubes (n .outputs) (m .outputs)) (alike equalNode (n .divisors) (m .divisors)) (q .1) in
     λ i. record {
       inputs = eqb-true (n .inputs) (m .inputs) (q .0) i;
-      outputs = alike-eq sameCubes cubes-eq (n .outputs) (m .outputs) (r .0) i;
-      divisors = alike-eq sameNode node-eq (n .divisors) (m .divisors) (r .1) i;
+      outputs = alike-eq equalCubes cubes-eq (n .outputs) (m .outputs) (r .0) i;
+      divisors = alike-eq equalNode node-eq (n .divisors) (m .divisors) (r .1) i;
     }
 
 -- ---- the rows
@@ -108,10 +108,10 @@ finishes-eq r k l s h =
     let q = both (eqb (literalCount (r .network)) l) _ (p .1) in
     (eqb-true _ _ (p .0), eqb-true _ _ (q .0), stop-eq _ _ (q .1))
 
-pub holds-says : (c : Case) → holds c ≡ true → Says c
-unfolding holds
+pub holds-says : (c : Case) → isRight c ≡ true → Says c
+unfolding isRight
 holds-says (hasCokernels f l) h = cubes-eq (cokernels f) l h
-holds-says (divides f d q r) h = let p = both (sameCubes (quotient f d) q) _ h in (cubes-eq _ _ (p .0), cubes-eq _ _ (p .1))
+holds-says (divides f d q r) h = let p = both (equalCubes (quotient f d) q) _ h in (cubes-eq _ _ (p .0), cubes-eq _ _ (p .1))
 holds-says (hasText f t) h = same-eq (formText (formOf f)) t h
 holds-says (counts n l) h = eqb-true (literalCount n) l h
 holds-says (weighs n d w) h = integer-eq (weight n d) w h

@@ -16,7 +16,7 @@ use Rattle.extraction.specs.Extract.{weight}
 use Rattle.extraction.specs.Run.{Stop, done, Made, Result, run}
 use Rattle.imaging.specs.Image.{imageOf}
 use Rattle.imaging.specs.Reading.{Outcome, accepted, refused, readImage}
-use Rattle.cases.specs.Tests.{alike, sameCubes, sameInteger, sameDivisor, sameStop, sameNet}
+use Rattle.cases.specs.Tests.{alike, equalCubes, sameInteger, sameDivisor, sameStop, sameNet}
 
 pub data Case : Type 0 where
   -- the co-kernels of an expression
@@ -48,7 +48,7 @@ whole = 64
 unfoldable pub begins : Result → ℕ → Divisor → ℤ → Bool
 begins r v d w =
     alike sameDivisor (map (λ (s : Made). s .divisor) (r .steps)) (d ∷ [])
-    && (alike sameInteger (map (λ (s : Made). s .weight) (r .steps)) (w ∷ []) && sameCubes (cubesAt v (r .network .divisors)) (own d))
+    && (alike sameInteger (map (λ (s : Made). s .weight) (r .steps)) (w ∷ []) && equalCubes (cubesAt v (r .network .divisors)) (own d))
 
 -- so many steps made and literals left, and this reason
 unfoldable pub finishes : Result → ℕ → ℕ → Stop → Bool
@@ -59,16 +59,16 @@ unfoldable pub readAs : Outcome → Net → Bool
 readAs (accepted m) n = sameNet m n
 readAs (refused k) n = false
 
-unfoldable pub holds : Case → Bool
-holds (hasCokernels f l) = sameCubes (cokernels f) l
-holds (divides f d q r) = sameCubes (quotient f d) q && sameCubes (remainder f d) r
-holds (hasText f t) = same (formText (formOf f)) t
-holds (counts n l) = eqb (literalCount n) l
-holds (weighs n d w) = sameInteger (weight n d) w
-holds (takes n v d w) = begins (run 1 n) v d w
-holds (ends n k l s) = finishes (run whole n) k l s
-holds (hasImage n k b) = same (imageOf (run k n .network)) b
-holds (readsBack b n k) = readAs (readImage b) (run k n .network)
+unfoldable pub isRight : Case → Bool
+isRight (hasCokernels f l) = equalCubes (cokernels f) l
+isRight (divides f d q r) = equalCubes (quotient f d) q && equalCubes (remainder f d) r
+isRight (hasText f t) = same (formText (formOf f)) t
+isRight (counts n l) = eqb (literalCount n) l
+isRight (weighs n d w) = sameInteger (weight n d) w
+isRight (takes n v d w) = begins (run 1 n) v d w
+isRight (ends n k l s) = finishes (run whole n) k l s
+isRight (hasImage n k b) = same (imageOf (run k n .network)) b
+isRight (readsBack b n k) = readAs (readImage b) (run k n .network)
 
 -- ---- the expressions: letters are variables in order, literal 2v is plain and 2v + 1 negated
 

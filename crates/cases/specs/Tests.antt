@@ -17,8 +17,8 @@ module _ {A : Type 0} where
   alike t (x ∷ l) [] = false
   alike t (x ∷ l) (y ∷ m) = t x y && alike t l m
 
-unfoldable pub sameCubes : List (List ℕ) → List (List ℕ) → Bool
-sameCubes f g = alike same f g
+unfoldable pub equalCubes : List (List ℕ) → List (List ℕ) → Bool
+equalCubes f g = alike same f g
 
 unfoldable pub sameInteger : ℤ → ℤ → Bool
 sameInteger (pos a) (pos b) = eqb a b
@@ -42,8 +42,8 @@ turn rows = 3
 unfoldable pub sameStop : Stop → Stop → Bool
 sameStop r s = eqb (turn r) (turn s)
 
-unfoldable pub sameNode : Node → Node → Bool
-sameNode e g = eqb (e .number) (g .number) && sameCubes (e .cubes) (g .cubes)
+unfoldable pub equalNode : Node → Node → Bool
+equalNode e g = eqb (e .number) (g .number) && equalCubes (e .cubes) (g .cubes)
 
 unfoldable pub sameNet : Net → Net → Bool
-sameNet n m = eqb (n .inputs) (m .inputs) && (alike sameCubes (n .outputs) (m .outputs) && alike sameNode (n .divisors) (m .divisors))
+sameNet n m = eqb (n .inputs) (m .inputs) && (alike equalCubes (n .outputs) (m .outputs) && alike equalNode (n .divisors) (m .divisors))

@@ -9,8 +9,8 @@ use native.Mathlib.Omega.{arith}
 use lib.ListN.{length}
 use lib.IntN.{pos}
 use lib.Signed.{ltZ}
-use Rattle.sets.specs.Lists.{all, from, total}
-use Rattle.sets.proofs.Truth.{both, decided}
+use Rattle.sets.specs.Lists.{all, from}
+use Rattle.sets.proofs.Truth.{decided}
 use Rattle.sets.proofs.Orders.{not-after}
 use Rattle.sets.proofs.Literals.{plain-injective, negated-injective}
 use Rattle.cube.specs.Cube.{lits}
@@ -18,49 +18,43 @@ use Rattle.cube.specs.declared.Cube.{Cube}
 use Rattle.sets.proofs.Lists.{_∈_}
 use Rattle.expression.specs.Expression.{ordered}
 use Rattle.expression.proofs.Words.{cubes-length}
-use Rattle.network.specs.Net.{Net, nodes}
-use Rattle.network.specs.Held.{used, netOf, sized}
+use Rattle.network.specs.Net.{Net}
+use Rattle.network.specs.Held.{netOf}
 use Rattle.network.specs.Handed.{flat}
-use Rattle.network.specs.Parts.{Sized, nodesOf}
+use Rattle.network.specs.Parts.{nodesOf}
 use Rattle.network.specs.declared.Network.{Network}
 use Rattle.network.proofs.Holding.{nodes-held}
-use Rattle.network.proofs.Limits.{sized-out}
 use Rattle.extraction.specs.Divisor as extraction
 use Rattle.extraction.specs.Extract.{weight, gather, pairsIn, sumsIn, candidates, best}
 use Rattle.extraction.specs.Run.{Made, made}
 use Rattle.extraction.specs.Meaning.{Worth, Done}
 use Rattle.extraction.proofs.Choosing.{heavier-order, best-in, best-iff, best-none}
 use Rattle.tidy.specs.Tidy.{arranged}
-use Rattle.choice.specs.Choice.{divisorOf, madeOf, noStep, worthIn, chosenIn, Chosen}
-use Rattle.choice.specs.Parts.{Leads, Adds, Nodes, Cubes, Orderly}
-use Rattle.choice.specs.Parts.Leads.{nothing, first}
-use Rattle.choice.specs.declared.Divisor.{Divisor}
-use Rattle.choice.specs.declared.Divisor.the-variants.{Pair, Sum}
-use Rattle.choice.specs.declared.Step.{Step}
+use Rattle.tidy.proofs.Arranged.{arranged-parts, arranged-sized}
+use Rattle.divisor.specs.Divisor.{divisorOf, madeOf, noStep}
+use Rattle.divisor.specs.declared.Divisor.{Divisor}
+use Rattle.divisor.specs.declared.Divisor.the-variants.{Pair, Sum}
+use Rattle.divisor.specs.declared.Step.{Step}
+use Rattle.choice.specs.Choice.{worthIn, chosenIn, Chosen}
+use Rattle.choice.specs.Parts.{Wins, Adds, Nodes, Cubes, Orderly}
+use Rattle.choice.specs.Parts.Wins.{nothing, first}
 use Rattle.choice.proofs.Counting.{all-held}
 use Rattle.choice.proofs.Pairs.{spans, spans-literals, leads-candidates}
 
 -- ---- networks in cube order
 
 module _ (n : Network) (h : arranged n ≡ true) (slots : length (n .counts) ≡ 96) (words : length (n .words) ≡ 2176) where
-  arranged-sized : Sized (n .inputs) (n .outputs) (n .divisors) (n .words) (n .counts)
-  unfolding arranged
-  arranged-sized =
-      sized-out (n .inputs) (n .outputs) (n .divisors) (n .words) (n .counts) slots words
-      ((both (sized (n .inputs) (n .outputs) (n .divisors) (total (λ c. c) (used n))) (all ordered (nodes (netOf n))) h) .0)
-
   pub arranged-few : n .outputs + n .divisors ≤ 96
-  arranged-few = let s = arranged-sized in omega (arith, s .narrow, s .variables)
+  arranged-few = let s = arranged-sized n h slots words in omega (arith, s .narrow, s .variables)
 
   pub arranged-orderly : Orderly (n .words) (n .counts) (n .outputs + n .divisors)
-  unfolding arranged
   arranged-orderly =
-      let s = arranged-sized in
+      let s = arranged-sized n h slots words in
       record {
         counted = s .lent .counted;
         enough = omega (arith, s .cubes, cubes-length (n .words));
         few = s .lent .few;
-        sorted = ap (all ordered) (sym (nodes-held n)) ∙ (both (sized (n .inputs) (n .outputs) (n .divisors) (total (λ c. c) (used n))) (all ordered (nodes (netOf n))) h) .1;
+        sorted = ap (all ordered) (sym (nodes-held n)) ∙ arranged-parts n h .1;
       }
 
 -- ---- the choice
@@ -68,13 +62,13 @@ module _ (n : Network) (h : arranged n ≡ true) (slots : length (n .counts) ≡
 -- pairs judged among the cubes in use, and then sums among the nodes: all candidates
 pub all-judged : (words counts : List ℕ) (e : ℕ) (f : List (List ℕ)) (s r t : Step) → s ≡ noStep → f ≡ flat (nodesOf e counts words)
     → Adds (Cubes f) [] (pairsIn (from 0 128)) s r → Adds (Nodes (nodesOf e counts words)) [] (gather sumsIn (nodesOf e counts words)) r t
-    → (n : Net) → Nodes (nodesOf e counts words) n → Leads n (candidates n) t
+    → (n : Net) → Nodes (nodesOf e counts words) n → Wins n (candidates n) t
 all-judged words counts e f s r t z q g h n c =
     let none : (d : extraction.Divisor) → d ∈ [] → ⊥ = λ d m. List·Memᴰ·not-nil m in
     let pairs = g .leads n (ap flat c ∙ sym q) [] (λ d m. m) (nothing z (λ d m. absurd (none d m))) in
     let sums = h .leads n c (pairsIn (from 0 128) ++ []) (λ d m. absurd (none d m)) pairs in
     leads-candidates n (ap (all (all spans)) c ∙ all-held spans spans-literals e counts words) t
-    (subst (λ fs. Leads n (gather sumsIn fs ++ (pairsIn (from 0 128) ++ [])) t) (sym c) sums)
+    (subst (λ fs. Wins n (gather sumsIn fs ++ (pairsIn (from 0 128) ++ [])) t) (sym c) sums)
 
 module _ (n : Net) where
   -- worth a step: the best divisor, with a weight above 0
@@ -106,7 +100,7 @@ module _ (n : Net) where
       back (some d) e h = rw (h d (((best-iff n d) .0 e) .chosen))
 
   -- what leads the candidates is chosen
-  leads-chosen : (s : Step) → Leads n (candidates n) s → Chosen (worthIn n (best n)) s
+  leads-chosen : (s : Step) → Wins n (candidates n) s → Chosen (worthIn n (best n)) s
   leads-chosen s (nothing e h) = subst (λ o. Chosen o s) (sym (worth-none .1 h)) e
   leads-chosen s (first d m e a h) = subst (λ o. Chosen o s) (sym ((worth-iff (made n d)) .1 (d, record { best = best-in n d m h; above = a }, refl))) e
 
@@ -121,7 +115,7 @@ module _ (n : Network) where
   unfolding chosenIn
   chosen-no h = rw h
 
-  pub chosen-leads : (s : Step) → arranged n ≡ true → Leads (netOf n) (candidates (netOf n)) s → Chosen (chosenIn n) s
+  pub chosen-leads : (s : Step) → arranged n ≡ true → Wins (netOf n) (candidates (netOf n)) s → Chosen (chosenIn n) s
   chosen-leads s h l = subst (λ o. Chosen o s) (sym (chosen-worth h)) (leads-chosen (netOf n) s l)
 
   pub chosen-not : (s : Step) → arranged n ≡ false → s ≡ noStep → Chosen (chosenIn n) s

@@ -14,10 +14,10 @@ use Rattle.extraction.specs.Divisor as extraction
 use Rattle.extraction.specs.Extract.{weight, sooner, better}
 use Rattle.extraction.specs.Run.{Made, made}
 use Rattle.extraction.proofs.Choosing.{heavier-order, better-order}
-use Rattle.choice.specs.Choice.{divisorOf, madeOf}
-use Rattle.choice.specs.Parts.{taken, Leads, Adds}
-use Rattle.choice.specs.Parts.Leads.{nothing, first}
-use Rattle.choice.specs.declared.Step.{Step}
+use Rattle.divisor.specs.Divisor.{divisorOf, madeOf}
+use Rattle.divisor.specs.declared.Step.{Step}
+use Rattle.choice.specs.Parts.{taken, Wins, Adds}
+use Rattle.choice.specs.Parts.Wins.{nothing, first}
 
 -- ---- what is taken
 
@@ -56,18 +56,18 @@ module _ (n : Net) where
   -- of divisors in any order, and with others whose weight is not above 0
   pub leads-same : (l m : List extraction.Divisor) (s : Step)
       → ((e : extraction.Divisor) → e ∈ l → ltZ (pos 0) (weight n e) ≡ true → e ∈ m) → ((e : extraction.Divisor) → e ∈ m → ltZ (pos 0) (weight n e) ≡ true → e ∈ l)
-      → Leads n l s → Leads n m s
+      → Wins n l s → Wins n m s
   leads-same l m s to back (nothing e h) = nothing e (λ g i. elim (decided (ltZ (pos 0) (weight n g))) [ inl a ↦ h g (back g i a) | inr a ↦ a ])
   leads-same l m s to back (first d i e a h) =
       first d (to d i a) e a (λ g j. elim (decided (ltZ (pos 0) (weight n g))) [ inl b ↦ h g (back g j b) | inr b ↦ low-not-better g d b a ])
 
   -- divisors whose weight is not above 0 change nothing
-  pub leads-low : (new l : List extraction.Divisor) (s : Step) → ((e : extraction.Divisor) → e ∈ new → ltZ (pos 0) (weight n e) ≡ false) → Leads n l s → Leads n (new ++ l) s
+  pub leads-low : (new l : List extraction.Divisor) (s : Step) → ((e : extraction.Divisor) → e ∈ new → ltZ (pos 0) (weight n e) ≡ false) → Wins n l s → Wins n (new ++ l) s
   leads-low new l s k =
       leads-same l (new ++ l) s (λ e m a. Memᴰ·append-right new m) (λ e m a. elim (List·Memᴰ·append-cases new m) [ inl i ↦ clash a (k e i) | inr i ↦ i ])
 
   -- nor do divisors that are there already
-  pub leads-known : (new l : List extraction.Divisor) (s : Step) → ((e : extraction.Divisor) → e ∈ new → e ∈ l) → Leads n l s → Leads n (new ++ l) s
+  pub leads-known : (new l : List extraction.Divisor) (s : Step) → ((e : extraction.Divisor) → e ∈ new → e ∈ l) → Wins n l s → Wins n (new ++ l) s
   leads-known new l s k = leads-same l (new ++ l) s (λ e m a. Memᴰ·append-right new m) (λ e m a. elim (List·Memᴰ·append-cases new m) [ inl i ↦ k e i | inr i ↦ i ])
 
   -- the better of the two leads the divisors judged so far and the new one
@@ -79,11 +79,11 @@ module _ (n : Net) where
     td = ap (λ (m : Made). m .divisor) e
 
     -- the new one is taken
-    fresh : ltZ (pos 0) (weight n d) ≡ true → ((g : extraction.Divisor) → g ∈ l → better n g d ≡ false) → Leads n (d ∷ l) t
+    fresh : ltZ (pos 0) (weight n d) ≡ true → ((g : extraction.Divisor) → g ∈ l → better n g d ≡ false) → Wins n (d ∷ l) t
     fresh a h = first d (here refl) e a (λ g i. elim (List·Memᴰ·cases-cons i) [ inl q ↦ rw q (better-order n .irrefl d) | inr j ↦ h g j ])
 
     against : (g : extraction.Divisor) → g ∈ l → madeOf s ≡ made n g → ltZ (pos 0) (weight n g) ≡ true → ((x : extraction.Divisor) → x ∈ l → better n x g ≡ false)
-        → ltZ (pos 0) (weight n d) ≡ true → (b : Bool) → better n d g ≡ b → Leads n (d ∷ l) (cond b t s)
+        → ltZ (pos 0) (weight n d) ≡ true → (b : Bool) → better n d g ≡ b → Wins n (d ∷ l) (cond b t s)
     against g i q a h k true p = fresh k (λ x j. not-after (better n) (better-order n) x g d (h x j) (asym (better n) (better-order n) d g p))
     against g i q a h k false p = first g (there i) q a (λ x j. elim (List·Memᴰ·cases-cons j) [ inl y ↦ rw y p | inr y ↦ h x y ])
 
@@ -97,15 +97,15 @@ module _ (n : Net) where
         let sd : divisorOf (s .divisor) ≡ g = ap (λ (m : Made). m .divisor) q in
         sym ((λ i. cond (ltZ (pos 0) (tw i) && lex (λ u v. ltZ v u) (tw i) (sw i) (sooner (td i) (sd i))) t s) ∙ rw (above k))
 
-    pub leads-taken : Leads n l s → Leads n (d ∷ l) (taken s t)
+    pub leads-taken : Wins n l s → Wins n (d ∷ l) (taken s t)
     leads-taken h = elim (decided (ltZ (pos 0) (t .weight))) [
-      | inr k ↦ subst (Leads n (d ∷ l)) (taken-low s t k) (leads-low (d ∷ []) l s (λ g i. ap (λ x. ltZ (pos 0) (weight n x)) (List·Memᴰ·eq-of-singleton i) ∙ ap (ltZ (pos 0)) (sym tw) ∙ k) h)
+      | inr k ↦ subst (Wins n (d ∷ l)) (taken-low s t k) (leads-low (d ∷ []) l s (λ g i. ap (λ x. ltZ (pos 0) (weight n x)) (List·Memᴰ·eq-of-singleton i) ∙ ap (ltZ (pos 0)) (sym tw) ∙ k) h)
       | inl k ↦ go k h
     ]
       where
-        go : ltZ (pos 0) (t .weight) ≡ true → Leads n l s → Leads n (d ∷ l) (taken s t)
-        go k (nothing q z) = subst (Leads n (d ∷ l)) (taken-more s t k (rw q k)) (fresh (above k) (λ g i. low-not-better g d (z g i) (above k)))
-        go k (first g i q a z) = subst (Leads n (d ∷ l)) (taken-better k g q) (against g i q a z (above k) (better n d g) refl)
+        go : ltZ (pos 0) (t .weight) ≡ true → Wins n l s → Wins n (d ∷ l) (taken s t)
+        go k (nothing q z) = subst (Wins n (d ∷ l)) (taken-more s t k (rw q k)) (fresh (above k) (λ g i. low-not-better g d (z g i) (above k)))
+        go k (first g i q a z) = subst (Wins n (d ∷ l)) (taken-better k g q) (against g i q a z (above k) (better n d g) refl)
 
 -- ---- one after the other
 

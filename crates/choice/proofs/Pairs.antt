@@ -23,9 +23,9 @@ use Rattle.extraction.specs.Divisor.{pair, uses}
 use Rattle.extraction.specs.Extract.{allUses, weight, gather, pairsIn, sumsIn, candidates}
 use Rattle.extraction.specs.Meaning.{Used}
 use Rattle.extraction.proofs.Offering.{gather-in, gather-out, pairs-out, pairs-made}
-use Rattle.choice.specs.Parts.{stepOf, taken, Leads, Adds, Cubes}
-use Rattle.choice.specs.declared.Step.{Step}
-use Rattle.choice.specs.declared.Divisor.the-variants.{Pair}
+use Rattle.divisor.specs.declared.Step.{Step}
+use Rattle.divisor.specs.declared.Divisor.the-variants.{Pair}
+use Rattle.choice.specs.Parts.{stepOf, taken, Wins, Adds, Cubes}
 use Rattle.choice.proofs.Ties.{not-above}
 use Rattle.choice.proofs.Counting.{counted-flat}
 use Rattle.choice.proofs.Judging.{leads-low, leads-same, leads-taken}
@@ -141,7 +141,7 @@ module _ (n : Net) (w : all (all spans) (nodes n) ≡ true) where
       go c s (p, q, x, i, j, l) = rw x (pairs-made (from 0 128) (from-asc 0 128) (of-mem p (from 0 128) (sub-out c (from 0 128) p s (mem-of i))) (of-mem q (from 0 128) (sub-out c (from 0 128) q s (mem-of j))) l)
 
   -- what leads all sums and all pairs below 128 leads the candidates
-  pub leads-candidates : (s : Step) → Leads n (gather sumsIn (nodes n) ++ (pairsIn (from 0 128) ++ [])) s → Leads n (candidates n) s
+  pub leads-candidates : (s : Step) → Wins n (gather sumsIn (nodes n) ++ (pairsIn (from 0 128) ++ [])) s → Wins n (candidates n) s
   unfolding candidates
   leads-candidates s h = leads-same n (sums ++ (all-pairs ++ [])) (pairs ++ sums) s
       (λ e m a. elim (List·Memᴰ·append-cases sums m) [

@@ -26,14 +26,14 @@ use Rattle.expression.specs.Expression.{literalsOf}
 use Rattle.network.specs.Net.{Net, nodes}
 use Rattle.network.specs.Handed.{flat}
 use Rattle.extraction.specs.Divisor.{Divisor, sum, small, useOf, uses, bases}
-use Rattle.extraction.specs.Extract.{allUses, allBases, weight, gather, smallerFirst, sumOf, sumsIn}
+use Rattle.extraction.specs.Extract.{allUses, basesLiterals, weight, gather, smallerFirst, sumOf, sumsIn}
 use Rattle.extraction.specs.Meaning.{Parts, other}
 use Rattle.extraction.proofs.Using.{use-out, apart-flip}
 use Rattle.extraction.proofs.Parting.{parts-apart, parts-differ, use-left, use-right}
 use Rattle.extraction.proofs.Offering.{sums-made, sum-of-in, sum-of-out}
+use Rattle.divisor.specs.declared.Step.{Step}
+use Rattle.divisor.specs.declared.Divisor.the-variants.{Sum}
 use Rattle.choice.specs.Parts.{stepOf, taken, Adds, Nodes, Alone, Counts}
-use Rattle.choice.specs.declared.Step.{Step}
-use Rattle.choice.specs.declared.Divisor.the-variants.{Sum}
 use Rattle.choice.proofs.Judging.{leads-taken, leads-low, leads-known}
 use Rattle.choice.proofs.Counting.{kept-flat, kept-total-le, counted-flat, all-words, total-le}
 use Rattle.choice.proofs.Ties.{not-above}
@@ -47,7 +47,7 @@ small-out a h = let q = both (ltb 0 (length a)) (ltb (length a) 3) h in (ltb-tru
 -- a sum is judged
 pub sum-judged : (fs : List (List (List ℕ))) (a b : Cube) (u l s : ℕ) (h : Step) → Counts (lits a) (lits b) fs u l → s ≡ length (lits a) + length (lits b)
     → Adds (Nodes fs) [] (sum (lits a) (lits b) ∷ []) h (taken h (stepOf (Sum a b) (l + u * (s - 1)) s u))
-unfolding weight allUses allBases
+unfolding weight allUses basesLiterals
 sum-judged fs a b u l s h c z = record {
   leads = λ n e k known g.
       let x : u ≡ total (uses (sum (lits a) (lits b))) (nodes n) = c .uses ∙ ap (total (uses (sum (lits a) (lits b)))) (sym e) in
@@ -137,8 +137,8 @@ module _ (n : Net) (a b : List ℕ) (h : Alone (nodes n) a) where
     ap length h,
   )
 
-  lone-bases : allBases n (sum a b) ≡ 0
-  unfolding allBases
+  lone-bases : basesLiterals n (sum a b) ≡ 0
+  unfolding basesLiterals
   lone-bases = omega (
     arith,
     total-le (λ f. literalsOf (bases (sum a b) f)) (λ f. total (λ x. length (without x a)) (keep (sub a) f)) (nodes n) (λ f m. omega (

@@ -1,4 +1,4 @@
--- What the tests of the order and of a use answer, step by step. Assumes nothing.
+-- What the tests of weights, of the order and of parts answer, step by step. Assumes nothing.
 use Prim.Native.Nat.{ℕ, zero, suc, _+_, _-_, _<_, _≤_}
 use mathlib.Core.Path.{_≡_, refl, sym, ap, _∙_}
 use mathlib.Core.Logic.{inl, inr}
@@ -10,18 +10,14 @@ use lib.ListN.{length}
 use lib.IntN.{pos, _-ℤ_}
 use lib.Signed.{ltZ, mag}
 use borrow.Author.Tests.{lt-ltb, le-ltb}
-use Rattle.sets.specs.Lists.{isNil, isSome}
-use Rattle.sets.specs.Sets.{sub, apart, union, without, meet, lex, before}
+use Rattle.sets.specs.Sets.{lex, before}
 use Rattle.sets.proofs.Truth.{decided}
-use Rattle.sets.proofs.Sets.{meet-none}
 use Rattle.sets.proofs.Ordering.{before-irrefl, before-asym}
 use Rattle.cube.specs.Cube.{orderOf}
 use Rattle.cube.specs.declared.Order.{Order}
 use Rattle.cube.specs.declared.Order.the-variants.{Before, Same, After}
 use Rattle.cube.proofs.Verdict.{Told, told-of}
-use Rattle.expression.specs.Expression.{ordered, findIn}
-use Rattle.expression.proofs.Searching.{find-has}
-use Rattle.extraction.specs.Divisor.{small, useOf}
+use Rattle.extraction.specs.Divisor.{small}
 
 -- ---- weights
 
@@ -89,22 +85,3 @@ module _ (a : List ℕ) (n : ℕ) (e : n ≡ length a) where
   pub small-some : 1 ≤ n → ltb n 3 ≡ small a
   unfolding small
   small-some h = rw (lt-ltb 0 (length a) (omega arith)) (ap (λ x. ltb x 3) e)
-
--- ---- uses
-
-pub base-tested : (x y c a b : List ℕ) → x ≡ without c a → y ≡ meet x b → isNil y ≡ apart (without c a) b
-base-tested x y c a b e h = ap isNil h ∙ meet-none x b ∙ ap (λ z. apart z b) e
-
-module _ (a b : List ℕ) (f : List (List ℕ)) (c : List ℕ) where
-  pub use-no-part : sub a c ≡ false → false ≡ useOf a b f c
-  unfolding useOf
-  use-no-part h = rw h
-
-  module _ (h : sub a c ≡ true) where
-    pub use-no-base : apart (without c a) b ≡ false → false ≡ useOf a b f c
-    unfolding useOf
-    use-no-base k = rw (h, k)
-
-    pub use-searched : apart (without c a) b ≡ true → ordered f ≡ true → isSome (findIn (union (without c a) b) f) ≡ useOf a b f c
-    unfolding useOf
-    use-searched k o = rw (h, k) (find-has (union (without c a) b) f o)

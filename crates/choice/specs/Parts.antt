@@ -18,9 +18,9 @@ use Rattle.extraction.specs.Divisor as extraction
 use Rattle.extraction.specs.Divisor.{sum, uses, bases}
 use Rattle.extraction.specs.Extract.{weight, sooner, better}
 use Rattle.extraction.specs.Run.{made}
-use Rattle.choice.specs.Choice.{divisorOf, madeOf, noStep}
-use Rattle.choice.specs.declared.Divisor.{Divisor}
-use Rattle.choice.specs.declared.Step.{Step}
+use Rattle.divisor.specs.Divisor.{divisorOf, madeOf, noStep}
+use Rattle.divisor.specs.declared.Divisor.{Divisor}
+use Rattle.divisor.specs.declared.Step.{Step}
 
 -- ---- judging
 
@@ -34,14 +34,14 @@ taken s t =
     cond (ltZ (pos 0) (t .weight) && lex (λ u v. ltZ v u) (t .weight) (s .weight) (sooner (divisorOf (t .divisor)) (divisorOf (s .divisor)))) t s
 
 -- the step is that of the best of these divisors, where its weight is above 0, and else the step of zeros
-pub data Leads (n : Net) (l : List extraction.Divisor) (s : Step) : Type 0 where
-  nothing : s ≡ noStep → ((e : extraction.Divisor) → List·Memᴰ e l → ltZ (pos 0) (weight n e) ≡ false) → Leads n l s
+pub data Wins (n : Net) (l : List extraction.Divisor) (s : Step) : Type 0 where
+  nothing : s ≡ noStep → ((e : extraction.Divisor) → List·Memᴰ e l → ltZ (pos 0) (weight n e) ≡ false) → Wins n l s
   first : (d : extraction.Divisor) → List·Memᴰ d l → madeOf s ≡ made n d → ltZ (pos 0) (weight n d) ≡ true
-      → ((e : extraction.Divisor) → List·Memᴰ e l → better n e d ≡ false) → Leads n l s
+      → ((e : extraction.Divisor) → List·Memᴰ e l → better n e d ≡ false) → Wins n l s
 
 -- where s leads some divisors, the known ones among them, r leads those and the new ones, in each network that passes the test
 pub record Adds (p : Net → Type 0) (known new : List extraction.Divisor) (s r : Step) : Type 0 where
-  pub leads : (n : Net) → p n → (l : List extraction.Divisor) → ((d : extraction.Divisor) → List·Memᴰ d known → List·Memᴰ d l) → Leads n l s → Leads n (new ++ l) r
+  pub leads : (n : Net) → p n → (l : List extraction.Divisor) → ((d : extraction.Divisor) → List·Memᴰ d known → List·Memᴰ d l) → Wins n l s → Wins n (new ++ l) r
 
 -- ---- what words and counts hold
 

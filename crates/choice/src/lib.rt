@@ -1,8 +1,9 @@
-// Divisors, and the choice of the best one.
+// The choice of the best divisor.
 use cube::Cube;
 use cube::Literal;
 use cube::Order;
-use expression::Place;
+use divisor::Divisor;
+use divisor::Step;
 use network::Network;
 ghost use mathlib.Core.Path.{_≡_};
 ghost use mathlib.Core.Bool.{true};
@@ -21,24 +22,9 @@ ghost use Rattle.network.specs.Parts.{nodesOf};
 ghost use Rattle.extraction.specs.Divisor.{pair, sum, small, useOf};
 ghost use Rattle.extraction.specs.Extract.{gather, pairsIn, sumOf, sumsIn, candidates, sooner};
 ghost use Rattle.extraction.specs.Meaning.{Parts};
-ghost use Rattle.choice.specs.Choice.{divisorOf, noStep, Chosen, chosenIn};
-ghost use Rattle.choice.specs.Parts.{stepOf, taken, Leads, Adds, Nodes, Cubes, Orderly, Inside, Alone, Counts};
-
-// Literals of a cube are below this.
-const LITERALS: u32 = 128;
-
-// A pair of literals, the smaller first, or a sum of two parts that are cubes, the one that is first in cube order first.
-pub enum Divisor {
-    Pair(Literal, Literal),
-    Sum(Cube, Cube),
-}
-
-// A step: its divisor, what the divisor weighs, and its uses.
-pub struct Step {
-    pub divisor: Divisor,
-    pub weight: i32,
-    pub uses: u32,
-}
+ghost use Rattle.divisor.specs.Divisor.{divisorOf};
+ghost use Rattle.choice.specs.Choice.{Chosen, chosenIn};
+ghost use Rattle.choice.specs.Parts.{stepOf, taken, Wins, Adds, Nodes, Cubes, Orderly, Inside, Alone, Counts};
 
 // The uses of a sum, and the literals in their bases.
 struct Counted {
@@ -47,17 +33,6 @@ struct Counted {
 }
 
 // ---- steps and their order
-
-// The step of zeros.
-pub fn no_step() -> Step
-    ensures { λ r. ⌜ r ≡ noStep ⌝ }
-{
-    Step {
-        divisor: Divisor::Pair(Literal(0), Literal(0)),
-        weight: 0,
-        uses: 0,
-    }
-}
 
 // A step whose weight is a difference, which may be below 0.
 fn step_of(divisor: Divisor, gain: u32, cost: u32, uses: u32) -> Step
@@ -134,7 +109,7 @@ fn is_sooner(d: Divisor, e: Divisor) -> bool
 fn better_of(held: Step, s: Step) -> Step
     ensures { λ r. ⌜ r ≡ taken held s ⌝ }
 {
-    if !is_heavier(s, no_step()) {
+    if !is_heavier(s, divisor::no_step()) {
         return held;
     }
     if is_heavier(s, held) {
@@ -189,7 +164,7 @@ fn judge_pairs_of(s: &[u64], p: u32, held: Step) -> Step
         return held;
     }
     let mut r = held;
-    let mut q = LITERALS;
+    let mut q = cube::LITERALS;
     while q > p + 1 {
         q -= 1;
         r = judge_pair(s, p, q, r);
@@ -203,7 +178,7 @@ fn judge_pairs(s: &[u64], held: Step) -> Step
     ensures { λ r. ⌜ Adds (Cubes (cubesOf (now (s .entry)))) [] (pairsIn (from 0 128)) held r ⌝ }
 {
     let mut r = held;
-    let mut p = LITERALS;
+    let mut p = cube::LITERALS;
     while p > 0 {
         p -= 1;
         r = judge_pairs_of(s, p, r);
@@ -212,25 +187,6 @@ fn judge_pairs(s: &[u64], held: Step) -> Step
 }
 
 // ---- sums
-
-// Whether c is base and a, of a base that shares no literal with b, and base and b is a cube too.
-pub fn is_use(s: &[u64], c: Cube, a: Cube, b: Cube) -> bool
-    requires { ⌜ ordered (cubesOf (now s)) ≡ true ⌝ }
-    ensures { λ r. ⌜ r ≡ useOf (lits a) (lits b) (cubesOf (now (s .entry))) (lits c) ⌝ }
-{
-    if !cubes::contains(c, a) {
-        return false;
-    }
-    let base = cubes::without(c, a);
-    if !cubes::is_empty(cubes::common(base, b)) {
-        return false;
-    }
-    let f = expression::find(s, cubes::union(base, b));
-    match f {
-        Place::At(_) => true,
-        Place::Nothing => false,
-    }
-}
 
 // The uses of a sum in one node.
 fn count_in(s: &[u64], a: Cube, b: Cube) -> Counted
@@ -242,7 +198,7 @@ fn count_in(s: &[u64], a: Cube, b: Cube) -> Counted
     let mut i = 0;
     while i < expression::number(s) {
         let c = expression::cube_at(s, i);
-        if is_use(s, c, a, b) {
+        if divisor::is_use(s, c, a, b) {
             uses += 1;
             literals += cubes::count(cubes::without(c, a));
         }
@@ -278,7 +234,7 @@ fn is_used(s: &[u64], a: Cube, b: Cube) -> bool
 {
     let mut i = 0;
     while i < expression::number(s) {
-        if is_use(s, expression::cube_at(s, i), a, b) {
+        if divisor::is_use(s, expression::cube_at(s, i), a, b) {
             return true;
         }
         i += 1;
@@ -453,10 +409,10 @@ fn cubes_of(counts: &[usize], e: usize) -> usize
 // The best of all pairs and sums.
 fn choose(words: &[u64], counts: &[usize], e: usize) -> Step
     requires { ⌜ Orderly (now words) (now counts) e ⌝ }
-    ensures { λ r. ⌜ ((n : Net) → Nodes (nodesOf e (now (counts .entry)) (now (words .entry))) n → Leads n (candidates n) r) ⌝ }
+    ensures { λ r. ⌜ ((n : Net) → Nodes (nodesOf e (now (counts .entry)) (now (words .entry))) n → Wins n (candidates n) r) ⌝ }
 {
     let t = cubes_of(counts, e);
-    let r = judge_pairs(expression::part(words, 0, t), no_step());
+    let r = judge_pairs(expression::part(words, 0, t), divisor::no_step());
     judge_sums(words, counts, e, t, r)
 }
 
@@ -465,7 +421,7 @@ pub fn best(n: Network) -> Step
     ensures { λ r. ⌜ Chosen (chosenIn n) r ⌝ }
 {
     if !tidy::is_arranged(n) {
-        return no_step();
+        return divisor::no_step();
     }
     let words = n.words;
     let counts = n.counts;

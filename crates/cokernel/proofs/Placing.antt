@@ -17,8 +17,8 @@ same-room a b e = cubes-length a ∙ ap (λ n. n / 2) e ∙ sym (cubes-length b)
 pub placed-none : (ws : List ℕ) (i : ℕ) → Placed ws ws i []
 placed-none ws i = record { cubes = sym (take-append-drop i (cubesOf ws)); spare = refl }
 
-pub placed-one : {old new : List ℕ} {i : ℕ} {c : List ℕ} → i < length (cubesOf old) → Put old new i c → Placed old new i (c ∷ [])
-placed-one {old} {i = i} {c} h p = record { cubes = p .cubes ∙ set-split (cubesOf old) i c h ∙ rw (drop-drop 1 i (cubesOf old), add-one i); spare = p .spare }
+pub put-placed : {old new : List ℕ} {i : ℕ} {c : List ℕ} → i < length (cubesOf old) → Put old new i c → Placed old new i (c ∷ [])
+put-placed {old} {i = i} {c} h p = record { cubes = p .cubes ∙ set-split (cubesOf old) i c h ∙ rw (drop-drop 1 i (cubesOf old), add-one i); spare = p .spare }
 
 pub placed-written : {old new : List ℕ} {g : List (List ℕ)} → Placed old new 0 g → Written old new g
 placed-written p = record { cubes = p .cubes; spare = p .spare }
@@ -53,4 +53,4 @@ wrote-more {b = b} {c} {g = g} {h} fits p q = record {
 }
 
 pub wrote-one : {old new : List ℕ} {i : ℕ} {c : List ℕ} → i < length (cubesOf old) → Put old new i c → Wrote old new i (c ∷ []) (i + 1)
-wrote-one h p = record { next = refl; placed = placed-one h p }
+wrote-one h p = record { next = refl; placed = put-placed h p }

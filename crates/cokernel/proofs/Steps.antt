@@ -18,7 +18,7 @@ use Rattle.sets.proofs.Places.{drop-next}
 use Rattle.sets.proofs.Sets.{without-mem, all-mem, mem-all, sub-out}
 use Rattle.cube.specs.Cube.{width, joined}
 use Rattle.cokernel.specs.Cokernels.{above, common, isCokernel, opens, beyond}
-use Rattle.cokernel.specs.Parts.{only, Closed, Branched, Walks}
+use Rattle.cokernel.specs.Parts.{only, Shared, Branched, Walks}
 use Rattle.cokernel.proofs.Closing.{Cubes, Held, above-asc, common-above}
 use Rattle.cokernel.proofs.Walking.{Prefix, prefix-on, prefix-with, prefix-past, Alike, opens-out, opens-in}
 use Rattle.cokernel.proofs.Exactly.{beyond-none}
@@ -30,18 +30,18 @@ unfolding common
 common-cons d [] n m e h = rw e
 common-cons d (x ∷ a) n m e h = rw (ne-eqb n 0 (λ t. omega arith), h)
 
-pub closed-none : (f : Cubes) (c : List ℕ) (i : ℕ) (m : List ℕ) → i ≡ length f → m ≡ [] → Closed (drop i f) c 0 m
+pub closed-none : (f : Cubes) (c : List ℕ) (i : ℕ) (m : List ℕ) → i ≡ length f → m ≡ [] → Shared (drop i f) c 0 m
 unfolding common
 closed-none f c i m e h = let past : length f ≤ i = omega arith in rw (drop-of-length-le f past) (record { number = refl; common = h })
 
-module _ (f : Cubes) (c : List ℕ) (i n : ℕ) (m : List ℕ) (s : i < length f) (k : Closed (drop (i + 1) f) c n m) (d : List ℕ) (e : d ≡ getD f i []) where
-  pub closed-more : sub c d ≡ true → (r : List ℕ) → r ≡ cond (eqb n 0) d (meet d m) → Closed (drop i f) c (n + 1) r
+module _ (f : Cubes) (c : List ℕ) (i n : ℕ) (m : List ℕ) (s : i < length f) (k : Shared (drop (i + 1) f) c n m) (d : List ℕ) (e : d ≡ getD f i []) where
+  pub closed-more : sub c d ≡ true → (r : List ℕ) → r ≡ cond (eqb n 0) d (meet d m) → Shared (drop i f) c (n + 1) r
   closed-more t r u = rw (drop-next f i [] s, ← e) (record {
     number = rw t (omega (arith, k .number));
     common = rw t (u ∙ common-cons d (above (drop (i + 1) f) c) n m (k .number) (k .common));
   })
 
-  pub closed-same : sub c d ≡ false → Closed (drop i f) c n m
+  pub closed-same : sub c d ≡ false → Shared (drop i f) c n m
   closed-same t = rw (drop-next f i [] s, ← e) (record { number = rw t (k .number); common = rw t (k .common) })
 
 -- ---- no literal below j that the other lacks
@@ -89,7 +89,7 @@ cokernel-test f q = refl
 pub joined-inside : (j : ℕ) (p : List ℕ) → j < 2 * width → joined j p ≡ insert j p
 joined-inside j p h = rw (lt-ltb j (2 * width) h)
 
-module _ (n : ℕ) (f : Cubes) (g : Held n f) (p : List ℕ) (j : ℕ) (q : List ℕ) (e : q ≡ insert j p) (k : ℕ) (m : List ℕ) (c : Closed f q k m) where
+module _ (n : ℕ) (f : Cubes) (g : Held n f) (p : List ℕ) (j : ℕ) (q : List ℕ) (e : q ≡ insert j p) (k : ℕ) (m : List ℕ) (c : Shared f q k m) where
   pub branched : asc q ≡ true → (o b : Bool) → o ≡ (leb 2 k && all (leb j) (without m q)) → b ≡ (leb 2 k && same m q) → Branched f p j q m o b
   branched a o b t u = record { cube = e; common = c .common; opened = t ∙ opening; closed = u ∙ closing }
     where

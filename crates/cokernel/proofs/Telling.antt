@@ -15,7 +15,7 @@ use Rattle.expression.specs.Answers.{refusal}
 use Rattle.expression.proofs.Words.{fit, written-one}
 use Rattle.cokernel.specs.Cokernels.{beyond, cokernels}
 use Rattle.cokernel.specs.Answers.{refusedBy, Told}
-use Rattle.cokernel.specs.Parts.{only, Closed, Walks, Wrote}
+use Rattle.cokernel.specs.Parts.{only, Shared, Walks, Wrote}
 use Rattle.cokernel.specs.declared.Listed.{Listed}
 use Rattle.cokernel.specs.declared.Listed.the-variants.{All, Refused}
 use Rattle.cokernel.proofs.Closing.{Cubes}
@@ -23,7 +23,7 @@ use Rattle.cokernel.proofs.Walking.{prefix-none}
 use Rattle.cokernel.proofs.Steps.{cokernel-test, count-open}
 use Rattle.cokernel.proofs.Placing.{placed-written, wrote-more}
 
-module _ (f : Cubes) (p : List ℕ) (e : p ≡ []) (n : ℕ) (m : List ℕ) (c : Closed f p n m) where
+module _ (f : Cubes) (p : List ℕ) (e : p ≡ []) (n : ℕ) (m : List ℕ) (c : Shared f p n m) where
   pub walks-first : Walks f p m 0
   walks-first = record { inside = zero-le; low = rw e (prefix-none .low); common = c .common }
 

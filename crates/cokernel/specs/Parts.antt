@@ -14,7 +14,7 @@ abbrev pub only : Bool → List ℕ → List (List ℕ)
 only b c = cond b (c ∷ []) []
 
 -- n cubes contain c, and m is what they have in common
-pub record Closed (f : List (List ℕ)) (c : List ℕ) (n : ℕ) (m : List ℕ) : Type 0 where
+pub record Shared (f : List (List ℕ)) (c : List ℕ) (n : ℕ) (m : List ℕ) : Type 0 where
   pub number : n ≡ length (above f c)
   pub common : m ≡ common (above f c)
 

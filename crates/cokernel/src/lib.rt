@@ -14,10 +14,7 @@ ghost use Rattle.cube.specs.Cube.{width, lits};
 ghost use Rattle.expression.specs.Words.{cubesOf, Written};
 ghost use Rattle.cokernel.specs.Cokernels.{beyond, cokernels};
 ghost use Rattle.cokernel.specs.Answers.{refusedBy, Told};
-ghost use Rattle.cokernel.specs.Parts.{only, Closed, Branched, Walks, Wrote};
-
-// The literals of the variables that a cube has places for.
-const LITERALS: u32 = 128;
+ghost use Rattle.cokernel.specs.Parts.{only, Shared, Branched, Walks, Wrote};
 
 // The fewest cubes that contain a co-kernel.
 const FEWEST: usize = 2;
@@ -53,7 +50,7 @@ fn narrowed(number: usize, m: Cube, d: Cube) -> Cube
 
 // Closes c in one pass, from the last cube to the first.
 fn close(f: &[u64], c: Cube) -> Closure
-    ensures { λ r. ⌜ Closed (cubesOf (now (f .entry))) (lits c) (r .number) (lits (r .common)) ⌝ }
+    ensures { λ r. ⌜ Shared (cubesOf (now (f .entry))) (lits c) (r .number) (lits (r .common)) ⌝ }
 {
     let mut number = 0;
     let mut m = cube::empty();
@@ -137,7 +134,7 @@ fn count_beyond(f: &[u64], p: Cube, m: Cube, j: u32, most: usize) -> usize
     requires { ⌜ Walks (cubesOf (now f)) (lits p) (lits m) j ⌝ }
     ensures { λ r. ⌜ r ≡ min most (length (beyond (2 * width - j) (cubesOf (now (f .entry))) (lits p) j)) ⌝ }
 {
-    if j == LITERALS {
+    if j == cube::LITERALS {
         return 0;
     }
     if most == 0 {
@@ -175,7 +172,7 @@ fn write_beyond(f: &[u64], p: Cube, m: Cube, j: u32, o: &mut [u64], i: usize) ->
     requires room { ⌜ i + length (beyond (2 * width - j) (cubesOf (now f)) (lits p) j) ≤ length (cubesOf (now o)) ⌝ }
     ensures { λ r. ⌜ Wrote (now (o .entry)) (now (o .exit)) i (beyond (2 * width - j) (cubesOf (now (f .entry))) (lits p) j) r ⌝ }
 {
-    if j == LITERALS {
+    if j == cube::LITERALS {
         return i;
     }
     let b = branch_at(f, p, j);

@@ -7,8 +7,10 @@ ghost use Rattle.sets.specs.Literal.{plainOf, negatedOf, variableOf, polarityOf
 ghost use Rattle.sets.specs.Sets.{mem};
 ghost use Rattle.cube.specs.Cube.{lits, joined};
 
-// Places for variables in one mask.
+// Places for variables in one mask, and their literals.
 pub const VARIABLES: u32 = 64;
+
+pub const LITERALS: u32 = 128;
 
 // A variable's number and a literal's number are kept apart: two types, converted by doubling and polarity alone.
 pub struct Variable(pub u32);

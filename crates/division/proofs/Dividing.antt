@@ -2,21 +2,21 @@
 use Prim.Native.Nat.{ℕ, _+_, _*_, _<_}
 use mathlib.Core.Path.{_≡_, refl, sym, _∙_, ap, subst}
 use mathlib.Core.Logic.{_↔_, inl, inr}
-use mathlib.Core.Bool.{Bool, true, false, not, _&&_, _||_, or-comm}
-use mathlib.Core.List.{List, [], _∷_, map, List·Memᴰ·head as here, List·Memᴰ·tail as there, List·Memᴰ·not-nil, List·Memᴰ·eq-of-singleton, Memᴰ·cast}
+use mathlib.Core.Bool.{Bool, true, false, not, _&&_, _||_}
+use mathlib.Core.List.{List, [], _∷_, map, List·Memᴰ·head as here, List·Memᴰ·tail as there, List·Memᴰ·eq-of-singleton, Memᴰ·cast}
 use native.Mathlib.Omega.{arith}
 use lib.ListN.{length, length-map}
 use borrow.Author.Tests.{not-true}
 use Rattle.sets.specs.Lists.{any, all, total, keep, pairwise}
 use Rattle.sets.specs.Sets.{mem, sub, apart, asc, proper, union, without, same, before}
 use Rattle.sets.proofs.Truth.{iff, both, together, either, or-left, or-right, decided, clash, refuted}
-use Rattle.sets.proofs.Lists.{_∈_, any-in, any-out, all-out, keep-in, keep-out, map-in, map-out, total-split, total-or, total-same, ahead, pairwise-keep, pairwise-imp, pairwise-map}
+use Rattle.sets.proofs.Lists.{_∈_, any-in, any-out, all-in, all-out, keep-in, keep-out, keep-all, map-in, map-out, map-fixed, total-split, total-or, total-same, ahead, pairwise-keep, pairwise-imp, pairwise-map}
 use Rattle.sets.proofs.Orders.{before-order, ext-in}
-use Rattle.sets.proofs.Sets.{sub-in, apart-in, apart-out, union-mem, union-asc, union-all, union-left, union-comm, unjoin, ext, sub-antisym, sub-out, same-eq, same-self, eq-same}
+use Rattle.sets.proofs.Sets.{sub-in, apart-in, apart-out, union-mem, union-all, union-left, union-right, union-comm, without-apart, rejoin, unjoin, sub-antisym, sub-out, same-eq, same-self, eq-same}
 use Rattle.expression.specs.Expression.{isCube, loose, expression, sort, ordered}
 use Rattle.expression.proofs.Sorting.{sort-in, sort-out, total-sort, loose-differ, expression-sort}
-use Rattle.division.specs.Division.{quotient, product, remainder}
-use Rattle.division.proofs.Quotients.{cube-asc, Divides, quotient-in, quotient-out, quotient-form, product-in, product-out, remainder-in, remainder-out, remainder-form}
+use Rattle.division.specs.Division.{divides, leftOver, quotient, product, remainder}
+use Rattle.division.proofs.Quotients.{cube-asc, expression-keep, DividesAll, divides-in, quotient-in, quotient-out, quotient-form, product-in, product-out, remainder-in, remainder-out, remainder-form}
 
 module _ (f d : List (List ℕ)) (ef : expression f ≡ true) (ed : expression d ≡ true) where
   -- the quotient is every cube that shares no literal with any cube of d and whose union with each is in f
@@ -110,19 +110,23 @@ unfolding one
 ones [] = refl
 ones (c ∷ l) = omega (arith, ones l)
 
+keep-none : (l : List (List ℕ)) → keep (λ e. false) l ≡ []
+keep-none [] = refl
+keep-none (e ∷ l) = keep-none l
+
 module _ (f d : List (List ℕ)) (ef : expression f ≡ true) (ed : expression d ≡ true) where
   -- a cube that divides is known from one of its unions
-  factor-part : (c c′ b b′ : List ℕ) → Divides f d c → b ∈ d → b′ ∈ d → union c b ≡ union c′ b′ → sub c c′ ≡ true
+  factor-part : (c c′ b b′ : List ℕ) → DividesAll f d c → b ∈ d → b′ ∈ d → union c b ≡ union c′ b′ → sub c c′ ≡ true
   factor-part c c′ b b′ k i j e = sub-in c c′ (λ z m.
       elim (either (mem z c′) (mem z b′) (sym (union-mem z c′ b′) ∙ ap (mem z) (sym e) ∙ sub-out c (union c b) z (union-left c b) m)) [
         | inl t ↦ t
         | inr t ↦ clash t (apart-out c b′ z ((k b′ j) .0) m)
       ])
 
-  factor-left : (c c′ b b′ : List ℕ) → asc c ≡ true → asc c′ ≡ true → Divides f d c → Divides f d c′ → b ∈ d → b′ ∈ d → union c b ≡ union c′ b′ → c ≡ c′
+  factor-left : (c c′ b b′ : List ℕ) → asc c ≡ true → asc c′ ≡ true → DividesAll f d c → DividesAll f d c′ → b ∈ d → b′ ∈ d → union c b ≡ union c′ b′ → c ≡ c′
   factor-left c c′ b b′ a a′ k k′ i j e = sub-antisym c c′ a a′ (factor-part c c′ b b′ k i j e) (factor-part c′ c b′ b k′ j i (sym e))
 
-  factor-right : (c b b′ : List ℕ) → asc c ≡ true → Divides f d c → b ∈ d → b′ ∈ d → union c b ≡ union c b′ → b ≡ b′
+  factor-right : (c b b′ : List ℕ) → asc c ≡ true → DividesAll f d c → b ∈ d → b′ ∈ d → union c b ≡ union c b′ → b ≡ b′
   factor-right c b b′ a k i j e = sym (back b i) ∙ ap (λ z. without z c) e ∙ back b′ j
     where
       back : (b : List ℕ) → b ∈ d → without (union c b) c ≡ b
@@ -138,7 +142,7 @@ module _ (f d : List (List ℕ)) (ef : expression f ≡ true) (ed : expression d
   unions-out : (c e : List ℕ) → unions c e ≡ true → (b : List ℕ) × (b ∈ d) × (e ≡ union c b)
   unions-out c e h = let r = any-out (λ b. same e (union c b)) d h in (r .0, r .1, same-eq e (union c (r .0)) (r .2))
 
-  count-one : (c : List ℕ) → asc c ≡ true → Divides f d c → total one (keep (unions c) f) ≡ length d
+  count-one : (c : List ℕ) → asc c ≡ true → DividesAll f d c → total one (keep (unions c) f) ≡ length d
   unfolding one
   count-one c a k =
       total-same differ differ-flip differ-self one (keep (unions c) f) (map (union c) d)
@@ -148,14 +152,10 @@ module _ (f d : List (List ℕ)) (ef : expression f ≡ true) (ed : expression d
       (λ e m. let r = map-out (union c) d m in Memᴰ·cast (r .2) (keep-in (unions c) ((k (r .0) (r .1)) .1) (any-in (λ b. same (union c (r .0)) (union c b)) (r .1) (same-self (union c (r .0))))))
       ∙ ones (map (union c) d) ∙ length-map d (union c)
 
-  count-all : (q : List (List ℕ)) → pairwise differ q ≡ true → ((c : List ℕ) → c ∈ q → asc c ≡ true) → ((c : List ℕ) → c ∈ q → Divides f d c)
+  count-all : (q : List (List ℕ)) → pairwise differ q ≡ true → ((c : List ℕ) → c ∈ q → asc c ≡ true) → ((c : List ℕ) → c ∈ q → DividesAll f d c)
       → total one (keep (product q d) f) ≡ length q * length d
   unfolding product
-  count-all [] h a k = keep-none f
-    where
-      keep-none : (l : List (List ℕ)) → total one (keep (λ e. false) l) ≡ 0 * length d
-      keep-none [] = omega arith
-      keep-none (e ∷ l) = keep-none l
+  count-all [] h a k = rw (keep-none f) (omega arith)
   count-all (c ∷ q) h a k =
       let w = ahead differ c q h in
       total-or one (unions c) (product q d) f (λ e m s t.
@@ -175,38 +175,46 @@ module _ (f d : List (List ℕ)) (ef : expression f ≡ true) (ed : expression d
       ∙ rw (count-all q (differ-all q ((quotient-form f d ef ed) .0)) (λ c m. cube-asc q ((quotient-form f d ef ed) .0) m) (quotient-out f d))
       (ap (length q * length d +_) (sym (total-sort one (keep (λ e. not (p e)) f)) ∙ ones (sort (keep (λ e. not (p e)) f))))
 
+-- ---- division by one cube
+
+module _ (f : List (List ℕ)) (c : List ℕ) (ef : expression f ≡ true) (ec : expression (c ∷ []) ≡ true) where
+  ac : asc c ≡ true
+  ac = cube-asc (c ∷ []) ec (here refl)
+
+  -- what is left of the cubes that contain it
+  pub quotient-cube : quotient f (c ∷ []) ≡ sort (leftOver f c)
+  unfolding quotient
+  quotient-cube = ap sort (keep-all (divides f (c ∷ [])) (leftOver f c) (all-in (divides f (c ∷ [])) (leftOver f c) (λ x m.
+      let (e, i, h) = map-out (λ e. without e c) (keep (sub c) f) m in
+      let (j, s) = keep-out (sub c) f i in
+      divides-in f (c ∷ []) x (λ b k. rw (List·Memᴰ·eq-of-singleton k, h) (without-apart e c, Memᴰ·cast (rejoin e c (cube-asc f ef j) ac s) j)))))
+
+  -- and the cubes that do not
+  pub remainder-cube : remainder f (c ∷ []) ≡ sort (keep (λ e. not (sub c e)) f)
+  remainder-cube = sym (remainder-only f (c ∷ []) ef ec _ (expression-sort _ (expression-keep (λ e. not (sub c e)) f ef) .1) (λ e. (
+    (λ m. let (i, s) = keep-out (λ e. not (sub c e)) f (sort-out _ m) in
+        (i, λ x b j k h. clash (subst (λ z. sub c z ≡ true) (sym (h ∙ ap (union x) (List·Memᴰ·eq-of-singleton k))) (union-right x c)) (not-true _ s))),
+    (λ (i, k). sort-in (keep-in (λ e. not (sub c e)) i (ap not (refuted (λ s.
+        k (without e c) c (rw quotient-cube (sort-in (map-in (λ e. without e c) (keep-in (sub c) i s)))) (here refl) (sym (rejoin e c (cube-asc f ef i) ac s))))))),
+  )))
+
 -- ---- division by constant 1
 
 unit : expression ([] ∷ []) ≡ true
 unfolding proper
 unit = refl
 
-union-none : (c : List ℕ) → asc c ≡ true → union c [] ≡ c
-unfolding mem
-union-none c a = ext (union c []) c (union-asc c [] refl) a (λ z. union-mem z c [] ∙ or-comm (mem z c) false)
+left-whole : (f : List (List ℕ)) → leftOver f [] ≡ f
+unfolding sub without mem
+left-whole f = ap (map (λ e. without e [])) (keep-all (sub []) f (all-in (sub []) f (λ e m. refl)))
+    ∙ map-fixed (λ e. without e []) f (λ e m. keep-all (λ l. not (mem l [])) e (all-in (λ l. not (mem l [])) e (λ l i. refl)))
 
 module _ (f : List (List ℕ)) (ef : expression f ≡ true) where
-  unit-out : (c : List ℕ) → c ∈ quotient f ([] ∷ []) → c ∈ f
-  unit-out c m =
-      let a = cube-asc (quotient f ([] ∷ [])) (quotient-expression f ([] ∷ []) ef unit) m in
-      Memᴰ·cast (sym (union-none c a)) ((quotient-out f ([] ∷ []) c m [] (here refl)) .1)
-
-  unit-in : (c : List ℕ) → c ∈ f → c ∈ quotient f ([] ∷ [])
-  unfolding mem
-  unit-in c m = quotient-in f ([] ∷ []) c ef unit (omega arith) a (λ b i.
-      let e = List·Memᴰ·eq-of-singleton i in (rw e (apart-in c [] (λ z t. refl)), rw e (Memᴰ·cast (union-none c a) m)))
-    where
-      a : asc c ≡ true
-      a = cube-asc f ef m
-
   -- f over 1 is f, in cube order
   pub quotient-one : quotient f ([] ∷ []) ≡ sort f
-  quotient-one = ext-in before before-order (quotient f ([] ∷ [])) (sort f) (quotient-ordered f ([] ∷ []) ef unit) ((expression-sort f ef) .1)
-      (λ c m. sort-in (unit-out c m)) (λ c m. unit-in c (sort-out f m))
+  quotient-one = quotient-cube f [] ef unit ∙ ap sort (left-whole f)
 
   -- with no remainder
   pub remainder-one : remainder f ([] ∷ []) ≡ []
-  remainder-one = ext-in before before-order (remainder f ([] ∷ [])) [] (remainder-ordered f ([] ∷ []) ef unit) refl
-      (λ e m. let r = remainder-out f ([] ∷ []) e m in
-      clash (product-in (quotient f ([] ∷ [])) ([] ∷ []) e e [] (unit-in e (r .0)) (here refl) (sym (union-none e (cube-asc f ef (r .0))))) (r .1))
-      (λ e m. absurd (List·Memᴰ·not-nil m))
+  unfolding sub sort
+  remainder-one = remainder-cube f [] ef unit ∙ ap sort (keep-none f)

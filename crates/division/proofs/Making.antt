@@ -1,16 +1,15 @@
 -- What the parts of a division compute is the quotient and the remainder: the lists made of the dividend in cube order. Assumes nothing.
-use Prim.Native.Nat.{ℕ, _+_, _<_, _≤_}
+use Prim.Native.Nat.{ℕ, _<_, _≤_}
 use mathlib.Core.Path.{_≡_, refl, sym, _∙_, ap, subst}
-use mathlib.Core.Bool.{Bool, true, false, not, _&&_}
+use mathlib.Core.Bool.{Bool, true, not, _&&_}
 use mathlib.Core.List.{List, [], _∷_}
 use native.Mathlib.Omega.{arith}
-use lib.ListN.{length, getD, drop, length-map}
+use lib.ListN.{length, length-map}
 use borrow.Author.Tests.{not-true}
 use Rattle.sets.specs.Lists.{keep}
 use Rattle.sets.specs.Sets.{sub, asc, without, before}
 use Rattle.sets.proofs.Truth.{iff, both, together, clash, refuted}
 use Rattle.sets.proofs.Lists.{all-in, all-out, keep-in, keep-out, keep-all, keep-le, pairwise-keep}
-use Rattle.sets.proofs.Places.{drop-next}
 use Rattle.sets.proofs.Orders.{before-order, ext-in}
 use Rattle.sets.proofs.Sets.{rejoin, unjoin, union-right}
 use Rattle.expression.specs.Expression.{expression, has, sort}
@@ -33,24 +32,6 @@ module _ (f d : List (List ℕ)) (first : List ℕ) where
   pub given-length : (l : List (List ℕ)) → length (given l) ≤ length l
   given-length l =
       omega (arith, keep-length (divides f d) (leftOver l first), length-map (keep (sub first) l) (λ e. without e first), keep-length (sub first) l)
-
-  module _ (l : List (List ℕ)) (i : ℕ) (h : i < length l) (e : List ℕ) (at : e ≡ getD l i []) where
-    pub given-lacks : sub first e ≡ false → given (drop i l) ≡ given (drop (i + 1) l)
-    given-lacks s = rw (drop-next l i [] h, ← at, s)
-
-    module _ (s : sub first e ≡ true) (c : List ℕ) (left : c ≡ without e first) where
-      pub given-none : divides f d c ≡ false → given (drop i l) ≡ given (drop (i + 1) l)
-      given-none t = rw (drop-next l i [] h, ← at, s, ← left, t)
-
-      pub given-one : divides f d c ≡ true → given (drop i l) ≡ c ∷ given (drop (i + 1) l)
-      given-one t = rw (drop-next l i [] h, ← at, s, ← left, t)
-
-module _ (p : List ℕ → Bool) (l : List (List ℕ)) (i : ℕ) (h : i < length l) (e : List ℕ) (at : e ≡ getD l i []) where
-  pub kept-none : p e ≡ false → keep p (drop i l) ≡ keep p (drop (i + 1) l)
-  kept-none s = rw (drop-next l i [] h, ← at, s)
-
-  pub kept-one : p e ≡ true → keep p (drop i l) ≡ e ∷ keep p (drop (i + 1) l)
-  kept-one s = rw (drop-next l i [] h, ← at, s)
 
 -- ---- the quotient and the remainder, of the dividend in cube order
 

@@ -34,14 +34,14 @@ expression-keep p f h =
 
 -- ---- what divides
 
-abbrev pub Divides : List (List ℕ) → List (List ℕ) → List ℕ → Type 0
-Divides f d c = (b : List ℕ) → b ∈ d → (apart c b ≡ true) × (union c b ∈ f)
+abbrev pub DividesAll : List (List ℕ) → List (List ℕ) → List ℕ → Type 0
+DividesAll f d c = (b : List ℕ) → b ∈ d → (apart c b ≡ true) × (union c b ∈ f)
 
-pub divides-in : (f d : List (List ℕ)) (c : List ℕ) → Divides f d c → divides f d c ≡ true
+pub divides-in : (f d : List (List ℕ)) (c : List ℕ) → DividesAll f d c → divides f d c ≡ true
 unfolding divides
 divides-in f d c k = all-in (λ b. apart c b && has (union c b) f) d (λ b m. together _ _ ((k b m) .0) (has-in ((k b m) .1)))
 
-pub divides-out : (f d : List (List ℕ)) (c : List ℕ) → divides f d c ≡ true → Divides f d c
+pub divides-out : (f d : List (List ℕ)) (c : List ℕ) → divides f d c ≡ true → DividesAll f d c
 unfolding divides
 divides-out f d c h b m =
     let q = both (apart c b) (has (union c b) f) (all-out (λ b. apart c b && has (union c b) f) m h) in
@@ -92,14 +92,14 @@ module _ (f : List (List ℕ)) (c : List ℕ) (ef : expression f ≡ true) (ac :
 
 -- ---- the quotient
 
-pub quotient-in : (f d : List (List ℕ)) (x : List ℕ) → expression f ≡ true → expression d ≡ true → 0 < length d → asc x ≡ true → Divides f d x → x ∈ quotient f d
+pub quotient-in : (f d : List (List ℕ)) (x : List ℕ) → expression f ≡ true → expression d ≡ true → 0 < length d → asc x ≡ true → DividesAll f d x → x ∈ quotient f d
 unfolding quotient
 quotient-in f [] x ef ed n a k = absurd (omega arith)
 quotient-in f (c ∷ d) x ef ed n a k =
     let h = k c (here refl) in
     sort-in (keep-in (divides f (c ∷ d)) (left-in f c ef (cube-asc (c ∷ d) ed (here refl)) x a (h .0) (h .1)) (divides-in f (c ∷ d) x k))
 
-pub quotient-out : (f d : List (List ℕ)) (x : List ℕ) → x ∈ quotient f d → Divides f d x
+pub quotient-out : (f d : List (List ℕ)) (x : List ℕ) → x ∈ quotient f d → DividesAll f d x
 unfolding quotient
 quotient-out f [] x m b i = absurd (List·Memᴰ·not-nil i)
 quotient-out f (c ∷ d) x m b i = divides-out f (c ∷ d) x ((keep-out (divides f (c ∷ d)) (leftOver f c) (sort-out _ m)) .1) b i

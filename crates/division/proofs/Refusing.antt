@@ -13,7 +13,7 @@ use Rattle.sets.proofs.Truth.{both, or-right}
 use Rattle.sets.proofs.First.{some-not-none}
 use Rattle.expression.specs.Words.{cubesOf, spareOf, Written}
 use Rattle.expression.specs.Expression.{expression}
-use Rattle.expression.specs.Answers.{mostCubes, refusal, refusedBy as refusalOf}
+use Rattle.expression.specs.Answers.{mostHanded, refusal, refusalOf}
 use Rattle.expression.specs.declared.Verdict.{Verdict}
 use Rattle.expression.specs.declared.Verdict.the-variants.{Accepted, Refused}
 use Rattle.expression.proofs.Words.{cubes-length}
@@ -66,18 +66,18 @@ module _ (d : List ℕ) where
 
 pub record Accepting (ws : List ℕ) : Type 0 where
   pub cubes : expression (cubesOf ws) ≡ true
-  pub few : length (cubesOf ws) ≤ mostCubes
+  pub few : length (cubesOf ws) ≤ mostHanded
 
 accepting : (ws : List ℕ) → refusal ws ≡ none → Accepting ws
 unfolding refusal
-accepting ws h = go (ltb (2 * mostCubes) (length ws)) refl (isNil (spareOf ws) && expression (cubesOf ws)) refl h
+accepting ws h = go (ltb (2 * mostHanded) (length ws)) refl (isNil (spareOf ws) && expression (cubesOf ws)) refl h
   where
-    go : (s : Bool) → ltb (2 * mostCubes) (length ws) ≡ s → (t : Bool) → (isNil (spareOf ws) && expression (cubesOf ws)) ≡ t
+    go : (s : Bool) → ltb (2 * mostHanded) (length ws) ≡ s → (t : Bool) → (isNil (spareOf ws) && expression (cubesOf ws)) ≡ t
         → cond {A = Option ℕ} s (some 6) (cond t none (some 7)) ≡ none → Accepting ws
     go true e t k h = some-not-none (some 6) refl h
     go false e true k h = record {
       cubes = (both (isNil (spareOf ws)) (expression (cubesOf ws)) k) .1;
-      few = omega (arith, ltb-false (2 * mostCubes) (length ws) e, cubes-length ws);
+      few = omega (arith, ltb-false (2 * mostHanded) (length ws) e, cubes-length ws);
     }
     go false e false k h = some-not-none (some 7) refl h
 

@@ -10,7 +10,7 @@ use Rattle.expression.specs.Expression.{sort, ordered}
 use Rattle.expression.proofs.Words.{cubes-length}
 use Rattle.expression.proofs.Sorting.{sort-length, expression-sort}
 use Rattle.division.specs.Division.{quotient, remainder}
-use Rattle.division.specs.Parts.{Ready, Listed, divisors, spared}
+use Rattle.division.specs.Parts.{OrderedRoom, ListedFront, divisors, spared}
 use Rattle.division.proofs.Quotients.{quotient-form}
 use Rattle.division.proofs.Making.{made-quotient, made-remainder}
 use Rattle.division.proofs.Refusing.{Admitted}
@@ -30,19 +30,19 @@ module _ {f d : List ℕ} (m : Admitted f d) where
     pub sorted-room : length (cubesOf s) ≤ length (cubesOf blank)
     sorted-room = subst (λ g. length g ≤ length (cubesOf blank)) (sym e) (subst (λ n. n ≤ length (cubesOf blank)) (sym (sort-length (cubesOf f))) blank-room)
 
-    pub sorted-ready : Ready s blank
+    pub sorted-ready : OrderedRoom s blank
     sorted-ready = record { order = rw e ((expression-sort (cubesOf f) (m .dividend .cubes)) .1); room = sorted-room }
 
-    pub listed-quotient : {old new : List ℕ} {n : ℕ} → Listed old new n (sort (divisors (cubesOf s) (cubesOf d))) → Listed old new n (quotient (cubesOf f) (cubesOf d))
+    pub listed-quotient : {old new : List ℕ} {n : ℕ} → ListedFront old new n (sort (divisors (cubesOf s) (cubesOf d))) → ListedFront old new n (quotient (cubesOf f) (cubesOf d))
     listed-quotient {old} {new} {n} l =
-        subst (λ g. Listed old new n g) (ap (λ g. sort (divisors g (cubesOf d))) e ∙ made-quotient (cubesOf f) (cubesOf d) (m .dividend .cubes) (m .divisor .cubes) (m .some)) l
+        subst (λ g. ListedFront old new n g) (ap (λ g. sort (divisors g (cubesOf d))) e ∙ made-quotient (cubesOf f) (cubesOf d) (m .dividend .cubes) (m .divisor .cubes) (m .some)) l
 
     module _ (q : List ℕ) (h : cubesOf q ≡ quotient (cubesOf f) (cubesOf d)) where
       pub quotient-order : ordered (cubesOf q) ≡ true
       quotient-order = rw h ((quotient-form (cubesOf f) (cubesOf d) (m .dividend .cubes) (m .divisor .cubes)) .1)
 
-      pub listed-remainder : {old new : List ℕ} {n : ℕ} → Listed old new n (keep (spared (cubesOf q) (cubesOf d)) (cubesOf s)) → Listed old new n (remainder (cubesOf f) (cubesOf d))
+      pub listed-remainder : {old new : List ℕ} {n : ℕ} → ListedFront old new n (keep (spared (cubesOf q) (cubesOf d)) (cubesOf s)) → ListedFront old new n (remainder (cubesOf f) (cubesOf d))
       listed-remainder {old} {new} {n} l =
-          subst (λ g. Listed old new n g)
+          subst (λ g. ListedFront old new n g)
           (ap (λ g. keep (spared g (cubesOf d)) (cubesOf s)) h ∙ ap (keep (spared (quotient (cubesOf f) (cubesOf d)) (cubesOf d))) e
           ∙ made-remainder (cubesOf f) (cubesOf d) (m .dividend .cubes) (m .divisor .cubes) (m .some)) l

@@ -25,12 +25,12 @@ unfoldable pub admitted : List ℕ → List ℕ → Option ℕ
 admitted f d = orElse (either (refusal f) (refusal d)) (noCubes d)
 
 -- the cubes f stand in cube order, and there is room for as many
-pub record Ready (f to : List ℕ) : Type 0 where
+pub record OrderedRoom (f to : List ℕ) : Type 0 where
   pub order : ordered (cubesOf f) ≡ true
   pub room : length (cubesOf f) ≤ length (cubesOf to)
 
 -- the cubes f stand at the front, and n is their number
-pub record Listed (old new : List ℕ) (n : ℕ) (f : List (List ℕ)) : Type 0 where
+pub record ListedFront (old new : List ℕ) (n : ℕ) (f : List (List ℕ)) : Type 0 where
   pub count : n ≡ length f
   pub written : Written old new f
 

@@ -11,13 +11,10 @@ ghost use Rattle.sets.specs.Sets.{sub, apart, union, without};
 ghost use Rattle.cube.specs.Cube.{lits};
 ghost use Rattle.expression.specs.Words.{cubesOf};
 ghost use Rattle.expression.specs.Expression.{has, sort, ordered};
-ghost use Rattle.expression.specs.Answers.{refusedBy as refusalOf};
+ghost use Rattle.expression.specs.Answers.{refusalOf};
 ghost use Rattle.division.specs.Division.{divides};
 ghost use Rattle.division.specs.Answers.{either, refusedBy, Told};
-ghost use Rattle.division.specs.Parts.{noCubes, admitted, Ready, Listed, divisors, spared, cramped, Handed};
-
-// Two words for each of 1,024 cubes.
-const WORDS: usize = 2048;
+ghost use Rattle.division.specs.Parts.{noCubes, admitted, OrderedRoom, ListedFront, divisors, spared, cramped, Handed};
 
 pub enum Division {
     Done(usize, usize),
@@ -75,7 +72,7 @@ fn admit(f: &[u64], d: &[u64]) -> Verdict
 // The cubes of s at the front of `to`, in their order, and their number.
 fn copy(s: &[u64], to: &mut [u64]) -> usize
     requires { ⌜ length (cubesOf (now s)) ≤ length (cubesOf (now to)) ⌝ }
-    ensures { λ r. ⌜ Listed (now (to .entry)) (now (to .exit)) r (cubesOf (now (s .entry))) ⌝ }
+    ensures { λ r. ⌜ ListedFront (now (to .entry)) (now (to .exit)) r (cubesOf (now (s .entry))) ⌝ }
 {
     let n = expression::number(s);
     let mut i = 0;
@@ -89,18 +86,21 @@ fn copy(s: &[u64], to: &mut [u64]) -> usize
 // The same, in cube order.
 fn copy_sorted(s: &[u64], to: &mut [u64]) -> usize
     requires { ⌜ length (cubesOf (now s)) ≤ length (cubesOf (now to)) ⌝ }
-    ensures { λ r. ⌜ Listed (now (to .entry)) (now (to .exit)) r (sort (cubesOf (now (s .entry)))) ⌝ }
+    ensures { λ r. ⌜ ListedFront (now (to .entry)) (now (to .exit)) r (sort (cubesOf (now (s .entry)))) ⌝ }
 {
     let n = copy(s, to);
     sorting::sort_part(to, 0, n);
     n
 }
 
-// Whether c is one of the cubes, which stand in cube order.
-fn holds(s: &[u64], c: Cube) -> bool
+// Whether a test is passed and c is one of the cubes, which stand in cube order.
+fn holds(passed: bool, s: &[u64], c: Cube) -> bool
     requires { ⌜ ordered (cubesOf (now s)) ≡ true ⌝ }
-    ensures { λ r. ⌜ r ≡ has (lits c) (cubesOf (now (s .entry))) ⌝ }
+    ensures { λ r. ⌜ r ≡ (passed && has (lits c) (cubesOf (now (s .entry)))) ⌝ }
 {
+    if !passed {
+        return false;
+    }
     let p = expression::find(s, c);
     match p {
         Place::At(_) => true,
@@ -113,10 +113,7 @@ fn fits(f: &[u64], c: Cube, b: Cube) -> bool
     requires { ⌜ ordered (cubesOf (now f)) ≡ true ⌝ }
     ensures { λ r. ⌜ r ≡ (apart (lits c) (lits b) && has (union (lits c) (lits b)) (cubesOf (now (f .entry)))) ⌝ }
 {
-    if !cubes::is_empty(cubes::common(c, b)) {
-        return false;
-    }
-    holds(f, cubes::union(c, b))
+    holds(cubes::is_empty(cubes::common(c, b)), f, cubes::union(c, b))
 }
 
 // Whether c fits each cube of d.
@@ -136,8 +133,8 @@ fn fits_all(f: &[u64], d: &[u64], c: Cube) -> bool
 
 // What is left of each cube of f without the first cube of d, where it fits all of d.
 fn list_quotient(f: &[u64], d: &[u64], to: &mut [u64]) -> usize
-    requires { ⌜ Ready (now f) (now to) ⌝ }
-    ensures { λ r. ⌜ Listed (now (to .entry)) (now (to .exit)) r (divisors (cubesOf (now (f .entry))) (cubesOf (now (d .entry)))) ⌝ }
+    requires { ⌜ OrderedRoom (now f) (now to) ⌝ }
+    ensures { λ r. ⌜ ListedFront (now (to .entry)) (now (to .exit)) r (divisors (cubesOf (now (f .entry))) (cubesOf (now (d .entry)))) ⌝ }
 {
     let first = expression::cube_at(d, 0);
     let n = expression::number(f);
@@ -161,8 +158,8 @@ fn list_quotient(f: &[u64], d: &[u64], to: &mut [u64]) -> usize
 
 // The same, in cube order.
 fn list_quotient_sorted(f: &[u64], d: &[u64], to: &mut [u64]) -> usize
-    requires { ⌜ Ready (now f) (now to) ⌝ }
-    ensures { λ r. ⌜ Listed (now (to .entry)) (now (to .exit)) r (sort (divisors (cubesOf (now (f .entry))) (cubesOf (now (d .entry))))) ⌝ }
+    requires { ⌜ OrderedRoom (now f) (now to) ⌝ }
+    ensures { λ r. ⌜ ListedFront (now (to .entry)) (now (to .exit)) r (sort (divisors (cubesOf (now (f .entry))) (cubesOf (now (d .entry))))) ⌝ }
 {
     let k = list_quotient(f, d, to);
     sorting::sort_part(to, 0, k);
@@ -174,10 +171,7 @@ fn is_made_with(q: &[u64], b: Cube, e: Cube) -> bool
     requires { ⌜ ordered (cubesOf (now q)) ≡ true ⌝ }
     ensures { λ r. ⌜ r ≡ (sub (lits b) (lits e) && has (without (lits e) (lits b)) (cubesOf (now (q .entry)))) ⌝ }
 {
-    if !cubes::contains(e, b) {
-        return false;
-    }
-    holds(q, cubes::without(e, b))
+    holds(cubes::contains(e, b), q, cubes::without(e, b))
 }
 
 // Whether that is so of no cube of d.
@@ -198,7 +192,7 @@ fn is_spared(q: &[u64], d: &[u64], e: Cube) -> bool
 // The cubes of f that are spared, in their order.
 fn list_spared(f: &[u64], q: &[u64], d: &[u64], to: &mut [u64]) -> usize
     requires { ⌜ length (cubesOf (now f)) ≤ length (cubesOf (now to)) ⌝ ∗ ⌜ ordered (cubesOf (now q)) ≡ true ⌝ }
-    ensures { λ r. ⌜ Listed (now (to .entry)) (now (to .exit)) r (keep (spared (cubesOf (now (q .entry))) (cubesOf (now (d .entry)))) (cubesOf (now (f .entry)))) ⌝ }
+    ensures { λ r. ⌜ ListedFront (now (to .entry)) (now (to .exit)) r (keep (spared (cubesOf (now (q .entry))) (cubesOf (now (d .entry)))) (cubesOf (now (f .entry)))) ⌝ }
 {
     let n = expression::number(f);
     let mut kept = 0;
@@ -240,13 +234,13 @@ pub fn divide(f: &[u64], d: &[u64], q: &mut [u64], r: &mut [u64]) -> Division
     if let Verdict::Refused(k) = v {
         return Division::Refused(k);
     }
-    let mut dividend = [0u64; WORDS];
+    let mut dividend = [0u64; accepting::WORDS];
     let n = copy_sorted(f, &mut dividend);
     let cubes = expression::part(&dividend, 0, n);
-    let mut quotient = [0u64; WORDS];
+    let mut quotient = [0u64; accepting::WORDS];
     let k = list_quotient_sorted(cubes, d, &mut quotient);
     let whole = expression::part(&quotient, 0, k);
-    let mut remainder = [0u64; WORDS];
+    let mut remainder = [0u64; accepting::WORDS];
     let m = list_spared(cubes, whole, d, &mut remainder);
     let rest = expression::part(&remainder, 0, m);
     hand_over(whole, rest, q, r)

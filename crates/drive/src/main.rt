@@ -1,6 +1,6 @@
 // Answers requests of the line protocol, a line for a line, from standard input to standard output.
 use libc::STDIN_FILENO;
-use libc::STDOUT_FILENO;
+use network::Network;
 use wire::Groups;
 use wire::Word;
 
@@ -10,60 +10,91 @@ struct Coming {
     long: bool,
 }
 
-// An operation with an argument, which stands at a..e.
-fn answer_with(line: &[u8], g: Groups, a: usize, e: usize, out: &mut [u8]) -> usize {
-    let groups = g.count;
-    let name = wire::first_word(line);
-    if groups == 1 {
-        if wire::is_word(line, 0, name, b"table") {
-            return tables::on_table(line, a, e, out);
-        }
-        if wire::is_word(line, 0, name, b"read") {
-            return images::on_read(line, a, e, out);
-        }
-        if wire::is_word(line, 0, name, b"report") {
-            return tables::on_report(line, a, e, out);
-        }
+// An operation on bytes.
+fn answer_bytes(name: &[u8], bytes: &[u8], out: &mut [u8]) -> usize {
+    if check::same(name, b"table") {
+        return tables::on_table(bytes, out);
     }
-    if groups == 4 {
-        let x = wire::number(line, a, e);
-        let Word::Is(v) = x else {
-            return wire::put_none(out);
-        };
-        if wire::is_word(line, 0, name, b"evaluate") {
-            return tables::on_evaluate(line, g, v, out);
-        }
-        if wire::is_word(line, 0, name, b"extract") {
-            return runs::on_extract(line, g, v, out);
-        }
+    if check::same(name, b"read") {
+        return images::on_read(bytes, out);
+    }
+    if check::same(name, b"report") {
+        return tables::on_report(bytes, out);
     }
     wire::put_none(out)
 }
 
-// An operation without one.
-fn answer_without(line: &[u8], g: Groups, out: &mut [u8]) -> usize {
-    let groups = g.count;
-    let name = wire::first_word(line);
-    if groups == 4 {
-        if wire::is_word(line, 0, name, b"literals") {
-            return tables::on_literals(line, g, out);
-        }
+fn on_bytes(head: &[u8], out: &mut [u8]) -> usize {
+    let mut room = [0u8; 131072];
+    let got = wire::bytes(wire::rest(head), &mut room);
+    if !got.ok {
+        return wire::put_none(out);
     }
-    if groups == 5 {
-        if wire::is_word(line, 0, name, b"divide") {
-            return ask::on_divide(line, g, out);
-        }
-        if wire::is_word(line, 0, name, b"write") {
-            return images::on_write(line, g, out);
-        }
+    let n = got.count;
+    answer_bytes(wire::first(head), &room[0..n], out)
+}
+
+// An operation on an expression: of five groups, a division.
+fn answer_expression(line: &[u8], g: Groups, head: &[u8], f: &[u64], out: &mut [u8]) -> usize {
+    let second = wire::group(line, g, 2);
+    if g.count == 5 {
+        return ask::on_divide(
+            f,
+            second,
+            wire::group(line, g, 3),
+            wire::group(line, g, 4),
+            out,
+        );
     }
-    if groups == 3 {
-        if wire::is_word(line, 0, name, b"cokernels") {
-            return ask::on_cokernels(line, g, out);
-        }
-        if wire::is_word(line, 0, name, b"factored") {
-            return tell::on_factored(line, g, out);
-        }
+    if check::same(head, b"cokernels") {
+        return ask::on_cokernels(f, second, out);
+    }
+    if check::same(head, b"factored") {
+        return tell::on_factored(f, second, out);
+    }
+    wire::put_none(out)
+}
+
+fn on_expression(line: &[u8], g: Groups, head: &[u8], out: &mut [u8]) -> usize {
+    let mut pool = [0u64; 131072];
+    let got = wire::numbers(wire::group(line, g, 1), &mut pool);
+    if !got.ok {
+        return wire::put_none(out);
+    }
+    let n = got.count;
+    answer_expression(line, g, head, &pool[0..n], out)
+}
+
+// An operation on a network.
+fn answer_net(head: &[u8], n: Network, out: &mut [u8]) -> usize {
+    if check::same(head, b"literals") {
+        return nets::put_answer(out, network::literals(n));
+    }
+    let x = wire::number(wire::rest(head));
+    let Word::Is(v) = x else {
+        return wire::put_none(out);
+    };
+    let name = wire::first(head);
+    if check::same(name, b"evaluate") {
+        return nets::put_answer(out, network::evaluate(n, v));
+    }
+    if check::same(name, b"extract") {
+        return runs::on_extract(n, v, out);
+    }
+    wire::put_none(out)
+}
+
+fn on_net(line: &[u8], g: Groups, head: &[u8], out: &mut [u8]) -> usize {
+    let got = nets::read_net(line, g);
+    if !got.ok {
+        return wire::put_none(out);
+    }
+    let n = got.network;
+    if g.count == 4 {
+        return answer_net(head, n, out);
+    }
+    if check::same(head, b"write") {
+        return images::on_write(n, wire::group(line, g, 4), out);
     }
     wire::put_none(out)
 }
@@ -72,22 +103,20 @@ fn answer_without(line: &[u8], g: Groups, out: &mut [u8]) -> usize {
 fn answer(line: &[u8], out: &mut [u8]) -> usize {
     let g = wire::split(line);
     let groups = g.count;
-    if groups == 0 {
-        return wire::put_none(out);
+    let head = wire::group(line, g, 0);
+    if groups == 1 {
+        return on_bytes(head, out);
     }
-    let to = g.to[0];
-    let name = wire::first_word(line);
-    if name < to {
-        return answer_with(line, g, name + 1, to, out);
+    if groups == 3 {
+        return on_expression(line, g, head, out);
     }
-    answer_without(line, g, out)
-}
-
-// The first n bytes of out are written.
-fn send(out: &[u8], n: usize) {
-    if n <= out.len() {
-        io::write_all(STDOUT_FILENO, &out[0..n]);
+    if groups == 5 && check::same(head, b"divide") {
+        return on_expression(line, g, head, out);
     }
+    if groups == 4 || groups == 5 {
+        return on_net(line, g, head, out);
+    }
+    wire::put_none(out)
 }
 
 // A line has ended: it is answered.
@@ -95,14 +124,12 @@ fn respond(line: &[u8], c: Coming, out: &mut [u8]) {
     let length = c.length;
     if c.long {
         let n = wire::put_none(out);
-        let m = wire::put(out, n, 10);
-        send(out, m);
+        line::end(out, n);
         return;
     }
     if length <= line.len() {
         let n = answer(&line[0..length], out);
-        let m = wire::put(out, n, 10);
-        send(out, m);
+        line::end(out, n);
     }
 }
 

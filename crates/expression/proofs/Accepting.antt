@@ -16,7 +16,7 @@ use Rattle.sets.proofs.First.{some-not-none}
 use Rattle.sets.proofs.Lists.{_∈_, all-in, all-out, all-cong}
 use Rattle.expression.specs.Words.{cubesOf, spareOf}
 use Rattle.expression.specs.Expression.{isCube, loose}
-use Rattle.expression.specs.Answers.{mostCubes, refusal}
+use Rattle.expression.specs.Answers.{mostHanded, refusal}
 use Rattle.expression.proofs.Words.{cubes-length, cubes-asc, spare-length}
 use Rattle.sets.proofs.Places.{pairwise-at, at-pairwise}
 use Rattle.expression.proofs.Absorbing.{loose-in, loose-out}
@@ -52,18 +52,18 @@ module _ (ws : List ℕ) where
       go [] e = absurd (omega arith)
       go (x ∷ l) e = refl
 
-  pub refused-many : 2 * mostCubes < length ws → refusal ws ≡ some 6
+  pub refused-many : 2 * mostHanded < length ws → refusal ws ≡ some 6
   unfolding refusal
-  refused-many h = rw (lt-ltb (2 * mostCubes) (length ws) h)
+  refused-many h = rw (lt-ltb (2 * mostHanded) (length ws) h)
 
-  module _ (few : length ws ≤ 2 * mostCubes) where
+  module _ (few : length ws ≤ 2 * mostHanded) where
     pub refused-spare : (length ws % 2 ≡ 0 → ⊥) → refusal ws ≡ some 7
     unfolding refusal
-    refused-spare h = rw (le-ltb (2 * mostCubes) (length ws) few, spare-some h)
+    refused-spare h = rw (le-ltb (2 * mostHanded) (length ws) few, spare-some h)
 
     pub refused-else : length ws % 2 ≡ 0 → refusal ws ≡ cond (all proper (cubesOf ws) && pairwise loose (cubesOf ws)) none (some 7)
     unfolding refusal
-    refused-else h = rw (le-ltb (2 * mostCubes) (length ws) few, spare-none h, cubes-proper)
+    refused-else h = rw (le-ltb (2 * mostHanded) (length ws) few, spare-none h, cubes-proper)
 
   -- accepted: at most 1,024 cubes, no word left over, each cube with no variable both ways, and none containing or equal to another
   pub accepted-iff : (refusal ws ≡ none) ↔ ((length ws ≤ 2048) × (length ws % 2 ≡ 0) × ((c : List ℕ) → c ∈ cubesOf ws → proper c ≡ true)

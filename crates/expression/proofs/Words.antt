@@ -259,3 +259,6 @@ written-one {a = a} {b} h k p q = words-ext a b h k (p .cubes ∙ sym (q .cubes)
 
 pub put-one : {old a b : List ℕ} {i : ℕ} {c : List ℕ} → fit a ≡ true → fit b ≡ true → Put old a i c → Put old b i c → a ≡ b
 put-one {a = a} {b} h k p q = words-ext a b h k (p .cubes ∙ sym (q .cubes)) (p .spare ∙ sym (q .spare))
+
+pub placed-one : {old a b : List ℕ} {i : ℕ} {f : List (List ℕ)} → fit a ≡ true → fit b ≡ true → Placed old a i f → Placed old b i f → a ≡ b
+placed-one {a = a} {b} h k p q = words-ext a b h k (p .cubes ∙ sym (q .cubes)) (p .spare ∙ sym (q .spare))

@@ -14,17 +14,17 @@ use Rattle.expression.specs.declared.Place.{Place}
 use Rattle.expression.specs.declared.Place.the-variants.{At, Nothing}
 
 -- how many cubes an expression handed in may have
-abbrev pub mostCubes : ℕ
-mostCubes = 1024
+abbrev pub mostHanded : ℕ
+mostHanded = 1024
 
 -- the refusal's number, if any
-abbrev pub refusedBy : Verdict → Option ℕ
-refusedBy Accepted = none
-refusedBy (Refused n) = some n
+abbrev pub refusalOf : Verdict → Option ℕ
+refusalOf Accepted = none
+refusalOf (Refused n) = some n
 
 -- 6: over 1,024 cubes, whole or begun; else 7: a word is left over, or the cubes are no expression
 unfoldable pub refusal : List ℕ → Option ℕ
-refusal ws = cond (ltb (2 * mostCubes) (length ws)) (some 6) (cond (isNil (spareOf ws) && expression (cubesOf ws)) none (some 7))
+refusal ws = cond (ltb (2 * mostHanded) (length ws)) (some 6) (cond (isNil (spareOf ws) && expression (cubesOf ws)) none (some 7))
 
 -- the place found, if any
 abbrev pub placeOf : Place → Option ℕ

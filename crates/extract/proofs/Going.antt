@@ -12,34 +12,29 @@ use lib.Seq.{length-take-le, take-suc-set, drop-set-lt, drop-drop}
 use lib.Signed.{leZ, ltZ}
 use borrow.Author.Tests.{leb-true, leb-false, le-ltb, lt-ltb}
 use Rattle.sets.proofs.Truth.{clash}
-use Rattle.sets.proofs.Lists.{_∈_}
-use Rattle.network.specs.Net.{Net, nodes, variables, cubeCount}
-use Rattle.network.specs.Held.{netOf, rules, mostVariables, mostCubes}
+use Rattle.network.specs.Net.{Net}
+use Rattle.network.specs.Held.{netOf, mostVariables}
 use Rattle.network.specs.Handed.{Holds}
 use Rattle.network.specs.declared.Network.{Network}
 use Rattle.network.proofs.Holding.{rules-divisors, rules-iff}
-use Rattle.network.proofs.Ruling.{rules-lawful}
-use Rattle.network.proofs.Handing.{holds-net}
 use Rattle.extraction.specs.Divisor as extraction
 use Rattle.extraction.specs.Extract.{step}
 use Rattle.extraction.specs.Run.{Made, made, Result, Move, finished, take as taking, done, asked, move, ended, runFrom}
-use Rattle.extraction.specs.Meaning.{Good, Within, Worth, Allows, Leads}
+use Rattle.extraction.specs.Meaning.{Good, Within, Worth, Allows}
 use Rattle.extraction.specs.Meaning.Allows.{nothing, noNumber, noRows, next}
-use Rattle.extraction.specs.Meaning.Leads.{stay, onward}
 use Rattle.extraction.proofs.Running.{from-none, from-finished, from-stuck, from-take}
 use Rattle.extraction.proofs.Moving.{worth-done, move-iff}
 use Rattle.extraction.proofs.Making.{step-variables}
-use Rattle.extraction.proofs.Stepping.{step-good, step-ordered}
-use Rattle.extraction.proofs.Keeping.{leads-outputs, leads-fewer}
-use Rattle.extraction.proofs.Following.{rules-good, rules-within, holds-rules}
-use Rattle.tidy.proofs.Arranged.{arranged-in}
-use Rattle.choice.specs.Choice.{divisorOf, madeOf, noStep, chosenIn, Chosen}
-use Rattle.choice.specs.declared.Step.{Step}
+use Rattle.extraction.proofs.Following.{rules-good, rules-within}
+use Rattle.divisor.specs.Divisor.{divisorOf, madeOf, noStep}
+use Rattle.choice.specs.Choice.{chosenIn, Chosen}
+use Rattle.divisor.specs.declared.Step.{Step}
 use Rattle.replace.specs.Replace.{outcome, Stepped}
 use Rattle.replace.specs.declared.Outcome.the-variants as Outcome
 use Rattle.replace.specs.declared.Next.{Next}
+use Rattle.replace.proofs.Keeping.{Takes, takes-is, takes-rules, takes-arranged}
 use Rattle.extract.specs.Answers.{stopOf, Lists, Told}
-use Rattle.extract.specs.Parts.{Ready, endedAt, reasonOf, stoppedWith}
+use Rattle.extract.specs.Parts.{Runnable, endedAt, reasonOf, stoppedWith}
 use Rattle.extract.specs.declared.Stop.{Stop}
 use Rattle.extract.specs.declared.Stop.the-variants.{Done, Asked}
 use Rattle.extract.proofs.Taking.{Choice, chosen-as, Taken, stepped-as}
@@ -56,7 +51,7 @@ listed count list = map madeOf (take count list)
 
 -- of a run of k steps from m so many steps are listed, it goes on from the network for the steps left, and s is the best step there
 pub record Going (k : ℕ) (m : Net) (list : List Step) (count left : ℕ) (net : Network) (s : Step) : Type 0 where
-  pub ready : Ready net
+  pub ready : Runnable net
   pub slots : length (net .counts) ≡ 96
   pub words : length (net .words) ≡ 2176
   pub few : count ≤ net .divisors
@@ -65,12 +60,12 @@ pub record Going (k : ℕ) (m : Net) (list : List Step) (count left : ℕ) (net 
   pub chosen : Chosen (chosenIn net) s
   pub goes : runFrom k m ≡ after (listed count list) (runFrom left (netOf net))
 
-pub going-first : (k : ℕ) (n : Network) (list : List Step) (s : Step) → length (n .counts) ≡ 96 → length (n .words) ≡ 2176 → Ready n
+pub going-first : (k : ℕ) (n : Network) (list : List Step) (s : Step) → length (n .counts) ≡ 96 → length (n .words) ≡ 2176 → Runnable n
     → list ≡ replicate mostVariables noStep → Chosen (chosenIn n) s → Going k (netOf n) list 0 k n s
 going-first k n list s a b r e c = record { ready = r; slots = a; words = b; few = omega arith; places = ap length e ∙ length-replicate mostVariables noStep; rest = e; chosen = c; goes = refl }
 
 -- a network that a run comes to
-module _ (n : Network) (slots : length (n .counts) ≡ 96) (words : length (n .words) ≡ 2176) (r : Ready n) where
+module _ (n : Network) (slots : length (n .counts) ≡ 96) (words : length (n .words) ≡ 2176) (r : Runnable n) where
   ready-good : Good (netOf n)
   ready-good = rules-good n slots words (r .lawful)
 
@@ -82,39 +77,20 @@ module _ (n : Network) (slots : length (n .counts) ≡ 96) (words : length (n .w
   ready-few = let w = rules-iff n slots .0 (r .lawful) in omega (arith, w .inputs, w .variables)
 
   -- and the one that a step leads to
-  module _ (p : Network) (d : extraction.Divisor) (w : Worth (netOf n) d) (l : variables (netOf n) < mostVariables)
-      (k : cubeCount (step (netOf n) d) ≤ mostCubes) (t : Holds p (step (netOf n) d)) where
-    next-good : Good (step (netOf n) d)
-    next-good = step-good (netOf n) ready-good d (w .best .chosen)
-
+  module _ (p : Network) (d : extraction.Divisor) (t : Takes (netOf n) d p) where
     next-is : netOf p ≡ step (netOf n) d
-    next-is = holds-net p (step (netOf n) d) t (next-good .inTurn)
+    next-is = takes-is n p slots words (r .lawful) d t
 
-    next-leads : Leads (netOf n) (made (netOf n) d ∷ []) (step (netOf n) d)
-    next-leads = onward d w l k stay
-
-    next-within : Within (step (netOf n) d)
-    next-within = record {
-      variables = omega (arith, step-variables (netOf n) d);
-      cubes = k;
-      literals = omega (arith, leads-fewer next-leads ready-good, ready-within .literals);
-    }
-
-    next-lawful : rules p ≡ true
-    next-lawful =
-        let f = rules-lawful n slots words (r .lawful) in
-        holds-rules p (step (netOf n) d) t next-good next-within (f .inputs) (omega (arith, f .outputs, leads-outputs next-leads))
-
-    next-ready : Ready p
+    next-ready : Runnable p
     next-ready = record {
-      lawful = next-lawful;
-      tidy = arranged-in p next-lawful (λ f m. step-ordered (netOf n) ready-good d (w .best .chosen) f (subst (λ (z : Net). f ∈ nodes z) next-is m));
-      held = subst (Holds p) (sym next-is) t;
+      lawful = takes-rules n p slots words (r .lawful) d t;
+      tidy = takes-arranged n p slots words (r .lawful) d t;
+      held = subst (Holds p) (sym next-is) (t .held);
     }
 
     -- one divisor more, and the same inputs
     next-divisors : (p .divisors ≡ suc (n .divisors)) × (p .inputs ≡ n .inputs)
-    next-divisors = (omega (arith, t .divisors, step-variables (netOf n) d, rules-divisors n slots (r .lawful)), t .inputs)
+    next-divisors = (omega (arith, t .held .divisors, step-variables (netOf n) d, rules-divisors n slots (r .lawful)), t .held .inputs)
 
 -- ---- why it ends
 
@@ -192,9 +168,9 @@ module _ {k : ℕ} {m : Net} {list : List Step} {count left : ℕ} {net : Networ
     worth : Worth (netOf net) (divisorOf (s .divisor)) × (madeOf s ≡ made (netOf net) (divisorOf (s .divisor)))
     worth = elim choice [ nothingLeft p e ↦ clash h p | oneTaken p w q ↦ (w, q) ]
 
-    module _ (l : 0 < left) (t : Next) (o : Stepped net (s .divisor) (outcome net (s .divisor)) t) where
+    module _ (l : 0 < left) (t : Next) (o : Stepped net (outcome net (s .divisor)) t) where
       taken : Taken (netOf net) (divisorOf (s .divisor)) t
-      taken = stepped-as net (s .divisor) t (g .ready .tidy) (ready-within net (g .slots) (g .words) (g .ready) .variables) (ready-good net (g .slots) (g .words) (g .ready)) (worth .0) o
+      taken = stepped-as net (s .divisor) t (g .ready .tidy) (ready-within net (g .slots) (g .words) (g .ready) .literals) (ready-good net (g .slots) (g .words) (g .ready)) (worth .0) o
 
       some-left : left ≡ suc (left - 1)
       some-left = omega arith
@@ -202,21 +178,21 @@ module _ {k : ℕ} {m : Net} {list : List Step} {count left : ℕ} {net : Networ
       -- no number or no rows for the step
       pub going-full : (t .outcome ≡ Outcome.Made → ⊥) → Told (some (runFrom k m)) (stoppedWith (reasonOf (t .outcome)) net count list)
       going-full f = elim taken [
-        | wasMade q l₁ l₂ e i ↦ absurd (f q)
+        | wasMade q e i ↦ absurd (f q)
         | wasNot q e ↦ going-stop (reasonOf (t .outcome)) (ap (λ (z : ℕ). runFrom z (netOf net)) some-left ∙ from-stuck (left - 1) (netOf net) (stopOf (reasonOf (t .outcome))) e)
       ]
 
       -- the step is made, and listed
       module _ (slots-t : length (t .network .counts) ≡ 96) (words-t : length (t .network .words) ≡ 2176) (b : Step) (c : Chosen (chosenIn (t .network)) b) (q : t .outcome ≡ Outcome.Made) where
         pub going-on : Going k m (set list count s) (count + 1) (left - 1) (t .network) b × (t .network .inputs + t .network .divisors ≡ suc (net .inputs + net .divisors))
-        going-on = elim taken [ wasMade p l₁ l₂ e i ↦ go l₁ l₂ e i | wasNot p e ↦ absurd (p q) ]
+        going-on = elim taken [ wasMade p e i ↦ go e i | wasNot p e ↦ absurd (p q) ]
           where
             d : extraction.Divisor
             d = divisorOf (s .divisor)
 
-            go : variables (netOf net) < mostVariables → cubeCount (step (netOf net) d) ≤ mostCubes → move (netOf net) ≡ taking d → Holds (t .network) (step (netOf net) d)
+            go : move (netOf net) ≡ taking d → Takes (netOf net) d (t .network)
                 → Going k m (set list count s) (count + 1) (left - 1) (t .network) b × (t .network .inputs + t .network .divisors ≡ suc (net .inputs + net .divisors))
-            go l₁ l₂ e i = (
+            go e i = (
               record {
                 ready = ready;
                 slots = slots-t;
@@ -235,11 +211,11 @@ module _ {k : ℕ} {m : Net} {list : List Step} {count left : ℕ} {net : Networ
                 ran : Result
                 ran = runFrom (left - 1) (step (netOf net) d)
 
-                ready : Ready (t .network)
-                ready = next-ready net (g .slots) (g .words) (g .ready) (t .network) d (worth .0) l₁ l₂ i
+                ready : Runnable (t .network)
+                ready = next-ready net (g .slots) (g .words) (g .ready) (t .network) d i
 
                 is : netOf (t .network) ≡ step (netOf net) d
-                is = next-is net (g .slots) (g .words) (g .ready) (t .network) d (worth .0) l₁ l₂ i
+                is = next-is net (g .slots) (g .words) (g .ready) (t .network) d i
 
                 more : (t .network .divisors ≡ suc (net .divisors)) × (t .network .inputs ≡ net .inputs)
-                more = next-divisors net (g .slots) (g .words) (g .ready) (t .network) d (worth .0) l₁ l₂ i
+                more = next-divisors net (g .slots) (g .words) (g .ready) (t .network) d i

@@ -17,9 +17,9 @@ use Rattle.extraction.specs.Meaning.{Good, Within}
 use Rattle.extraction.proofs.Arranging.{in-order-inputs, in-order-outputs, in-order-variables, in-order-cubes, in-order-literals, in-order-good, in-order-ordered}
 use Rattle.extraction.proofs.Following.{rules-good, rules-within, holds-rules}
 use Rattle.tidy.proofs.Arranged.{arranged-in}
-use Rattle.choice.specs.Choice.{noStep}
+use Rattle.divisor.specs.Divisor.{noStep}
 use Rattle.extract.specs.Answers.{ran, Told}
-use Rattle.extract.specs.Parts.{Ready}
+use Rattle.extract.specs.Parts.{Runnable}
 use Rattle.extract.specs.declared.Answer.the-variants.{Refused}
 use Rattle.extract.specs.declared.Ran.{Ran}
 
@@ -44,7 +44,7 @@ module _ (n p : Network) (slots : length (n .counts) ≡ 96) (words : length (n 
       (omega (arith, w .outputs, in-order-outputs (netOf n)))
 
   -- a run can start from it
-  pub start-ready : Ready p
+  pub start-ready : Runnable p
   start-ready = record {
     lawful = lawful;
     tidy = arranged-in p lawful (λ f m. in-order-ordered (netOf n) (rules-good n slots words r) f (subst (λ (z : Net). f ∈ nodes z) start-is m));

@@ -1,36 +1,34 @@
 -- What the choice and the step answer on a network by the rules whose cubes stand in cube order. Assumes nothing.
-use Prim.Native.Nat.{ℕ, _*_, _<_, _≤_}
+use Prim.Native.Nat.{ℕ, _≤_}
 use mathlib.Core.Path.{_≡_, refl, sym, ap, _∙_, subst}
 use mathlib.Core.Bool.{Bool, true, false, cond}
-use mathlib.Core.List.{[], _∷_, List·Memᴰ·head as here, List·Memᴰ·tail as there}
 use mathlib.Core.Option.{Option, none, some}
 use native.Mathlib.Omega.{arith}
-use lib.Dec.{ltb}
 use lib.IntN.{pos}
 use lib.Signed.{ltZ}
-use borrow.Author.Tests.{lt-ltb}
-use Rattle.sets.proofs.Truth.{together}
-use Rattle.cube.specs.Cube.{width}
-use Rattle.network.specs.Net.{Net, variables, cubeCount}
-use Rattle.network.specs.Held.{netOf, mostVariables, mostCubes}
-use Rattle.network.specs.Handed.{Holds}
+use borrow.Author.Tests.{le-ltb}
+use Rattle.network.specs.Net.{Net, literalCount}
+use Rattle.network.specs.Held.{netOf, mostLiterals}
 use Rattle.network.specs.declared.Network.{Network}
 use Rattle.extraction.specs.Divisor as extraction
-use Rattle.extraction.specs.Divisor.{pair, sum}
 use Rattle.extraction.specs.Extract.{weight, best, step}
-use Rattle.extraction.specs.Run.{Made, made, Move, finished, stuck, take, room, choose, move}
-use Rattle.extraction.specs.Meaning.{Good, Fit, Worth, Allows}
+use Rattle.extraction.specs.Run.{Made, made, Move, finished, stuck, take, roomFor, choose, move}
+use Rattle.extraction.specs.Meaning.{Good, Worth, Allows}
 use Rattle.extraction.specs.Meaning.Allows.{nothing, noNumber, noRows, next}
+use Rattle.extraction.proofs.Weighing.{step-smaller}
 use Rattle.extraction.proofs.Choosing.{best-iff}
-use Rattle.extraction.proofs.Offering.{candidate-fit}
 use Rattle.extraction.proofs.Moving.{worth-done, worth-one, move-iff}
+use Rattle.extraction.proofs.Keeping.{worth-fit}
 use Rattle.tidy.specs.Tidy.{arranged}
-use Rattle.choice.specs.Choice.{divisorOf, madeOf, worthIn, chosenIn, Chosen}
-use Rattle.choice.specs.declared.Divisor.{Divisor}
-use Rattle.choice.specs.declared.Step.{Step}
-use Rattle.replace.specs.Replace.{placed, outcome, Stepped}
+use Rattle.divisor.specs.Divisor.{divisorOf, madeOf}
+use Rattle.choice.specs.Choice.{worthIn, chosenIn, Chosen}
+use Rattle.divisor.specs.declared.Divisor.{Divisor}
+use Rattle.divisor.specs.declared.Step.{Step}
+use Rattle.replace.specs.Replace.{allowed, outcome, Stepped}
 use Rattle.replace.specs.declared.Outcome.the-variants as Outcome
 use Rattle.replace.specs.declared.Next.{Next}
+use Rattle.replace.proofs.Fitting.{fitting-iff}
+use Rattle.replace.proofs.Keeping.{Takes, stepped-takes}
 use Rattle.extract.specs.Answers.{stopOf}
 use Rattle.extract.specs.Parts.{reasonOf}
 
@@ -61,34 +59,29 @@ chosen-as n s a h = worth-as (netOf n) s (subst (λ (b : Bool). Chosen (cond b (
 
 -- ---- the step
 
--- a divisor that a network can take has places in a cube
-fit-placed : (n : Net) (d : extraction.Divisor) → variables n ≤ mostVariables → Fit n d → placed d ≡ true
-unfolding placed
-fit-placed n (pair p q) h f =
-    together (ltb p q) (ltb q (2 * width)) (f .whole) (lt-ltb q (2 * width) (omega (arith, f .known _ (p ∷ q ∷ [], here refl, (q, there (here refl), refl)))))
-fit-placed n (sum a b) h f = refl
-
 -- there is room, and the network after the step is held; or there is none
 pub data Taken (n : Net) (d : extraction.Divisor) (t : Next) : Type 0 where
-  wasMade : t .outcome ≡ Outcome.Made → variables n < mostVariables → cubeCount (step n d) ≤ mostCubes → move n ≡ take d → Holds (t .network) (step n d) → Taken n d t
+  wasMade : t .outcome ≡ Outcome.Made → move n ≡ take d → Takes n d (t .network) → Taken n d t
   wasNot : (t .outcome ≡ Outcome.Made → ⊥) → move n ≡ stuck (stopOf (reasonOf (t .outcome))) → Taken n d t
 
-module _ (n : Network) (d : Divisor) (t : Next) (a : arranged n ≡ true) (few : variables (netOf n) ≤ mostVariables) (g : Good (netOf n)) (w : Worth (netOf n) (divisorOf d)) where
-  outcome-room : outcome n d ≡ room (netOf n) (divisorOf d)
+module _ (n : Network) (d : Divisor) (t : Next) (a : arranged n ≡ true) (few : literalCount (netOf n) ≤ mostLiterals) (g : Good (netOf n)) (w : Worth (netOf n) (divisorOf d)) where
+  outcome-room : outcome n d ≡ allowed (netOf n) (roomFor (netOf n) (divisorOf d))
   unfolding outcome
-  outcome-room = rw (a, fit-placed (netOf n) (divisorOf d) few (candidate-fit (netOf n) g (divisorOf d) (w .best .chosen)))
+  outcome-room = rw (a, fitting-iff (netOf n) (divisorOf d) .1 (worth-fit g w))
 
-  move-room : move (netOf n) ≡ room (netOf n) (divisorOf d)
+  move-room : move (netOf n) ≡ roomFor (netOf n) (divisorOf d)
   unfolding move choose
   move-room = ap (choose (netOf n)) (best-iff (netOf n) (divisorOf d) .1 (w .best)) ∙ rw (w .above)
 
-  pub stepped-as : Stepped n d (outcome n d) t → Taken (netOf n) (divisorOf d) t
-  stepped-as s = go (move (netOf n)) refl ((move-iff (netOf n) (move (netOf n))) .0 refl) (subst (λ (m : Move). Stepped n d m t) (outcome-room ∙ sym move-room) s)
+  pub stepped-as : Stepped n (outcome n d) t → Taken (netOf n) (divisorOf d) t
+  stepped-as o = go (move (netOf n)) refl ((move-iff (netOf n) (move (netOf n))) .0 refl) (subst (λ (o : Option Move). Stepped n o t) (outcome-room ∙ ap (allowed (netOf n)) (sym move-room)) o)
     where
-      go : (m : Move) → move (netOf n) ≡ m → Allows (netOf n) m → Stepped n d m t → Taken (netOf n) (divisorOf d) t
+      go : (m : Move) → move (netOf n) ≡ m → Allows (netOf n) m → Stepped n (allowed (netOf n) m) t → Taken (netOf n) (divisorOf d) t
       go m e (nothing h) s = absurd (worth-done (netOf n) w h)
       go m e (noNumber v l) s = wasNot (λ p. let z : _≡_ {A = ℕ} 0 1 = cc (s .0) in omega arith) (e ∙ ap (λ o. stuck (stopOf (reasonOf o))) (sym (s .0)))
       go m e (noRows v l k) s = wasNot (λ p. let z : _≡_ {A = ℕ} 0 1 = cc (s .0) in omega arith) (e ∙ ap (λ o. stuck (stopOf (reasonOf o))) (sym (s .0)))
-      go m e (next v l k) s =
-          let q = worth-one (netOf n) v w in
-          wasMade (s .0) l (subst (λ (x : extraction.Divisor). cubeCount (step (netOf n) x) ≤ mostCubes) q k) (e ∙ ap take q) (subst (λ (x : extraction.Divisor). Holds (t .network) (step (netOf n) x)) q (s .1))
+      go m e (next {d = x} v l k) s =
+          -- no weight above 0 passes the most literals
+          let f : literalCount (step (netOf n) x) ≤ mostLiterals = omega (arith, step-smaller (netOf n) g x (worth-fit g v .whole) (v .above)) in
+          let q : t .outcome ≡ Outcome.Made = (rw (le-ltb mostLiterals (literalCount (step (netOf n) x)) f) at s) .0 in
+          wasMade q (e ∙ ap take (worth-one (netOf n) v w)) (stepped-takes n d t o q)

@@ -27,10 +27,10 @@ use Rattle.extraction.proofs.Running.{run-leads}
 use Rattle.extraction.proofs.Keeping.{run-good, run-literals}
 use Rattle.extraction.proofs.Following.{rules-good, run-rules, run-evaluated}
 use Rattle.tidy.proofs.Tidied.{Shaped}
-use Rattle.choice.specs.Choice.{divisorOf, madeOf}
-use Rattle.choice.specs.declared.Divisor.{Divisor}
-use Rattle.choice.specs.declared.Divisor.the-variants.{Pair, Sum}
-use Rattle.choice.specs.declared.Step.{Step}
+use Rattle.divisor.specs.Divisor.{divisorOf, madeOf}
+use Rattle.divisor.specs.declared.Divisor.{Divisor}
+use Rattle.divisor.specs.declared.Divisor.the-variants.{Pair, Sum}
+use Rattle.divisor.specs.declared.Step.{Step}
 use Rattle.extract.specs.Answers.{stopOf, Lists, ran, Told}
 use Rattle.extract.specs.declared.Stop.{Stop}
 use Rattle.extract.specs.declared.Stop.the-variants.{Done, Asked, Numbers, Rows}

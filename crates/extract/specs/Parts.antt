@@ -8,7 +8,7 @@ use lib.Signed.{ltZ}
 use Rattle.network.specs.Held.{netOf, rules}
 use Rattle.network.specs.Handed.{Holds}
 use Rattle.network.specs.declared.Network.{Network}
-use Rattle.choice.specs.declared.Step.{Step}
+use Rattle.divisor.specs.declared.Step.{Step}
 use Rattle.replace.specs.declared.Outcome.{Outcome}
 use Rattle.replace.specs.declared.Outcome.the-variants as Outcome
 use Rattle.tidy.specs.Tidy.{arranged}
@@ -18,7 +18,7 @@ use Rattle.extract.specs.declared.Answer.the-variants.{Stopped}
 use Rattle.extract.specs.declared.Ran.{Ran}
 
 -- by the rules, in cube order, and zero in the slots that are not in use
-pub record Ready (n : Network) : Type 0 where
+pub record Runnable (n : Network) : Type 0 where
   pub lawful : rules n ≡ true
   pub tidy : arranged n ≡ true
   pub held : Holds n (netOf n)
@@ -27,7 +27,7 @@ pub record Ready (n : Network) : Type 0 where
 abbrev pub endedAt : ℤ → Stop
 endedAt w = cond (ltZ (pos 0) w) Asked Done
 
--- why a step was not made
+-- why a step was not made; one that was made, or an unfit divisor, which a run never takes, is named as rows are
 abbrev pub reasonOf : Outcome → Stop
 reasonOf Outcome.Numbers = Numbers
 reasonOf Outcome.Made = Rows

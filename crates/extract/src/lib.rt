@@ -1,5 +1,5 @@
 // Runs: the best divisor again and again, until the first reason to stop.
-use choice::Step;
+use divisor::Step;
 use network::Judged;
 use network::Network;
 use replace::Outcome;
@@ -8,9 +8,9 @@ ghost use mathlib.Core.Option.{some};
 ghost use lib.ListN.{replicate};
 ghost use Rattle.network.specs.Held.{netOf, mostVariables};
 ghost use Rattle.extraction.specs.Run.{runFrom};
-ghost use Rattle.choice.specs.Choice.{noStep};
+ghost use Rattle.divisor.specs.Divisor.{noStep};
 ghost use Rattle.extract.specs.Answers.{Told, ran};
-ghost use Rattle.extract.specs.Parts.{Ready, endedAt, reasonOf, stoppedWith};
+ghost use Rattle.extract.specs.Parts.{Runnable, endedAt, reasonOf, stoppedWith};
 
 // Steps of one run.
 const STEPS: usize = 64;
@@ -44,7 +44,7 @@ pub struct Ran {
 fn no_steps() -> [Step; STEPS]
     ensures { λ r. ⌜ r ≡ replicate mostVariables noStep ⌝ }
 {
-    [choice::no_step(); STEPS]
+    [divisor::no_step(); STEPS]
 }
 
 // Why a step that there is no room for is not made.
@@ -81,7 +81,7 @@ fn ended(weight: i32) -> Stop
 
 // From a network in cube order; s is the best step on the network that the run has come to.
 fn follow(n: Network, steps: u64) -> Ran
-    requires { ⌜ Ready n ⌝ }
+    requires { ⌜ Runnable n ⌝ }
     ensures { λ r. ⌜ Told (some (runFrom steps (netOf n))) r ⌝ }
 {
     let mut list = no_steps();

@@ -13,9 +13,10 @@ use Rattle.expression.specs.Expression.{ordered}
 use Rattle.network.specs.Net.{Net, nodes, variables, cubeCount, literalCount}
 use Rattle.network.specs.Evaluation.{evaluate}
 use Rattle.network.specs.Held.{mostVariables, mostCubes}
+use Rattle.extraction.specs.Divisor.{Divisor}
 use Rattle.extraction.specs.Extract.{weight}
 use Rattle.extraction.specs.Run.{Made, run}
-use Rattle.extraction.specs.Meaning.{Good, Within, Leads, fall}
+use Rattle.extraction.specs.Meaning.{Good, Within, Fit, Worth, Leads, fall}
 use Rattle.extraction.specs.Meaning.Leads.{stay, onward}
 use Rattle.extraction.proofs.Weighing.{step-literals, step-smaller}
 use Rattle.extraction.proofs.Offering.{candidate-fit}
@@ -25,6 +26,10 @@ use Rattle.extraction.proofs.Arranging.{in-order-literals, in-order-cub
 use Rattle.extraction.proofs.Running.{run-leads}
 
 -- ---- steps
+
+-- a divisor that is worth a step can be taken
+pub worth-fit : {n : Net} {d : Divisor} → Good n → Worth n d → Fit n d
+worth-fit {n} {d} g w = candidate-fit n g d (w .best .chosen)
 
 -- the inputs and outputs stay, and each step makes one divisor
 pub leads-inputs : {n m : Net} {l : List Made} → Leads n l m → m .inputs ≡ n .inputs
@@ -56,16 +61,16 @@ leads-above (onward d w a b t) s i = elim (List·Memᴰ·cases-cons i) [ inl p �
 -- the rules are kept, and the cubes are in cube order
 pub leads-good : {n m : Net} {l : List Made} → Leads n l m → Good n → Good m
 leads-good stay g = g
-leads-good (onward {n = n} d w a b t) g = leads-good t (step-good n g d (w .best .chosen))
+leads-good (onward {n = n} d w a b t) g = leads-good t (step-good n g d (worth-fit g w))
 
 -- outputs are the same for every setting
 pub leads-evaluate : {n m : Net} {l : List Made} → Leads n l m → Good n → (s : ℕ) → evaluate m s ≡ evaluate n s
 leads-evaluate stay g s = refl
-leads-evaluate (onward {n = n} d w a b t) g s = leads-evaluate t (step-good n g d (w .best .chosen)) s ∙ step-evaluate n g d (w .best .chosen) s
+leads-evaluate (onward {n = n} d w a b t) g s = leads-evaluate t (step-good n g d (worth-fit g w)) s ∙ step-evaluate n g d (worth-fit g w) s
 
 pub leads-ordered : {n m : Net} {l : List Made} → Leads n l m → Good n → ((f : List (List ℕ)) → f ∈ nodes n → ordered f ≡ true) → (f : List (List ℕ)) → f ∈ nodes m → ordered f ≡ true
 leads-ordered stay g h = h
-leads-ordered (onward {n = n} d w a b t) g h = leads-ordered t (step-good n g d (w .best .chosen)) (step-ordered n g d (w .best .chosen))
+leads-ordered (onward {n = n} d w a b t) g h = leads-ordered t (step-good n g d (worth-fit g w)) (step-ordered n g d (worth-fit g w))
 
 -- the weights one by one, or their sum
 less : (x a b : ℤ) → (x -ℤ a) -ℤ b ≡ x -ℤ (a +ℤ b)
@@ -76,15 +81,15 @@ pub leads-literals : {n m : Net} {l : List Made} → Leads n l m → Good n → 
 unfolding fall
 leads-literals (stay {n = n}) g = sym (+ℤ-idr (pos (literalCount n)))
 leads-literals (onward {n = n} {l = l} d w a b t) g =
-    leads-literals t (step-good n g d (w .best .chosen))
-    ∙ ap (_-ℤ fall l) (step-literals n g d (candidate-fit n g d (w .best .chosen) .whole))
+    leads-literals t (step-good n g d (worth-fit g w))
+    ∙ ap (_-ℤ fall l) (step-literals n g d (worth-fit g w .whole))
     ∙ less (pos (literalCount n)) (weight n d) (fall l)
 
 -- each step takes one literal off at least
 pub leads-fewer : {n m : Net} {l : List Made} → Leads n l m → Good n → literalCount m + length l ≤ literalCount n
 leads-fewer stay g = omega arith
 leads-fewer (onward {n = n} d w a b t) g =
-    omega (arith, leads-fewer t (step-good n g d (w .best .chosen)), step-smaller n g d (candidate-fit n g d (w .best .chosen) .whole) (w .above))
+    omega (arith, leads-fewer t (step-good n g d (worth-fit g w)), step-smaller n g d (worth-fit g w .whole) (w .above))
 
 -- ---- a run
 

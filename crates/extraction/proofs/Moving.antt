@@ -13,7 +13,7 @@ use Rattle.network.specs.Net.{Net, variables, cubeCount}
 use Rattle.network.specs.Held.{mostVariables, mostCubes}
 use Rattle.extraction.specs.Divisor.{Divisor}
 use Rattle.extraction.specs.Extract.{weight, best, step}
-use Rattle.extraction.specs.Run.{numbers, rows, Move, finished, stuck, take, room, choose, move}
+use Rattle.extraction.specs.Run.{numbers, rows, Move, finished, stuck, take, roomFor, choose, move}
 use Rattle.extraction.specs.Meaning.{Best, Worth, Done, Allows}
 use Rattle.extraction.specs.Meaning.Allows.{nothing, noNumber, noRows, next}
 use Rattle.extraction.proofs.Choosing.{heavier-order, best-iff, best-none, best-unique}
@@ -28,7 +28,7 @@ module _ (n : Net) where
   worth-one {d} {e} w v = best-unique n d e (w .best) (v .best)
 
   move-allows : Allows n (move n)
-  unfolding move choose room
+  unfolding move choose roomFor
   move-allows = go (best n) refl
     where
       fits : (d : Divisor) → Worth n d → (b c : Bool) → ltb (variables n) mostVariables ≡ b → ltb mostCubes (cubeCount (step n d)) ≡ c
@@ -47,7 +47,7 @@ module _ (n : Net) where
       go (some d) e = weigh d (best-iff n d .0 e) (ltZ (pos 0) (weight n d)) refl
 
   allows-move : {m : Move} → Allows n m → move n ≡ m
-  unfolding move choose room
+  unfolding move choose roomFor
   allows-move (nothing h) = go (best n) refl
     where
       go : (o : Option Divisor) → best n ≡ o → choose n o ≡ finished

@@ -16,7 +16,7 @@ use Rattle.expression.specs.Expression.{has, sort, literalsOf}
 use Rattle.expression.proofs.Sorting.{sort-in, sort-out, any-sort, total-sort}
 use Rattle.network.specs.Net.{Net}
 use Rattle.extraction.specs.Divisor.{Divisor, pair, sum, useOf, part, hit, found, bases, uses}
-use Rattle.extraction.specs.Extract.{allUses, allBases, weight, candidates, best}
+use Rattle.extraction.specs.Extract.{allUses, basesLiterals, weight, candidates, best}
 use Rattle.extraction.specs.Run.{inOrder}
 use Rattle.extraction.specs.Meaning.{Good, Used, Best}
 use Rattle.extraction.proofs.Weighing.{total-one}
@@ -58,8 +58,8 @@ module _ (n : Net) where
   unfolding allUses
   in-order-uses d = in-order-total n (uses d) (uses-sort d)
 
-  in-order-bases : (d : Divisor) → allBases (inOrder n) d ≡ allBases n d
-  unfolding allBases
+  in-order-bases : (d : Divisor) → basesLiterals (inOrder n) d ≡ basesLiterals n d
+  unfolding basesLiterals
   in-order-bases d = in-order-total n (λ f. literalsOf (bases d f)) (bases-sort d)
 
   -- the weights are the same

@@ -1,37 +1,59 @@
 -- A divisor replaced by a literal in every use: the value is kept where the literal has the divisor's, and the cubes are an expression again, in cube order. Assumes nothing.
 use Prim.Native.Nat.{ℕ, _*_, _/_, _<_}
 use mathlib.Core.Path.{_≡_, refl, sym, ap, _∙_, subst}
-use mathlib.Core.Logic.{_⊎_, inl, inr}
+use mathlib.Core.Logic.{_⊎_, inl, inr, _↔_}
 use mathlib.Core.Bool.{Bool, true, false, not, _||_, or-false, or-true}
 use mathlib.Core.List.{List, [], _∷_, _++_, map, List·Memᴰ·head as here, List·Memᴰ·tail as there, Memᴰ·append-left, Memᴰ·append-right, List·Memᴰ·append-cases, List·Memᴰ·eq-of-singleton}
 use native.Mathlib.Omega.{arith}
 use lib.Dec.{eqb}
 use borrow.Author.Tests.{not-true, eqb-true, eq-eqb}
-use Rattle.sets.specs.Lists.{any, all, keep, pairwise}
+use Rattle.sets.specs.Lists.{all, keep, pairwise}
 use Rattle.sets.specs.Literal.{oppositeOf}
-use Rattle.sets.specs.Sets.{mem, sub, without, same}
+use Rattle.sets.specs.Sets.{mem, sub, insert, without, same}
 use Rattle.sets.proofs.Truth.{iff, both, together, either, decided, clash, refuted}
 use Rattle.sets.proofs.Lists.{_∈_, any-in, any-out, all-in, keep-in, keep-out, map-in, map-out, pairwise-keep, pairwise-out, pairwise-imp, pairwise-append, pairwise-map}
 use Rattle.sets.proofs.Sets.{mem-of, of-mem, sub-in, sub-out, insert-mem, union-mem, without-mem, insert-asc, without-asc, insert-all, union-all, all-rejoin, proper-in, proper-out}
 use Rattle.expression.specs.Expression.{isCube, loose, expression, ordered}
 use Rattle.expression.specs.Value.{value}
-use Rattle.expression.proofs.Sorting.{sort-out, any-sort, pairwise-sort, sort-ordered, loose-flip, loose-differ}
+use Rattle.expression.proofs.Sorting.{sort-in, sort-out, pairwise-sort, sort-ordered, loose-flip, loose-differ}
 use Rattle.expression.proofs.Absorbing.{loose-in, loose-out}
 use Rattle.network.specs.Meaning.{Reads}
-use Rattle.extraction.specs.Divisor.{Divisor, pair, sum, own, sound, useOf, part, hit, gone, found, swap, rewrite}
-use Rattle.extraction.specs.Meaning.{other}
-use Rattle.extraction.proofs.Using.{cube-asc, cube-proper, cubes-loose, sum-parts, part-asc, use-out, use-partner, hit-inside, hit-gone}
+use Rattle.extraction.specs.Divisor.{Divisor, pair, sum, own, sound, useOf, part, hit, gone, found, bases, swap, rewrite}
+use Rattle.extraction.specs.Meaning.{other, InUse}
+use Rattle.extraction.proofs.Using.{cube-asc, cube-proper, cubes-loose, sum-parts, part-asc, use-out, use-partner, hit-inside, hit-gone, gone-iff}
 
 -- ---- the cubes of a rewriting
 
--- those of the uses, with the literal in place of the part, and those that no use takes away
-pub rewrite-in : (x : ℕ) (d : Divisor) (f : List (List ℕ)) (c : List ℕ) → c ∈ rewrite x d f
-    → ((b : List ℕ) × (b ∈ f) × (hit d f b ≡ true) × (c ≡ swap x (part d) b)) ⊎ ((c ∈ f) × (gone d f c ≡ false))
-unfolding rewrite
-rewrite-in x d f c m = elim (List·Memᴰ·append-cases (map (swap x (part d)) (found d f)) (sort-out _ m)) [
-  | inl i ↦ let q = map-out (swap x (part d)) (found d f) i in let k = keep-out (hit d f) f (q .1) in inl (q .0, k .0, k .1, q .2)
-  | inr i ↦ let k = keep-out (λ z. not (gone d f z)) f i in inr (k .0, not-true (gone d f c) (k .1))
-]
+module _ (x : ℕ) (d : Divisor) (f : List (List ℕ)) where
+  -- those of the uses, with the literal in place of the part, and those that no use takes away
+  pub rewrite-in : (c : List ℕ) → c ∈ rewrite x d f → ((b : List ℕ) × (b ∈ f) × (hit d f b ≡ true) × (c ≡ swap x (part d) b)) ⊎ ((c ∈ f) × (gone d f c ≡ false))
+  unfolding rewrite
+  rewrite-in c m = elim (List·Memᴰ·append-cases (map (swap x (part d)) (found d f)) (sort-out _ m)) [
+    | inl i ↦ let q = map-out (swap x (part d)) (found d f) i in let k = keep-out (hit d f) f (q .1) in inl (q .0, k .0, k .1, q .2)
+    | inr i ↦ let k = keep-out (λ z. not (gone d f z)) f i in inr (k .0, not-true (gone d f c) (k .1))
+  ]
+
+  rewrite-new : {b : List ℕ} → b ∈ f → hit d f b ≡ true → swap x (part d) b ∈ rewrite x d f
+  unfolding rewrite
+  rewrite-new m h = sort-in (Memᴰ·append-left _ (map-in (swap x (part d)) (keep-in (hit d f) m h)))
+
+  rewrite-rest : {c : List ℕ} → c ∈ f → gone d f c ≡ false → c ∈ rewrite x d f
+  unfolding rewrite
+  rewrite-rest m g = sort-in (Memᴰ·append-right (map (swap x (part d)) (found d f)) (keep-in (λ z. not (gone d f z)) m (ap not g)))
+
+  -- exactly: the bases of the uses, each with the literal, and the cubes that are in no use
+  pub rewrite-iff : sound d ≡ true → expression f ≡ true → (c : List ℕ) → (c ∈ rewrite x d f) ↔ (((z : List ℕ) × (z ∈ bases d f) × (c ≡ insert x z)) ⊎ ((c ∈ f) × (InUse d f c → ⊥)))
+  unfolding swap
+  rewrite-iff s e c = (
+    λ m. elim (rewrite-in c m) [
+      | inl (b, i, h, p) ↦ inl (without b (part d), map-in (λ z. without z (part d)) (keep-in (hit d f) i h), p)
+      | inr (i, g) ↦ inr (i, λ u. clash ((gone-iff d s f e i) .1 u) g)
+    ],
+    λ k. elim k [
+      | inl (z, m, p) ↦ let q = map-out (λ y. without y (part d)) (found d f) m in let k = keep-out (hit d f) f (q .1) in rw (p, q .2) (rewrite-new (k .0) (k .1))
+      | inr (m, n) ↦ rewrite-rest m (refuted (λ g. n ((gone-iff d s f e m) .0 g)))
+    ],
+  )
 
 -- ---- the value
 
@@ -68,36 +90,25 @@ module _ (v : ℕ → Bool) (f : List (List ℕ)) (e : expression f ≡ true) wh
 
   -- the value is kept where the new literal has the divisor's
   pub rewrite-value : (x : ℕ) (d : Divisor) → sound d ≡ true → v x ≡ value v (own d) → value v (rewrite x d f) ≡ value v f
-  unfolding rewrite swap
-  rewrite-value x d s t = any-sort (all v) (new ++ rest) ∙ iff into back
+  unfolding swap
+  rewrite-value x d s t = iff into back
     where
-      new : List (List ℕ)
-      new = map (swap x (part d)) (found d f)
-
-      rest : List (List ℕ)
-      rest = keep (λ c. not (gone d f c)) f
-
-      into : any (all v) (new ++ rest) ≡ true → value v f ≡ true
+      into : value v (rewrite x d f) ≡ true → value v f ≡ true
       into h =
-          let r = any-out (all v) (new ++ rest) h in
-          elim (List·Memᴰ·append-cases new (r .1)) [
-            | inl i ↦
-                let q = map-out (swap x (part d)) (found d f) i in
-                let k = keep-out (hit d f) f (q .1) in
-                let w = both _ _ (sym (insert-all v x (without (q .0) (part d))) ∙ sym (ap (all v) (q .2)) ∙ r .2) in
-                hit-value d s (k .0) (k .1) (w .1) (sym t ∙ w .0)
-            | inr i ↦ any-in (all v) ((keep-out (λ c. not (gone d f c)) f i) .0) (r .2)
+          let r = any-out (all v) (rewrite x d f) h in
+          elim (rewrite-in x d f (r .0) (r .1)) [
+            | inl (b, i, k, p) ↦ let w = both _ _ (sym (insert-all v x (without b (part d))) ∙ sym (ap (all v) p) ∙ r .2) in hit-value d s i k (w .1) (sym t ∙ w .0)
+            | inr (i, g) ↦ any-in (all v) i (r .2)
           ]
 
-      back : value v f ≡ true → any (all v) (new ++ rest) ≡ true
+      back : value v f ≡ true → value v (rewrite x d f) ≡ true
       back h =
           let r = any-out (all v) f h in
           elim (decided (gone d f (r .0))) [
             | inl g ↦
                 let q = gone-value d s (r .1) g (r .2) in
-                any-in (all v) (Memᴰ·append-left rest (map-in (swap x (part d)) (keep-in (hit d f) (q .1 .1) (q .1 .2))))
-                (insert-all v x (without (q .1 .0) (part d)) ∙ rw (t, q .0) (q .1 .3))
-            | inr g ↦ any-in (all v) (Memᴰ·append-right new (keep-in (λ c. not (gone d f c)) (r .1) (ap not g))) (r .2)
+                any-in (all v) (rewrite-new x d f (q .1 .1) (q .1 .2)) (insert-all v x (without (q .1 .0) (part d)) ∙ rw (t, q .0) (q .1 .3))
+            | inr g ↦ any-in (all v) (rewrite-rest x d f (r .1) g) (r .2)
           ]
 
 -- ---- the new cubes

@@ -17,22 +17,18 @@ use Rattle.network.specs.Meaning.{Reads, Consistent}
 use Rattle.network.proofs.Numbering.{in-output, in-divisor}
 use Rattle.network.proofs.Evaluating.{evaluate-settled, evaluate-read}
 use Rattle.extraction.specs.Divisor.{Divisor, pair, sum, own, sound, rewrite}
-use Rattle.extraction.specs.Extract.{candidates, redo, step}
+use Rattle.extraction.specs.Extract.{redo, step}
 use Rattle.extraction.specs.Meaning.{Good, Fit}
 use Rattle.extraction.proofs.Using.{sum-parts}
 use Rattle.extraction.proofs.Replacing.{rewrite-value, rewrite-expression, rewrite-ordered, rewrite-reads}
 use Rattle.extraction.proofs.Making.{step-node, step-variables, step-turn}
-use Rattle.extraction.proofs.Offering.{candidate-fit}
 use Rattle.extraction.proofs.Reading.{good-sound, step-acyclic}
 
 own-ordered : (d : Divisor) → sound d ≡ true → ordered (own d) ≡ true
 own-ordered (pair p q) s = refl
 own-ordered (sum a b) s = rw ((sum-parts a b s) .ordered)
 
-module _ (n : Net) (g : Good n) (d : Divisor) (m : d ∈ candidates n) where
-  fit : Fit n d
-  fit = candidate-fit n g d m
-
+module _ (n : Net) (g : Good n) (d : Divisor) (fit : Fit n d) where
   -- a step keeps the rules on networks
   pub step-good : Good (step n d)
   step-good = record {

@@ -2,19 +2,19 @@
 use Prim.Native.Nat.{ℕ}
 use mathlib.Core.Path.{_≡_, refl, sym, ap, _∙_, subst}
 use mathlib.Core.Logic.{_⊎_, inl, inr, _↔_}
-use mathlib.Core.Bool.{true, false, not, _&&_, false≢true}
+use mathlib.Core.Bool.{true, false, not, _&&_, or-true, false≢true}
 use mathlib.Core.List.{List, [], _∷_, List·Memᴰ·head as here, Memᴰ·cast}
 use borrow.Author.Tests.{not-true}
 use Rattle.sets.specs.Lists.{all, pairwise}
 use Rattle.sets.specs.Sets.{mem, sub, apart, asc, proper, union, without, same, before}
-use Rattle.sets.proofs.Truth.{both, decided, clash, refuted}
+use Rattle.sets.proofs.Truth.{both, either, decided, clash, refuted}
 use Rattle.sets.proofs.Lists.{_∈_, all-out, keep-in, keep-out, map-in, map-out, pairwise-imp, pairwise-keep, pairwise-map}
 use Rattle.sets.proofs.Sets.{mem-of, sub-out, apart-in, apart-out, union-mem, union-right, without-mem, without-asc, without-apart, rejoin, unjoin, same-eq, eq-same}
 use Rattle.expression.specs.Expression.{isCube, loose, expression, has}
 use Rattle.expression.proofs.Members.{has-in, has-out}
 use Rattle.expression.proofs.Sorting.{loose-differ}
 use Rattle.extraction.specs.Divisor.{Divisor, pair, sum, small, sound, useOf, part, hit, gone, found, bases}
-use Rattle.extraction.specs.Meaning.{Parts, other, Use, Partner, Base}
+use Rattle.extraction.specs.Meaning.{Parts, other, Use, Partner, Base, InUse}
 
 -- ---- what an expression's cubes are
 
@@ -88,12 +88,12 @@ hit-gone (pair p q) f c h = h
 hit-gone (sum a b) f c h = rw h
 
 -- a pair's uses are all cubes that contain both literals
-pub pair-uses : (p q : ℕ) (f : List (List ℕ)) (c : List ℕ) → (c ∈ found (pair p q) f) ↔ ((c ∈ f) × (mem p c ≡ true) × (mem q c ≡ true))
+pair-hit : (p q : ℕ) (c : List ℕ) → (sub (p ∷ q ∷ []) c ≡ true) ↔ ((mem p c ≡ true) × (mem q c ≡ true))
 unfolding sub
-pair-uses p q f c = (
-  λ m. let k = keep-out (hit (pair p q) f) f m in let w = both (mem p c) (mem q c && true) (k .1) in (k .0, w .0, (both (mem q c) true (w .1)) .0),
-  λ (m, i, j). keep-in (hit (pair p q) f) m (rw (i, j)),
-)
+pair-hit p q c = (λ h. let w = both (mem p c) (mem q c && true) h in (w .0, (both (mem q c) true (w .1)) .0), λ (i, j). rw (i, j))
+
+pub pair-uses : (p q : ℕ) (f : List (List ℕ)) (c : List ℕ) → (c ∈ found (pair p q) f) ↔ ((c ∈ f) × (mem p c ≡ true) × (mem q c ≡ true))
+pair-uses p q f c = (λ m. let k = keep-out (hit (pair p q) f) f m in let w = (pair-hit p q c) .0 (k .1) in (k .0, w .0, w .1), λ (m, i, j). keep-in (hit (pair p q) f) m ((pair-hit p q c) .1 (i, j)))
 
 module _ (a b : List ℕ) (ha : asc a ≡ true) (hb : asc b ≡ true) (f : List (List ℕ)) (e : expression f ≡ true) where
   -- the other cube of a use, which has the same base
@@ -111,33 +111,49 @@ module _ (a b : List ℕ) (ha : asc a ≡ true) (hb : asc b ≡ true) (f : List 
 
 -- ---- the bases of a sum
 
+-- a cube of a use is its base and the part; and a base with the part is a cube of a use
+module _ (a b : List ℕ) (ha : asc a ≡ true) (f : List (List ℕ)) where
+  use-base : expression f ≡ true → {c : List ℕ} → c ∈ f → useOf a b f c ≡ true → Base a b f (without c a) × (c ≡ union (without c a) a)
+  use-base e {c} m h =
+      let u = use-out a b f c h in
+      let p = rejoin c a (cube-asc f e m) ha (u .inside) in
+      (record { ascending = without-asc c a (cube-asc f e m); off-a = without-apart c a; off-b = u .free; with-a = Memᴰ·cast p m; with-b = u .partner }, sym p)
+
+  base-use : {z : List ℕ} → Base a b f z → useOf a b f (union z a) ≡ true
+  base-use {z} r =
+      let p : without (union z a) a ≡ z = unjoin z a (r .ascending) ha (r .off-a) in
+      use-in a b f (union z a) (record { inside = union-right z a; free = rw p (r .off-b); partner = rw p (r .with-b) })
+
+base-flip : {a b : List ℕ} {f : List (List ℕ)} {z : List ℕ} → Base a b f z → Base b a f z
+base-flip r = record { ascending = r .ascending; off-a = r .off-b; off-b = r .off-a; with-a = r .with-b; with-b = r .with-a }
+
+-- the uses take away their cubes and no others
+pub gone-iff : (d : Divisor) → sound d ≡ true → (f : List (List ℕ)) → expression f ≡ true → {c : List ℕ} → c ∈ f → (gone d f c ≡ true) ↔ InUse d f c
+gone-iff (pair p q) s f e {c} m = pair-hit p q c
+gone-iff (sum a b) s f e {c} m = (into, back)
+  where
+    w : Parts a b
+    w = sum-parts a b s
+
+    into : gone (sum a b) f c ≡ true → InUse (sum a b) f c
+    into h = elim (either (useOf a b f c) (useOf b a f c) h) [
+      | inl u ↦ let r = use-base a b (w .asc-a) f e m u in (without c a, r .0, inl (r .1))
+      | inr u ↦ let r = use-base b a (w .asc-b) f e m u in (without c b, base-flip (r .0), inr (r .1))
+    ]
+
+    back : InUse (sum a b) f c → gone (sum a b) f c ≡ true
+    back (z, r, inl p) = rw (p, base-use a b (w .asc-a) f r)
+    back (z, r, inr p) = rw (p, base-use b a (w .asc-b) f (base-flip r), or-true)
+
 module _ (a b : List ℕ) (w : Parts a b) (f : List (List ℕ)) (e : expression f ≡ true) where
   -- a base of a sum shares no literal with its parts, and with either it is a cube of the expression
   pub bases-iff : (c : List ℕ) → (c ∈ bases (sum a b) f) ↔ Base a b f c
-  bases-iff c = (out, into)
-    where
-      out : c ∈ bases (sum a b) f → Base a b f c
-      out m =
-          let q = map-out (λ z. without z a) (found (sum a b) f) m in
-          let k = keep-out (useOf a b f) f (q .1) in
-          let u = use-out a b f (q .0) (k .1) in
-          let h = cube-asc f e (k .0) in
-          subst (Base a b f) (sym (q .2)) (record {
-            ascending = without-asc (q .0) a h;
-            off-a = without-apart (q .0) a;
-            off-b = u .free;
-            with-a = Memᴰ·cast (rejoin (q .0) a h (w .asc-a) (u .inside)) (k .0);
-            with-b = u .partner;
-          })
-
-      into : Base a b f c → c ∈ bases (sum a b) f
-      into r =
-          let p : without (union c a) a ≡ c = unjoin c a (r .ascending) (w .asc-a) (r .off-a) in
-          Memᴰ·cast (sym p) (map-in (λ z. without z a) (keep-in (useOf a b f) (r .with-a) (use-in a b f (union c a) (record {
-            inside = union-right c a;
-            free = rw p (r .off-b);
-            partner = rw p (r .with-b);
-          }))))
+  bases-iff c = (
+    λ m. let q = map-out (λ z. without z a) (found (sum a b) f) m in
+        let k = keep-out (useOf a b f) f (q .1) in
+        subst (Base a b f) (sym (q .2)) ((use-base a b (w .asc-a) f e (k .0) (k .1)) .0),
+    λ r. Memᴰ·cast (sym (unjoin c a (r .ascending) (w .asc-a) (r .off-a))) (map-in (λ z. without z a) (keep-in (useOf a b f) (r .with-a) (base-use a b (w .asc-a) f r))),
+  )
 
   -- each of them once
   pub bases-once : pairwise (λ c d. not (same c d)) (bases (sum a b) f) ≡ true

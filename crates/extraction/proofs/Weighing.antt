@@ -20,7 +20,7 @@ use Rattle.expression.proofs.Sorting.{total-sort}
 use Rattle.network.specs.Net.{Net, nodes, variables, cubeCount, literalCount}
 use Rattle.network.specs.Meaning.{Reads}
 use Rattle.extraction.specs.Divisor.{Divisor, pair, sum, own, small, sound, useOf, part, hit, gone, found, bases, uses, swap, rewrite}
-use Rattle.extraction.specs.Extract.{step, allUses, allBases, weight}
+use Rattle.extraction.specs.Extract.{step, allUses, basesLiterals, weight}
 use Rattle.extraction.specs.Meaning.{Good, Parts, other, Partner}
 use Rattle.extraction.proofs.Using.{cube-asc, cubes-differ, differ-in, differ-out, sum-parts, part-asc, use-out, use-partner, hit-inside, use-one-way}
 use Rattle.extraction.proofs.Replacing.{new-absent}
@@ -119,8 +119,8 @@ saves k (sum a b) s f e u = sum-saves k a b s f e u
 
 -- ---- in a network
 
-gain-sum : (n : Net) (a b : List ℕ) → total (gain (sum a b)) (nodes n) ≡ allBases n (sum a b) + allUses n (sum a b) * ((length a + length b) - 1)
-unfolding allUses allBases
+gain-sum : (n : Net) (a b : List ℕ) → total (gain (sum a b)) (nodes n) ≡ basesLiterals n (sum a b) + allUses n (sum a b) * ((length a + length b) - 1)
+unfolding allUses basesLiterals
 gain-sum n a b = omega (
   arith,
   total-sum (gain (sum a b)) (λ f. literalsOf (bases (sum a b) f)) (λ f. uses (sum a b) f * ((length a + length b) - 1)) (nodes n) (λ f m. refl),
@@ -165,7 +165,7 @@ module _ (n : Net) (g : Good n) where
   unfolding allUses
   pair-bound p q s = omega (arith, total-saved n g (pair p q) s)
 
-  pub sum-bound : (a b : List ℕ) → sound (sum a b) ≡ true → allBases n (sum a b) + allUses n (sum a b) * ((length a + length b) - 1) ≤ literalCount n
+  pub sum-bound : (a b : List ℕ) → sound (sum a b) ≡ true → basesLiterals n (sum a b) + allUses n (sum a b) * ((length a + length b) - 1) ≤ literalCount n
   sum-bound a b s = omega (arith, total-saved n g (sum a b) s, gain-sum n a b)
 
 -- ---- how many cubes a step leaves

@@ -17,13 +17,13 @@ unfoldable pub allUses : Net → Divisor → ℕ
 allUses n d = total (uses d) (nodes n)
 
 -- the literals in all bases
-unfoldable pub allBases : Net → Divisor → ℕ
-allBases n d = total (λ f. literalsOf (bases d f)) (nodes n)
+unfoldable pub basesLiterals : Net → Divisor → ℕ
+basesLiterals n d = total (λ f. literalsOf (bases d f)) (nodes n)
 
 -- pair: uses - 2; sum with s literals in its parts: (literals in all bases) + uses·(s - 1) - s
 unfoldable pub weight : Net → Divisor → ℤ
 weight n (pair p q) = pos (allUses n (pair p q)) -ℤ pos 2
-weight n (sum a b) = pos (allBases n (sum a b) + allUses n (sum a b) * ((length a + length b) - 1)) -ℤ pos (length a + length b)
+weight n (sum a b) = pos (basesLiterals n (sum a b) + allUses n (sum a b) * ((length a + length b) - 1)) -ℤ pos (length a + length b)
 
 -- ---- all divisors of a network
 

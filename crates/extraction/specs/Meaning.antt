@@ -1,11 +1,12 @@
 -- What the laws of extraction speak of: good networks, uses and bases, the best divisor, what a network allows, and how a run goes.
 use Prim.Native.Nat.{ℕ, _<_, _≤_}
 use mathlib.Core.Path.{_≡_}
+use mathlib.Core.Logic.{_⊎_}
 use mathlib.Core.Bool.{true, false}
 use mathlib.Core.List.{List, [], _∷_, map, List·Memᴰ}
 use lib.IntN.{ℤ, pos, _+ℤ_}
 use lib.Signed.{ltZ}
-use Rattle.sets.specs.Sets.{sub, apart, asc, union, without, meet, before}
+use Rattle.sets.specs.Sets.{mem, sub, apart, asc, union, without, meet, before}
 use Rattle.expression.specs.Expression.{expression}
 use Rattle.network.specs.Net.{Node, Net, nodes, variables, cubeCount, literalCount}
 use Rattle.network.specs.Meaning.{Reads, Through}
@@ -66,6 +67,11 @@ pub record Base (a b : List ℕ) (f : List (List ℕ)) (c : List ℕ) : Type 0 w
   pub off-b : apart c b ≡ true
   pub with-a : List·Memᴰ (union c a) f
   pub with-b : List·Memᴰ (union c b) f
+
+-- c is a cube of a use: it has both literals, or it is a base with one of the parts
+abbrev pub InUse : Divisor → List (List ℕ) → List ℕ → Type 0
+InUse (pair p q) f c = (mem p c ≡ true) × (mem q c ≡ true)
+InUse (sum a b) f c = (z : List ℕ) × Base a b f z × ((c ≡ union z a) ⊎ (c ≡ union z b))
 
 -- a node of the network has a use of the divisor
 abbrev pub Used : Net → Divisor → Type 0

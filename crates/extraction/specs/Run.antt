@@ -33,13 +33,13 @@ pub data Move : Type 0 where
   take : Divisor → Move
 
 -- numbers: 64 variables; rows: the step would pass 1,088 cubes
-unfoldable pub room : Net → Divisor → Move
-room n d = cond (ltb (variables n) mostVariables) (cond (ltb mostCubes (cubeCount (step n d))) (stuck rows) (take d)) (stuck numbers)
+unfoldable pub roomFor : Net → Divisor → Move
+roomFor n d = cond (ltb (variables n) mostVariables) (cond (ltb mostCubes (cubeCount (step n d))) (stuck rows) (take d)) (stuck numbers)
 
 -- done: no divisor with weight above 0
 unfoldable pub choose : Net → Option Divisor → Move
 choose n none = finished
-choose n (some d) = cond (ltZ (pos 0) (weight n d)) (room n d) finished
+choose n (some d) = cond (ltZ (pos 0) (weight n d)) (roomFor n d) finished
 
 unfoldable pub move : Net → Move
 move n = choose n (best n)

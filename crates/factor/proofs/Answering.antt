@@ -22,7 +22,7 @@ use Rattle.expression.proofs.Words.{cubes-length}
 use Rattle.expression.proofs.Sorting.{sort-out, sort-length, total-sort}
 use Rattle.factor.specs.Form.{formBy}
 use Rattle.factor.specs.Text.{formText, textOf}
-use Rattle.factor.specs.Parts.{part, Copied, sumOf}
+use Rattle.factor.specs.Parts.{cubesFrom, Refilled, writtenSum}
 use Rattle.factor.specs.Answers.{refusedBy, Told}
 use Rattle.factor.specs.declared.Wrote.{Wrote}
 use Rattle.factor.specs.declared.Wrote.the-variants.{Bytes, Refused}
@@ -30,15 +30,15 @@ use Rattle.factor.proofs.Writing.{Inside, sum-length}
 
 -- ---- the cubes copied and sorted
 
-pub sorted-front : {old mid new f : List ℕ} {n : ℕ} → n ≡ length (cubesOf f) → Copied old mid f 0 n → Placed mid new 0 (sort (take (n - 0) (drop 0 (cubesOf mid)))) → part 0 n new ≡ sort (cubesOf f)
+pub sorted-front : {old mid new f : List ℕ} {n : ℕ} → n ≡ length (cubesOf f) → Refilled old mid f 0 n → Placed mid new 0 (sort (take (n - 0) (drop 0 (cubesOf mid)))) → cubesFrom 0 n new ≡ sort (cubesOf f)
 sorted-front {old} {mid} {new} {f} {n} h c p =
     let e : n - 0 ≡ n = omega arith in
     let same : take (n - 0) (cubesOf mid) ≡ cubesOf f =
     ap (λ k. take k (cubesOf mid)) e ∙ c .first ∙ ap (λ k. take k (cubesOf f)) e ∙ take-all n (cubesOf f) (omega arith) in
     ap (take n) (p .cubes) ∙ take-at (sort (take (n - 0) (cubesOf mid))) _ n (sort-length _ ∙ ap length same ∙ sym h) ∙ ap sort same
 
-pub text-sum : (ws : List ℕ) → sumOf (sort (cubesOf ws)) ≡ textOf ws
-unfolding sumOf textOf
+pub text-sum : (ws : List ℕ) → writtenSum (sort (cubesOf ws)) ≡ textOf ws
+unfolding writtenSum textOf
 text-sum ws = ap (λ k. formText (formBy k (sort (cubesOf ws)))) (total-sort length (cubesOf ws))
 
 -- ---- how long it is at most

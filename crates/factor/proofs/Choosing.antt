@@ -11,35 +11,35 @@ use borrow.Author.Tests.{lt-ltb, le-ltb, ltb-true, ltb-false}
 use Rattle.sets.specs.Sets.{mem}
 use Rattle.sets.proofs.Truth.{decided}
 use Rattle.cube.specs.Cube.{width}
-use Rattle.factor.specs.Form.{uses, most, mostUsed}
+use Rattle.factor.specs.Form.{usedIn, most, mostUsed}
 
 abbrev Cubes : Type 0
 Cubes = List (List ℕ)
 
 -- ---- one literal at a time
 
-pub uses-yes : (l : ℕ) (c : List ℕ) (f : Cubes) → mem l c ≡ true → uses l (c ∷ f) ≡ suc (uses l f)
+pub uses-yes : (l : ℕ) (c : List ℕ) (f : Cubes) → mem l c ≡ true → usedIn l (c ∷ f) ≡ suc (usedIn l f)
 uses-yes l c f h = rw h
 
-pub uses-no : (l : ℕ) (c : List ℕ) (f : Cubes) → mem l c ≡ false → uses l (c ∷ f) ≡ uses l f
+pub uses-no : (l : ℕ) (c : List ℕ) (f : Cubes) → mem l c ≡ false → usedIn l (c ∷ f) ≡ usedIn l f
 uses-no l c f h = rw h
 
-most-suc : (k : ℕ) (f : Cubes) (l b : ℕ) → most (suc k) f l b ≡ most k f (suc l) (cond (ltb (uses b f) (uses l f)) l b)
+most-suc : (k : ℕ) (f : Cubes) (l b : ℕ) → most (suc k) f l b ≡ most k f (suc l) (cond (ltb (usedIn b f) (usedIn l f)) l b)
 unfolding most
 most-suc k f l b = refl
 
 module _ (f : Cubes) (n l b : ℕ) (inside : l < n) where
-  one : (t : Bool) → ltb (uses b f) (uses l f) ≡ t → most (n - l) f l b ≡ most (n - (l + 1)) f (l + 1) (cond t l b)
+  one : (t : Bool) → ltb (usedIn b f) (usedIn l f) ≡ t → most (n - l) f l b ≡ most (n - (l + 1)) f (l + 1) (cond t l b)
   one t h =
       let less : n - l ≡ suc (n - (l + 1)) = omega arith in
       let next : suc l ≡ l + 1 = omega arith in
       ap (λ k. most k f l b) less ∙ most-suc (n - (l + 1)) f l b ∙ ap₂ (λ m u. most (n - (l + 1)) f m (cond u l b)) next h
 
-  pub most-taken : uses b f < uses l f → most (n - l) f l b ≡ most (n - (l + 1)) f (l + 1) l
-  most-taken h = one true (lt-ltb (uses b f) (uses l f) h)
+  pub most-taken : usedIn b f < usedIn l f → most (n - l) f l b ≡ most (n - (l + 1)) f (l + 1) l
+  most-taken h = one true (lt-ltb (usedIn b f) (usedIn l f) h)
 
-  pub most-left : uses l f ≤ uses b f → most (n - l) f l b ≡ most (n - (l + 1)) f (l + 1) b
-  most-left h = one false (le-ltb (uses b f) (uses l f) h)
+  pub most-left : usedIn l f ≤ usedIn b f → most (n - l) f l b ≡ most (n - (l + 1)) f (l + 1) b
+  most-left h = one false (le-ltb (usedIn b f) (usedIn l f) h)
 
 pub most-end : (f : Cubes) (n l b : ℕ) → n ≤ l → most (n - l) f l b ≡ b
 unfolding most
@@ -50,28 +50,28 @@ most-end f n l b h = let e : n - l ≡ 0 = omega arith in rw e
 -- b is in most cubes among the literals below n, and the smallest such
 record Best (f : Cubes) (n b : ℕ) : Type 0 where
   inside : b < n
-  most : (m : ℕ) → m < n → uses m f ≤ uses b f
-  first : (m : ℕ) → m < b → uses m f < uses b f
+  most : (m : ℕ) → m < n → usedIn m f ≤ usedIn b f
+  first : (m : ℕ) → m < b → usedIn m f < usedIn b f
 
 best-one : (f : Cubes) → Best f 1 0
 best-one f = record { inside = omega arith; most = λ m h. let e : m ≡ 0 = omega arith in rw e (omega arith); first = λ m h. absurd (omega arith) }
 
-best-next : (f : Cubes) (l b : ℕ) → Best f l b → Best f (suc l) (cond (ltb (uses b f) (uses l f)) l b)
-best-next f l b h = go (decided (ltb (uses b f) (uses l f)))
+best-next : (f : Cubes) (l b : ℕ) → Best f l b → Best f (suc l) (cond (ltb (usedIn b f) (usedIn l f)) l b)
+best-next f l b h = go (decided (ltb (usedIn b f) (usedIn l f)))
   where
-    below : (u : ℕ) → uses l f ≤ u → uses b f ≤ u → (m : ℕ) → m < suc l → uses m f ≤ u
+    below : (u : ℕ) → usedIn l f ≤ u → usedIn b f ≤ u → (m : ℕ) → m < suc l → usedIn m f ≤ u
     below u p q m i = elim (eq-or-lt-of-le i) [
       | inl e ↦ let r : m ≡ l = omega arith in rw r p
       | inr k ↦ omega (arith, h .most m (omega arith))
     ]
 
-    go : (ltb (uses b f) (uses l f) ≡ true) ⊎ (ltb (uses b f) (uses l f) ≡ false) → Best f (suc l) (cond (ltb (uses b f) (uses l f)) l b)
+    go : (ltb (usedIn b f) (usedIn l f) ≡ true) ⊎ (ltb (usedIn b f) (usedIn l f) ≡ false) → Best f (suc l) (cond (ltb (usedIn b f) (usedIn l f)) l b)
     go (inl t) =
-        let s : uses b f < uses l f = ltb-true _ _ t in
-        rw t (record { inside = omega arith; most = below (uses l f) (omega arith) (omega arith); first = λ m i. omega (arith, h .most m i) })
+        let s : usedIn b f < usedIn l f = ltb-true _ _ t in
+        rw t (record { inside = omega arith; most = below (usedIn l f) (omega arith) (omega arith); first = λ m i. omega (arith, h .most m i) })
     go (inr t) =
-        let s : uses l f ≤ uses b f = ltb-false _ _ t in
-        rw t (record { inside = omega (arith, h .inside); most = below (uses b f) s (omega arith); first = h .first })
+        let s : usedIn l f ≤ usedIn b f = ltb-false _ _ t in
+        rw t (record { inside = omega (arith, h .inside); most = below (usedIn b f) s (omega arith); first = h .first })
 
 best-most : (k : ℕ) (f : Cubes) (l b : ℕ) → Best f l b → Best f (l + k) (most k f l b)
 unfolding most
@@ -86,8 +86,8 @@ best-used f = best-most 127 f 1 0 (best-one f)
 pub mostUsed-inside : (f : Cubes) → mostUsed f < 2 * width
 mostUsed-inside f = best-used f .inside
 
-pub mostUsed-most : (f : Cubes) (l : ℕ) → l < 2 * width → uses l f ≤ uses (mostUsed f) f
+pub mostUsed-most : (f : Cubes) (l : ℕ) → l < 2 * width → usedIn l f ≤ usedIn (mostUsed f) f
 mostUsed-most f l h = best-used f .most l h
 
-pub mostUsed-first : (f : Cubes) (l : ℕ) → l < mostUsed f → uses l f < uses (mostUsed f) f
+pub mostUsed-first : (f : Cubes) (l : ℕ) → l < mostUsed f → usedIn l f < usedIn (mostUsed f) f
 mostUsed-first f l h = best-used f .first l h

@@ -1,21 +1,21 @@
 -- Multiplying a form out gives the cubes of F, each as often as F has it; so the form has the value of F. Assumes nothing.
 use Prim.Native.Nat.{ℕ, zero, suc}
 use mathlib.Core.Path.{_≡_, refl, sym, _∙_, ap, ap₂, subst}
-use mathlib.Core.Bool.{Bool, true, false, cond, not, _&&_, _||_, and-false, and-or-distrib-left}
+use mathlib.Core.Bool.{Bool, true, false, cond, not, _&&_, _||_, and-true, and-false, and-or-distrib-left}
 use mathlib.Core.List.{List, [], _∷_, _++_, map, append-nil, List·Memᴰ·head as here, List·Memᴰ·tail as there}
 use mathlib.Core.Logic.{_⊎_, inl, inr, _↔_}
-use lib.Dec.{ltb, eqb}
+use lib.Dec.{ltb}
 use lib.ListN.{length}
-use borrow.Author.Tests.{eqb-true, ltb-true, ltb-false}
+use borrow.Author.Tests.{ltb-true, ltb-false}
 use Rattle.sets.specs.Lists.{any, all, keep, pairwise, isNil}
-use Rattle.sets.specs.Sets.{mem, asc, insert, union, without, before, proper}
+use Rattle.sets.specs.Sets.{mem, sub, asc, insert, union, without, before, proper}
 use Rattle.sets.proofs.Truth.{both, decided, clash}
 use Rattle.sets.proofs.Lists.{_∈_, all-in, all-out, keep-out, map-out}
-use Rattle.sets.proofs.Sets.{sub-in, without-asc, rejoin, union-comm, insert-all}
+use Rattle.sets.proofs.Sets.{without-asc, rejoin, union-comm, insert-all}
 use Rattle.expression.specs.Expression.{isCube, loose, expression, ordered, place, sort}
 use Rattle.expression.proofs.Sorting.{sort-in, sort-out, sort-length, sort-sort, sort-middle, sort-append-comm, all-sort, value-sort, expression-sort}
 use Rattle.expression.proofs.Values.{append-value}
-use Rattle.factor.specs.Form.{uses, mostUsed, over, rest, Form, sum, times, plus, formBy, formOf, expanded, formValue}
+use Rattle.factor.specs.Form.{usedIn, mostUsed, over, rest, Form, sum, times, plus, formBy, formOf, expanded, formValue}
 use Rattle.factor.proofs.Falling.{form-plain, form-times, form-plus}
 
 abbrev Cubes : Type 0
@@ -64,13 +64,8 @@ sort-keep p (c ∷ f) =
 -- ---- F/l with l put back is the cubes of F that have l
 
 insert-back : (l : ℕ) (c : List ℕ) → asc c ≡ true → mem l c ≡ true → insert l (without c (l ∷ [])) ≡ c
-unfolding union mem
-insert-back l c h m =
-    union-comm (l ∷ []) (without c (l ∷ [])) refl (without-asc c (l ∷ []) h) ∙ rejoin c (l ∷ []) h refl (sub-in (l ∷ []) c (λ z i. only z (decided (eqb z l)) i))
-  where
-    only : (z : ℕ) → (eqb z l ≡ true) ⊎ (eqb z l ≡ false) → (eqb z l || false) ≡ true → mem z c ≡ true
-    only z (inl e) i = rw (eqb-true z l e) m
-    only z (inr e) i = clash i (rw e)
+unfolding union sub
+insert-back l c h m = union-comm (l ∷ []) (without c (l ∷ [])) refl (without-asc c (l ∷ []) h) ∙ rejoin c (l ∷ []) h refl (and-true (mem l c) ∙ m)
 
 over-back : (l : ℕ) (f : Cubes) → ((c : List ℕ) → c ∈ f → insert l (without c (l ∷ [])) ≡ c) → map (insert l) (map (λ c. without c (l ∷ [])) f) ≡ f
 over-back l [] h = refl
@@ -97,12 +92,12 @@ pub expanded-sort : (k : ℕ) (f : Cubes) → all asc f ≡ true → sort (expan
 unfolding formBy expanded
 expanded-sort zero f h = refl
 expanded-sort (suc k) f h =
-    go (decided (ltb (uses (mostUsed f) f) 2)) (decided (isNil (rest (mostUsed f) f))) (expanded-sort k (over (mostUsed f) f) (over-asc (mostUsed f) f h)) (expanded-sort k (rest (mostUsed f) f) (rest-asc (mostUsed f) f h))
+    go (decided (ltb (usedIn (mostUsed f) f) 2)) (decided (isNil (rest (mostUsed f) f))) (expanded-sort k (over (mostUsed f) f) (over-asc (mostUsed f) f h)) (expanded-sort k (rest (mostUsed f) f) (rest-asc (mostUsed f) f h))
   where
     first : sort (expanded (formBy k (over (mostUsed f) f))) ≡ sort (over (mostUsed f) f) → sort (map (insert (mostUsed f)) (expanded (formBy k (over (mostUsed f) f)))) ≡ sort (keep (mem (mostUsed f)) f)
     first q = sort-map (insert (mostUsed f)) _ _ q ∙ ap sort (over-multiplied (mostUsed f) f h)
 
-    go : (ltb (uses (mostUsed f) f) 2 ≡ true) ⊎ (ltb (uses (mostUsed f) f) 2 ≡ false) → (isNil (rest (mostUsed f) f) ≡ true) ⊎ (isNil (rest (mostUsed f) f) ≡ false)
+    go : (ltb (usedIn (mostUsed f) f) 2 ≡ true) ⊎ (ltb (usedIn (mostUsed f) f) 2 ≡ false) → (isNil (rest (mostUsed f) f) ≡ true) ⊎ (isNil (rest (mostUsed f) f) ≡ false)
         → sort (expanded (formBy k (over (mostUsed f) f))) ≡ sort (over (mostUsed f) f) → sort (expanded (formBy k (rest (mostUsed f) f))) ≡ sort (rest (mostUsed f) f)
         → sort (expanded (formBy (suc k) f)) ≡ sort f
     go (inl t) n q r = ap (λ x. sort (expanded x)) (form-plain f (suc k) (ltb-true _ _ t))

@@ -14,7 +14,7 @@ use Rattle.sets.proofs.Truth.{decided}
 use Rattle.sets.proofs.Lists.{all-in, keep-all, keep-fewer}
 use Rattle.sets.proofs.Sets.{of-mem, mem-head}
 use Rattle.expression.specs.Expression.{literalsOf}
-use Rattle.factor.specs.Form.{uses, mostUsed, over, rest, Form, sum, times, plus, formBy}
+use Rattle.factor.specs.Form.{usedIn, mostUsed, over, rest, Form, sum, times, plus, formBy}
 
 abbrev Cubes : Type 0
 Cubes = List (List ℕ)
@@ -29,29 +29,29 @@ without-shorter l c h =
 
 -- ---- the literals and the cubes of both parts
 
-pub literals-fall : (l : ℕ) (f : Cubes) → literalsOf (over l f) + uses l f + literalsOf (rest l f) ≤ literalsOf f
+pub literals-fall : (l : ℕ) (f : Cubes) → literalsOf (over l f) + usedIn l f + literalsOf (rest l f) ≤ literalsOf f
 literals-fall l [] = omega arith
 literals-fall l (c ∷ f) = go (mem l c) refl (literals-fall l f)
   where
-    go : (b : Bool) → mem l c ≡ b → literalsOf (over l f) + uses l f + literalsOf (rest l f) ≤ literalsOf f
+    go : (b : Bool) → mem l c ≡ b → literalsOf (over l f) + usedIn l f + literalsOf (rest l f) ≤ literalsOf f
         → literalsOf (map (λ d. without d (l ∷ [])) (cond b (c ∷ keep (mem l) f) (keep (mem l) f))) + length (cond b (c ∷ keep (mem l) f) (keep (mem l) f)) + literalsOf (cond (not b) (c ∷ rest l f) (rest l f))
         ≤ length c + literalsOf f
     go true e k = omega (arith, without-shorter l c e)
     go false e k = omega arith
 
-pub cubes-split : (l : ℕ) (f : Cubes) → uses l f + length (rest l f) ≡ length f
+pub cubes-split : (l : ℕ) (f : Cubes) → usedIn l f + length (rest l f) ≡ length f
 cubes-split l [] = refl
 cubes-split l (c ∷ f) =
     elim (mem l c) as (λ b. length (cond b (c ∷ keep (mem l) f) (keep (mem l) f)) + length (cond (not b) (c ∷ rest l f) (rest l f)) ≡ suc (length f))
     [ true ↦ omega (arith, cubes-split l f) | false ↦ omega (arith, cubes-split l f) ]
 
-pub over-length : (l : ℕ) (f : Cubes) → length (over l f) ≡ uses l f
+pub over-length : (l : ℕ) (f : Cubes) → length (over l f) ≡ usedIn l f
 over-length l f = length-map (keep (mem l) f) (λ c. without c (l ∷ []))
 
-pub over-less : (l : ℕ) (f : Cubes) → 2 ≤ uses l f → literalsOf (over l f) < literalsOf f
+pub over-less : (l : ℕ) (f : Cubes) → 2 ≤ usedIn l f → literalsOf (over l f) < literalsOf f
 over-less l f h = omega (arith, literals-fall l f)
 
-pub rest-less : (l : ℕ) (f : Cubes) → 2 ≤ uses l f → literalsOf (rest l f) < literalsOf f
+pub rest-less : (l : ℕ) (f : Cubes) → 2 ≤ usedIn l f → literalsOf (rest l f) < literalsOf f
 rest-less l f h = omega (arith, literals-fall l f)
 
 -- ---- the form, case by case
@@ -63,37 +63,37 @@ module _ (f : Cubes) where
   abbrev turn : Bool → Bool → Form → Form → Form
   turn few none q r = cond few (sum f) (cond none (times l q) (plus l q r))
 
-  form-suc : (k : ℕ) → formBy (suc k) f ≡ turn (ltb (uses l f) 2) (isNil (rest l f)) (formBy k (over l f)) (formBy k (rest l f))
+  form-suc : (k : ℕ) → formBy (suc k) f ≡ turn (ltb (usedIn l f) 2) (isNil (rest l f)) (formBy k (over l f)) (formBy k (rest l f))
   unfolding formBy
   form-suc k = refl
 
-  pub form-plain : (k : ℕ) → uses l f < 2 → formBy k f ≡ sum f
+  pub form-plain : (k : ℕ) → usedIn l f < 2 → formBy k f ≡ sum f
   unfolding formBy
   form-plain zero h = refl
-  form-plain (suc k) h = form-suc k ∙ ap (λ t. turn t (isNil (rest l f)) (formBy k (over l f)) (formBy k (rest l f))) (lt-ltb (uses l f) 2 h)
+  form-plain (suc k) h = form-suc k ∙ ap (λ t. turn t (isNil (rest l f)) (formBy k (over l f)) (formBy k (rest l f))) (lt-ltb (usedIn l f) 2 h)
 
-  pub form-times : (k : ℕ) → 2 ≤ uses l f → isNil (rest l f) ≡ true → formBy (suc k) f ≡ times l (formBy k (over l f))
-  form-times k h e = form-suc k ∙ ap₂ (λ t u. turn t u (formBy k (over l f)) (formBy k (rest l f))) (le-ltb (uses l f) 2 h) e
+  pub form-times : (k : ℕ) → 2 ≤ usedIn l f → isNil (rest l f) ≡ true → formBy (suc k) f ≡ times l (formBy k (over l f))
+  form-times k h e = form-suc k ∙ ap₂ (λ t u. turn t u (formBy k (over l f)) (formBy k (rest l f))) (le-ltb (usedIn l f) 2 h) e
 
-  pub form-plus : (k : ℕ) → 2 ≤ uses l f → isNil (rest l f) ≡ false → formBy (suc k) f ≡ plus l (formBy k (over l f)) (formBy k (rest l f))
-  form-plus k h e = form-suc k ∙ ap₂ (λ t u. turn t u (formBy k (over l f)) (formBy k (rest l f))) (le-ltb (uses l f) 2 h) e
+  pub form-plus : (k : ℕ) → 2 ≤ usedIn l f → isNil (rest l f) ≡ false → formBy (suc k) f ≡ plus l (formBy k (over l f)) (formBy k (rest l f))
+  form-plus k h e = form-suc k ∙ ap₂ (λ t u. turn t u (formBy k (over l f)) (formBy k (rest l f))) (le-ltb (usedIn l f) 2 h) e
 
 -- ---- as many turns as there are literals are enough
 
 pub form-enough : (k j : ℕ) (f : Cubes) → literalsOf f ≤ k → literalsOf f ≤ j → formBy k f ≡ formBy j f
-form-enough zero j f a b = let few : uses (mostUsed f) f < 2 = omega (arith, literals-fall (mostUsed f) f) in form-plain f 0 few ∙ sym (form-plain f j few)
-form-enough (suc k) zero f a b = let few : uses (mostUsed f) f < 2 = omega (arith, literals-fall (mostUsed f) f) in form-plain f (suc k) few ∙ sym (form-plain f 0 few)
-form-enough (suc k) (suc j) f a b = go (decided (ltb (uses (mostUsed f) f) 2)) (form-enough k j (over (mostUsed f) f)) (form-enough k j (rest (mostUsed f) f))
+form-enough zero j f a b = let few : usedIn (mostUsed f) f < 2 = omega (arith, literals-fall (mostUsed f) f) in form-plain f 0 few ∙ sym (form-plain f j few)
+form-enough (suc k) zero f a b = let few : usedIn (mostUsed f) f < 2 = omega (arith, literals-fall (mostUsed f) f) in form-plain f (suc k) few ∙ sym (form-plain f 0 few)
+form-enough (suc k) (suc j) f a b = go (decided (ltb (usedIn (mostUsed f) f) 2)) (form-enough k j (over (mostUsed f) f)) (form-enough k j (rest (mostUsed f) f))
   where
-    go : (ltb (uses (mostUsed f) f) 2 ≡ true) ⊎ (ltb (uses (mostUsed f) f) 2 ≡ false)
+    go : (ltb (usedIn (mostUsed f) f) 2 ≡ true) ⊎ (ltb (usedIn (mostUsed f) f) 2 ≡ false)
         → (literalsOf (over (mostUsed f) f) ≤ k → literalsOf (over (mostUsed f) f) ≤ j → formBy k (over (mostUsed f) f) ≡ formBy j (over (mostUsed f) f))
         → (literalsOf (rest (mostUsed f) f) ≤ k → literalsOf (rest (mostUsed f) f) ≤ j → formBy k (rest (mostUsed f) f) ≡ formBy j (rest (mostUsed f) f))
         → formBy (suc k) f ≡ formBy (suc j) f
-    go (inl t) q r = let few : uses (mostUsed f) f < 2 = ltb-true _ _ t in form-plain f (suc k) few ∙ sym (form-plain f (suc j) few)
+    go (inl t) q r = let few : usedIn (mostUsed f) f < 2 = ltb-true _ _ t in form-plain f (suc k) few ∙ sym (form-plain f (suc j) few)
     go (inr t) q r =
-        let many : 2 ≤ uses (mostUsed f) f = ltb-false _ _ t in
+        let many : 2 ≤ usedIn (mostUsed f) f = ltb-false _ _ t in
         let o : literalsOf (over (mostUsed f) f) < literalsOf f = over-less (mostUsed f) f many in
         let s : literalsOf (rest (mostUsed f) f) < literalsOf f = rest-less (mostUsed f) f many in
         form-suc f k
-        ∙ ap₂ (turn f (ltb (uses (mostUsed f) f) 2) (isNil (rest (mostUsed f) f))) (q (omega arith) (omega arith)) (r (omega arith) (omega arith))
+        ∙ ap₂ (turn f (ltb (usedIn (mostUsed f) f) 2) (isNil (rest (mostUsed f) f))) (q (omega arith) (omega arith)) (r (omega arith) (omega arith))
         ∙ sym (form-suc f j)

@@ -5,3 +5,4 @@ pub mod Falling
 pub mod Writing
 pub mod Answering
 pub mod Expanding
+pub mod Dividing

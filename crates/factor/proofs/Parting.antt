@@ -14,7 +14,7 @@ use Rattle.cube.specs.Cube.{joined, width}
 use Rattle.expression.specs.Words.{cubesOf}
 use Rattle.expression.proofs.Words.{cubes-length}
 use Rattle.factor.specs.Form.{over, rest}
-use Rattle.factor.specs.Parts.{part, Outside, Gathered, Copied, Parted}
+use Rattle.factor.specs.Parts.{cubesFrom, Elsewhere, Gathered, Refilled, Parted}
 
 module _ {A : Type 0} where
   module _ (f : List A) (a e : ℕ) where
@@ -131,22 +131,22 @@ copying-more {f} {g} {s} {m} {i} p h k =
 
 -- ---- gathered and copied back, the part is parted
 
-pub parted : {old mid new spare : List ℕ} {a m e l : ℕ} → Gathered old mid spare a m e l → Copied mid new spare m e
+pub parted : {old mid new spare : List ℕ} {a m e l : ℕ} → Gathered old mid spare a m e l → Refilled mid new spare m e
     → a ≤ length (cubesOf old) → e ≤ length (cubesOf mid) → e ≤ length (cubesOf new) → Parted old new a m e l
 parted {old} {mid} {new} {spare} {a} {m} {e} {l} p q h k n =
     let f = cubesOf old in
     let g = cubesOf new in
-    let w : take e g ≡ take m (cubesOf mid) ++ rest l (part a e old) = q .first ∙ ap (take m (cubesOf mid) ++_) (p .second) in
+    let w : take e g ≡ take m (cubesOf mid) ++ rest l (cubesFrom a e old) = q .first ∙ ap (take m (cubesOf mid) ++_) (p .second) in
     let lm : length (take m (cubesOf mid)) ≡ m = length-take-le m (cubesOf mid) (omega (arith, p .most)) in
     let la : length (take a f) ≡ a = length-take-le a f h in
-    let tm : take m g ≡ take a f ++ over l (part a e old) = sym (take-take m e g (p .most)) ∙ ap (take m) w ∙ take-at (take m (cubesOf mid)) (rest l (part a e old)) m lm ∙ p .first in
+    let tm : take m g ≡ take a f ++ over l (cubesFrom a e old) = sym (take-take m e g (p .most)) ∙ ap (take m) w ∙ take-at (take m (cubesOf mid)) (rest l (cubesFrom a e old)) m lm ∙ p .first in
     record {
       least = p .least;
       most = p .most;
-      first = ap (drop a) tm ∙ drop-at (take a f) (over l (part a e old)) a la;
-      second = ap (drop m) w ∙ drop-at (take m (cubesOf mid)) (rest l (part a e old)) m lm;
+      first = ap (drop a) tm ∙ drop-at (take a f) (over l (cubesFrom a e old)) a la;
+      second = ap (drop m) w ∙ drop-at (take m (cubesOf mid)) (rest l (cubesFrom a e old)) m lm;
       outside = record {
-        front = sym (take-take a m g (p .least)) ∙ ap (take a) tm ∙ take-at (take a f) (over l (part a e old)) a la;
+        front = sym (take-take a m g (p .least)) ∙ ap (take a) tm ∙ take-at (take a f) (over l (cubesFrom a e old)) a la;
         back = q .back ∙ p .back;
       };
     }
@@ -175,19 +175,19 @@ module _ {A : Type 0} where
       ap (λ n. drop n f) (sym k) ∙ sym (drop-drop (e - d) d f) ∙ ap (drop (e - d)) s ∙ drop-drop (e - d) d g ∙ ap (λ n. drop n g) k
 
 -- the part after one that was worked on
-pub part-after : {old new : List ℕ} {a m : ℕ} → Outside old new a m → (e : ℕ) → m ≤ e → part m e new ≡ part m e old
+pub part-after : {old new : List ℕ} {a m : ℕ} → Elsewhere old new a m → (e : ℕ) → m ≤ e → cubesFrom m e new ≡ cubesFrom m e old
 part-after {old} {new} {a} {m} o e h = slice-from m e (cubesOf new) h ∙ ap (take (e - m)) (o .back) ∙ sym (slice-from m e (cubesOf old) h)
 
-pub outside-none : (ws : List ℕ) (a e : ℕ) → Outside ws ws a e
+pub outside-none : (ws : List ℕ) (a e : ℕ) → Elsewhere ws ws a e
 outside-none ws a e = record { front = refl; back = refl }
 
 -- work inside a part, and then inside one that lies in it
-pub outside-join : {old mid new : List ℕ} {a b d e : ℕ} → Outside old mid a e → Outside mid new b d → a ≤ b → d ≤ e → Outside old new a e
+pub outside-join : {old mid new : List ℕ} {a b d e : ℕ} → Elsewhere old mid a e → Elsewhere mid new b d → a ≤ b → d ≤ e → Elsewhere old new a e
 outside-join {old} {mid} {new} {a} {b} {d} {e} o p h k =
     record {
       front = sym (take-take a b (cubesOf new) h) ∙ ap (take a) (p .front) ∙ take-take a b (cubesOf mid) h ∙ o .front;
       back = drop-on d e (cubesOf new) (cubesOf mid) k (p .back) ∙ o .back;
     }
 
-pub part-some : (ws : List ℕ) (a e : ℕ) → a < e → e ≤ length (cubesOf ws) → isNil (part a e ws) ≡ false
+pub part-some : (ws : List ℕ) (a e : ℕ) → a < e → e ≤ length (cubesOf ws) → isNil (cubesFrom a e ws) ≡ false
 part-some ws a e h k = ap isNil (slice-next (cubesOf ws) a e [] h k)

@@ -16,9 +16,9 @@ use Rattle.cube.specs.Cube.{width}
 use Rattle.letters.specs.Letters.{literalText, cubeText}
 use Rattle.letters.proofs.Texts.{literal-short, cube-length}
 use Rattle.expression.specs.Expression.{literalsOf}
-use Rattle.factor.specs.Form.{uses, mostUsed, over, rest, formBy}
+use Rattle.factor.specs.Form.{usedIn, mostUsed, over, rest, formBy}
 use Rattle.factor.specs.Text.{sumText, formText}
-use Rattle.factor.specs.Parts.{sumOf, productOf}
+use Rattle.factor.specs.Parts.{writtenSum, productOf}
 use Rattle.factor.proofs.Falling.{literals-fall, cubes-split, over-length, over-less, rest-less, form-plain, form-times, form-plus, form-enough}
 use Rattle.factor.proofs.Choosing.{mostUsed-inside}
 
@@ -31,11 +31,11 @@ module _ (f : Cubes) where
   abbrev l : ℕ
   l = mostUsed f
 
-  pub sum-plain : uses l f < 2 → sumOf f ≡ sumText f
-  unfolding sumOf formText
+  pub sum-plain : usedIn l f < 2 → writtenSum f ≡ sumText f
+  unfolding writtenSum formText
   sum-plain h = ap formText (form-plain f (literalsOf f) h)
 
-  module _ (many : 2 ≤ uses l f) where
+  module _ (many : 2 ≤ usedIn l f) where
     k : ℕ
     k = literalsOf f - 1
 
@@ -51,13 +51,13 @@ module _ (f : Cubes) where
     unfolding k
     rest-enough = form-enough k _ (rest l f) (omega (arith, rest-less l f many)) (omega arith)
 
-    pub sum-times : isNil (rest l f) ≡ true → sumOf f ≡ productOf l (over l f)
-    unfolding sumOf productOf formText
+    pub sum-times : isNil (rest l f) ≡ true → writtenSum f ≡ productOf l (over l f)
+    unfolding writtenSum productOf formText
     sum-times e =
         ap formText (ap (λ n. formBy n f) turns ∙ form-times f k many e) ∙ ap (λ q. literalText l ++ (42 ∷ 40 ∷ (formText q ++ (41 ∷ [])))) over-enough
 
-    pub sum-plus : isNil (rest l f) ≡ false → sumOf f ≡ productOf l (over l f) ++ (43 ∷ sumOf (rest l f))
-    unfolding sumOf productOf formText
+    pub sum-plus : isNil (rest l f) ≡ false → writtenSum f ≡ productOf l (over l f) ++ (43 ∷ writtenSum (rest l f))
+    unfolding writtenSum productOf formText
     sum-plus e =
         ap formText (ap (λ n. formBy n f) turns ∙ form-plus f k many e)
         ∙ ap₂ (λ q r. literalText l ++ (42 ∷ 40 ∷ (formText q ++ (41 ∷ 43 ∷ formText r)))) over-enough rest-enough
@@ -66,27 +66,27 @@ module _ (f : Cubes) where
 -- `+` and the rest, if it has cubes
 pub after : Cubes → List ℕ
 after [] = []
-after (c ∷ f) = 43 ∷ sumOf (c ∷ f)
+after (c ∷ f) = 43 ∷ writtenSum (c ∷ f)
 
 pub after-none : (f : Cubes) → isNil f ≡ true → after f ≡ []
 unfolding after
 after-none [] h = refl
 after-none (c ∷ f) h = absurd (false≢true h)
 
-pub after-some : (f : Cubes) → isNil f ≡ false → after f ≡ 43 ∷ sumOf f
+pub after-some : (f : Cubes) → isNil f ≡ false → after f ≡ 43 ∷ writtenSum f
 unfolding after
 after-some [] h = absurd (true≢false h)
 after-some (c ∷ f) h = refl
 
 -- l chosen and the cubes parted by it
-pub sum-parted : (f : Cubes) (l : ℕ) (q r : Cubes) → l ≡ mostUsed f → 2 ≤ uses l f → q ≡ over l f → r ≡ rest l f → sumOf f ≡ productOf l q ++ after r
+pub sum-parted : (f : Cubes) (l : ℕ) (q r : Cubes) → l ≡ mostUsed f → 2 ≤ usedIn l f → q ≡ over l f → r ≡ rest l f → writtenSum f ≡ productOf l q ++ after r
 sum-parted f l q r h many a b = rw (a, b, h) (go (decided (isNil (rest (mostUsed f) f))))
   where
-    go : (isNil (rest (mostUsed f) f) ≡ true) ⊎ (isNil (rest (mostUsed f) f) ≡ false) → sumOf f ≡ productOf (mostUsed f) (over (mostUsed f) f) ++ after (rest (mostUsed f) f)
+    go : (isNil (rest (mostUsed f) f) ≡ true) ⊎ (isNil (rest (mostUsed f) f) ≡ false) → writtenSum f ≡ productOf (mostUsed f) (over (mostUsed f) f) ++ after (rest (mostUsed f) f)
     go (inl n) = sum-times f (rw h at many) n ∙ sym (append-nil _) ∙ ap (productOf (mostUsed f) (over (mostUsed f) f) ++_) (sym (after-none _ n))
     go (inr n) = sum-plus f (rw h at many) n ∙ ap (productOf (mostUsed f) (over (mostUsed f) f) ++_) (sym (after-some _ n))
 
-pub product-start : (l : ℕ) (f : Cubes) → productOf l f ≡ literalText l ++ (42 ∷ 40 ∷ (sumOf f ++ (41 ∷ [])))
+pub product-start : (l : ℕ) (f : Cubes) → productOf l f ≡ literalText l ++ (42 ∷ 40 ∷ (writtenSum f ++ (41 ∷ [])))
 unfolding productOf
 product-start l f = refl
 
@@ -111,32 +111,32 @@ plain-length [] h = omega arith
 plain-length (c ∷ []) h = omega (arith, cube-length c (h c (here refl)))
 plain-length (c ∷ d ∷ f) h = omega (arith, cube-length c (h c (here refl)), plain-length (d ∷ f) (λ x i. h x (there i)), length-append (cubeText c) (43 ∷ sumText (d ∷ f)))
 
-product-length : (l : ℕ) (f : Cubes) → l < 2 * width → length (productOf l f) ≤ length (sumOf f) + 7
+product-length : (l : ℕ) (f : Cubes) → l < 2 * width → length (productOf l f) ≤ length (writtenSum f) + 7
 unfolding productOf
-product-length l f h = omega (arith, literal-short l h, length-append (literalText l) (42 ∷ 40 ∷ (sumOf f ++ (41 ∷ []))), length-append (sumOf f) (41 ∷ []))
+product-length l f h = omega (arith, literal-short l h, length-append (literalText l) (42 ∷ 40 ∷ (writtenSum f ++ (41 ∷ []))), length-append (writtenSum f) (41 ∷ []))
 
 -- by the number of literals
-pub sum-length : (k : ℕ) (f : Cubes) → literalsOf f ≤ k → Inside f → length (sumOf f) ≤ 5 * literalsOf f + 2 * length f + 1
+pub sum-length : (k : ℕ) (f : Cubes) → literalsOf f ≤ k → Inside f → length (writtenSum f) ≤ 5 * literalsOf f + 2 * length f + 1
 sum-length zero f h n = rw (sum-plain f (omega (arith, literals-fall (mostUsed f) f))) (plain-length f n)
 sum-length (suc k) f h n =
-    go (decided (ltb (uses (mostUsed f) f) 2)) (decided (isNil (rest (mostUsed f) f)))
+    go (decided (ltb (usedIn (mostUsed f) f) 2)) (decided (isNil (rest (mostUsed f) f)))
     (λ i. sum-length k (over (mostUsed f) f) i (over-inside (mostUsed f) f n)) (λ i. sum-length k (rest (mostUsed f) f) i (rest-inside (mostUsed f) f n))
   where
-    go : (ltb (uses (mostUsed f) f) 2 ≡ true) ⊎ (ltb (uses (mostUsed f) f) 2 ≡ false) → (isNil (rest (mostUsed f) f) ≡ true) ⊎ (isNil (rest (mostUsed f) f) ≡ false)
-        → (literalsOf (over (mostUsed f) f) ≤ k → length (sumOf (over (mostUsed f) f)) ≤ 5 * literalsOf (over (mostUsed f) f) + 2 * length (over (mostUsed f) f) + 1)
-        → (literalsOf (rest (mostUsed f) f) ≤ k → length (sumOf (rest (mostUsed f) f)) ≤ 5 * literalsOf (rest (mostUsed f) f) + 2 * length (rest (mostUsed f) f) + 1)
-        → length (sumOf f) ≤ 5 * literalsOf f + 2 * length f + 1
+    go : (ltb (usedIn (mostUsed f) f) 2 ≡ true) ⊎ (ltb (usedIn (mostUsed f) f) 2 ≡ false) → (isNil (rest (mostUsed f) f) ≡ true) ⊎ (isNil (rest (mostUsed f) f) ≡ false)
+        → (literalsOf (over (mostUsed f) f) ≤ k → length (writtenSum (over (mostUsed f) f)) ≤ 5 * literalsOf (over (mostUsed f) f) + 2 * length (over (mostUsed f) f) + 1)
+        → (literalsOf (rest (mostUsed f) f) ≤ k → length (writtenSum (rest (mostUsed f) f)) ≤ 5 * literalsOf (rest (mostUsed f) f) + 2 * length (rest (mostUsed f) f) + 1)
+        → length (writtenSum f) ≤ 5 * literalsOf f + 2 * length f + 1
     go (inl t) e q r = rw (sum-plain f (ltb-true _ _ t)) (plain-length f n)
     go (inr t) (inl e) q r =
-        let many : 2 ≤ uses (mostUsed f) f = ltb-false _ _ t in
+        let many : 2 ≤ usedIn (mostUsed f) f = ltb-false _ _ t in
         rw (sum-times f many e)
         (omega (arith, product-length (mostUsed f) (over (mostUsed f) f) (mostUsed-inside f), q (omega (arith, over-less (mostUsed f) f many)), literals-fall (mostUsed f) f, cubes-split (mostUsed f) f, over-length (mostUsed f) f))
     go (inr t) (inr e) q r =
-        let many : 2 ≤ uses (mostUsed f) f = ltb-false _ _ t in
+        let many : 2 ≤ usedIn (mostUsed f) f = ltb-false _ _ t in
         rw (sum-plus f many e)
         (omega (
           arith,
-          length-append (productOf (mostUsed f) (over (mostUsed f) f)) (43 ∷ sumOf (rest (mostUsed f) f)),
+          length-append (productOf (mostUsed f) (over (mostUsed f) f)) (43 ∷ writtenSum (rest (mostUsed f) f)),
           product-length (mostUsed f) (over (mostUsed f) f) (mostUsed-inside f),
           q (omega (arith, over-less (mostUsed f) f many)),
           r (omega (arith, rest-less (mostUsed f) f many)),

@@ -10,13 +10,13 @@ use Rattle.cube.specs.Cube.{width}
 use Rattle.expression.specs.Expression.{literalsOf, sort}
 
 -- in how many cubes a literal is
-abbrev pub uses : ℕ → List (List ℕ) → ℕ
-uses l f = length (keep (mem l) f)
+abbrev pub usedIn : ℕ → List (List ℕ) → ℕ
+usedIn l f = length (keep (mem l) f)
 
 -- the literal in most cubes among b and the k literals from l on, the smallest on a tie
 unfoldable pub most : ℕ → List (List ℕ) → ℕ → ℕ → ℕ
 most zero f l b = b
-most (suc k) f l b = most k f (suc l) (cond (ltb (uses b f) (uses l f)) l b)
+most (suc k) f l b = most k f (suc l) (cond (ltb (usedIn b f) (usedIn l f)) l b)
 
 abbrev pub mostUsed : List (List ℕ) → ℕ
 mostUsed f = most (2 * width - 1) f 1 0
@@ -43,7 +43,7 @@ formBy (suc k) f =
     let l = mostUsed f in
     let some = times l (formBy k (over l f)) in
     let both = plus l (formBy k (over l f)) (formBy k (rest l f)) in
-    cond (ltb (uses l f) 2) (sum f) (cond (isNil (rest l f)) some both)
+    cond (ltb (usedIn l f) 2) (sum f) (cond (isNil (rest l f)) some both)
 
 -- the cubes are taken in cube order
 abbrev pub formOf : List (List ℕ) → Form

@@ -14,21 +14,21 @@ use Rattle.factor.specs.Text.{formText}
 -- ---- a part of the cubes
 
 -- the cubes from a up to e
-abbrev pub part : ℕ → ℕ → List ℕ → List (List ℕ)
-part a e ws = slice a e (cubesOf ws)
+abbrev pub cubesFrom : ℕ → ℕ → List ℕ → List (List ℕ)
+cubesFrom a e ws = slice a e (cubesOf ws)
 
 -- there are cubes from a up to e
-pub record Held (ws : List ℕ) (a e : ℕ) : Type 0 where
+pub record HasCubes (ws : List ℕ) (a e : ℕ) : Type 0 where
   pub forth : a ≤ e
   pub inside : e ≤ length (cubesOf ws)
 
 -- there are, and as many spare places
-pub record Lent (ws spare : List ℕ) (a e : ℕ) : Type 0 where
-  pub held : Held ws a e
+pub record Spared (ws spare : List ℕ) (a e : ℕ) : Type 0 where
+  pub held : HasCubes ws a e
   pub places : e ≤ length (cubesOf spare)
 
 -- the cubes outside the part from a up to e stay
-pub record Outside (old new : List ℕ) (a e : ℕ) : Type 0 where
+pub record Elsewhere (old new : List ℕ) (a e : ℕ) : Type 0 where
   pub front : take a (cubesOf new) ≡ take a (cubesOf old)
   pub back : drop e (cubesOf new) ≡ drop e (cubesOf old)
 
@@ -36,12 +36,12 @@ pub record Outside (old new : List ℕ) (a e : ℕ) : Type 0 where
 pub record Gathered (old new spare : List ℕ) (a m e l : ℕ) : Type 0 where
   pub least : a ≤ m
   pub most : m ≤ e
-  pub first : take m (cubesOf new) ≡ take a (cubesOf old) ++ over l (part a e old)
-  pub second : take (e - m) (cubesOf spare) ≡ rest l (part a e old)
+  pub first : take m (cubesOf new) ≡ take a (cubesOf old) ++ over l (cubesFrom a e old)
+  pub second : take (e - m) (cubesOf spare) ≡ rest l (cubesFrom a e old)
   pub back : drop e (cubesOf new) ≡ drop e (cubesOf old)
 
 -- from m up to e the first cubes of other words
-pub record Copied (old new other : List ℕ) (m e : ℕ) : Type 0 where
+pub record Refilled (old new other : List ℕ) (m e : ℕ) : Type 0 where
   pub first : take e (cubesOf new) ≡ take m (cubesOf old) ++ take (e - m) (cubesOf other)
   pub back : drop e (cubesOf new) ≡ drop e (cubesOf old)
 
@@ -49,21 +49,21 @@ pub record Copied (old new other : List ℕ) (m e : ℕ) : Type 0 where
 pub record Parted (old new : List ℕ) (a m e l : ℕ) : Type 0 where
   pub least : a ≤ m
   pub most : m ≤ e
-  pub first : part a m new ≡ over l (part a e old)
-  pub second : part m e new ≡ rest l (part a e old)
-  pub outside : Outside old new a e
+  pub first : cubesFrom a m new ≡ over l (cubesFrom a e old)
+  pub second : cubesFrom m e new ≡ rest l (cubesFrom a e old)
+  pub outside : Elsewhere old new a e
 
 -- ---- the texts of the two writers
 
 -- the text of a sum
-unfoldable pub sumOf : List (List ℕ) → List ℕ
-sumOf f = formText (formBy (literalsOf f) f)
+unfoldable pub writtenSum : List (List ℕ) → List ℕ
+writtenSum f = formText (formBy (literalsOf f) f)
 
 -- the text of l times a sum, which stands in parentheses
 unfoldable pub productOf : ℕ → List (List ℕ) → List ℕ
-productOf l f = literalText l ++ (42 ∷ 40 ∷ (sumOf f ++ (41 ∷ [])))
+productOf l f = literalText l ++ (42 ∷ 40 ∷ (writtenSum f ++ (41 ∷ [])))
 
 -- a text written, from a part of the cubes that is of no further use
 pub record Wrought (ws ws′ old new : List ℕ) (a e at next : ℕ) (t : List ℕ) : Type 0 where
   pub laid : Laid old new at next t
-  pub outside : Outside ws ws′ a e
+  pub outside : Elsewhere ws ws′ a e

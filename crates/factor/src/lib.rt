@@ -7,16 +7,10 @@ ghost use Prim.Native.Nat.{_*_, _<_, _≤_};
 ghost use lib.ListN.{length};
 ghost use Rattle.cube.specs.Cube.{width};
 ghost use Rattle.letters.specs.Laid.{Countable, Laid};
-ghost use Rattle.factor.specs.Form.{uses, mostUsed};
+ghost use Rattle.factor.specs.Form.{usedIn, mostUsed};
 ghost use Rattle.factor.specs.Text.{sumText, textOf};
-ghost use Rattle.factor.specs.Parts.{part, Held, Lent, Parted, Gathered, Copied, sumOf, productOf, Wrought};
+ghost use Rattle.factor.specs.Parts.{cubesFrom, HasCubes, Spared, Parted, Gathered, Refilled, writtenSum, productOf, Wrought};
 ghost use Rattle.factor.specs.Answers.{refusedBy, Told};
-
-// Literals of the variables that a cube has places for.
-const LITERALS: u32 = 128;
-
-// Words for the most cubes of an expression handed in.
-const WORDS: usize = 2048;
 
 pub enum Wrote {
     Bytes(usize),
@@ -27,8 +21,8 @@ pub enum Wrote {
 
 // Cubes a up to e with `+` between them; no cubes is `0`.
 fn put_cubes(o: &mut [u8], at: usize, w: &[u64], a: usize, e: usize) -> usize
-    requires { ⌜ Held (now w) a e × Countable at (sumText (part a e (now w))) ⌝ }
-    ensures { λ r. ⌜ Laid (now (o .entry)) (now (o .exit)) at r (sumText (part a e (now (w .entry)))) ⌝ }
+    requires { ⌜ HasCubes (now w) a e × Countable at (sumText (cubesFrom a e (now w))) ⌝ }
+    ensures { λ r. ⌜ Laid (now (o .entry)) (now (o .exit)) at r (sumText (cubesFrom a e (now (w .entry)))) ⌝ }
 {
     if a == e {
         return letters::put(o, at, b'0');
@@ -47,8 +41,8 @@ fn put_cubes(o: &mut [u8], at: usize, w: &[u64], a: usize, e: usize) -> usize
 
 // In how many cubes from a up to e the literal is.
 fn uses(w: &[u64], a: usize, e: usize, l: Literal) -> usize
-    requires { ⌜ Held (now w) a e ⌝ }
-    ensures { λ r. ⌜ r ≡ uses (l .0) (part a e (now (w .entry))) ⌝ }
+    requires { ⌜ HasCubes (now w) a e ⌝ }
+    ensures { λ r. ⌜ r ≡ usedIn (l .0) (cubesFrom a e (now (w .entry))) ⌝ }
 {
     let mut n = 0;
     let mut i = a;
@@ -63,13 +57,13 @@ fn uses(w: &[u64], a: usize, e: usize, l: Literal) -> usize
 
 // The literal in most cubes from a up to e, the smallest on a tie.
 fn most_used(w: &[u64], a: usize, e: usize) -> Literal
-    requires { ⌜ Held (now w) a e ⌝ }
-    ensures { λ r. ⌜ r .0 ≡ mostUsed (part a e (now (w .entry))) ⌝ }
+    requires { ⌜ HasCubes (now w) a e ⌝ }
+    ensures { λ r. ⌜ r .0 ≡ mostUsed (cubesFrom a e (now (w .entry))) ⌝ }
 {
     let mut best = 0;
     let mut most = uses(w, a, e, Literal(0));
     let mut l = 1;
-    while l < LITERALS {
+    while l < cube::LITERALS {
         let n = uses(w, a, e, Literal(l));
         if most < n {
             best = l;
@@ -82,7 +76,7 @@ fn most_used(w: &[u64], a: usize, e: usize) -> Literal
 
 // The cubes with l come first, without it; the rest go to the spare words. Where the first end.
 fn gather(w: &mut [u64], spare: &mut [u64], a: usize, e: usize, l: Literal) -> usize
-    requires { ⌜ (l .0 < 2 * width) × Lent (now w) (now spare) a e ⌝ }
+    requires { ⌜ (l .0 < 2 * width) × Spared (now w) (now spare) a e ⌝ }
     ensures { λ r. ⌜ Gathered (now (w .entry)) (now (w .exit)) (now (spare .exit)) a r e (l .0) ⌝ }
 {
     let one = cube::with(cube::empty(), l);
@@ -103,8 +97,8 @@ fn gather(w: &mut [u64], spare: &mut [u64], a: usize, e: usize, l: Literal) -> u
 
 // The first cubes of s stand from m up to e.
 fn copy(w: &mut [u64], s: &[u64], m: usize, e: usize)
-    requires { ⌜ Lent (now w) (now s) m e ⌝ }
-    ensures { λ r. ⌜ Copied (now (w .entry)) (now (w .exit)) (now (s .entry)) m e ⌝ }
+    requires { ⌜ Spared (now w) (now s) m e ⌝ }
+    ensures { λ r. ⌜ Refilled (now (w .entry)) (now (w .exit)) (now (s .entry)) m e ⌝ }
 {
     let mut i = m;
     while i < e {
@@ -115,7 +109,7 @@ fn copy(w: &mut [u64], s: &[u64], m: usize, e: usize)
 
 // The cubes from a up to e parted by l: those with it, without it, then the rest. Where the first end.
 fn split(w: &mut [u64], spare: &mut [u64], a: usize, e: usize, l: Literal) -> usize
-    requires { ⌜ (l .0 < 2 * width) × Lent (now w) (now spare) a e ⌝ }
+    requires { ⌜ (l .0 < 2 * width) × Spared (now w) (now spare) a e ⌝ }
     ensures { λ r. ⌜ Parted (now (w .entry)) (now (w .exit)) a r e (l .0) ⌝ }
 {
     let m = gather(w, spare, a, e, l);
@@ -127,8 +121,8 @@ fn split(w: &mut [u64], spare: &mut [u64], a: usize, e: usize, l: Literal) -> us
 
 // The text of the cubes from a up to e; what stands there afterwards is of no use.
 fn sum(w: &mut [u64], spare: &mut [u64], a: usize, e: usize, o: &mut [u8], at: usize) -> usize
-    requires { ⌜ Lent (now w) (now spare) a e × Countable at (sumOf (part a e (now w))) ⌝ }
-    ensures { λ r. ⌜ Wrought (now (w .entry)) (now (w .exit)) (now (o .entry)) (now (o .exit)) a e at r (sumOf (part a e (now (w .entry)))) ⌝ }
+    requires { ⌜ Spared (now w) (now spare) a e × Countable at (writtenSum (cubesFrom a e (now w))) ⌝ }
+    ensures { λ r. ⌜ Wrought (now (w .entry)) (now (w .exit)) (now (o .entry)) (now (o .exit)) a e at r (writtenSum (cubesFrom a e (now (w .entry)))) ⌝ }
 {
     let l = most_used(w, a, e);
     if uses(w, a, e, l) < 2 {
@@ -153,8 +147,8 @@ fn product(
     o: &mut [u8],
     at: usize,
 ) -> usize
-    requires { ⌜ Lent (now w) (now spare) a e × Countable at (productOf (l .0) (part a e (now w))) ⌝ }
-    ensures { λ r. ⌜ Wrought (now (w .entry)) (now (w .exit)) (now (o .entry)) (now (o .exit)) a e at r (productOf (l .0) (part a e (now (w .entry)))) ⌝ }
+    requires { ⌜ Spared (now w) (now spare) a e × Countable at (productOf (l .0) (cubesFrom a e (now w))) ⌝ }
+    ensures { λ r. ⌜ Wrought (now (w .entry)) (now (w .exit)) (now (o .entry)) (now (o .exit)) a e at r (productOf (l .0) (cubesFrom a e (now (w .entry)))) ⌝ }
 {
     let p = letters::put_literal(o, at, l);
     let q = letters::put(o, p, b'*');
@@ -170,8 +164,8 @@ fn text(f: &[u64], o: &mut [u8]) -> usize
     requires { ⌜ length (now f) ≤ 2048 ⌝ }
     ensures { λ r. ⌜ Laid (now (o .entry)) (now (o .exit)) 0 r (textOf (now (f .entry))) ⌝ }
 {
-    let mut w = [0u64; WORDS];
-    let mut spare = [0u64; WORDS];
+    let mut w = [0u64; accepting::WORDS];
+    let mut spare = [0u64; accepting::WORDS];
     let n = expression::number(f);
     copy(&mut w, f, 0, n);
     sorting::sort_part(&mut w, 0, n);

@@ -2,13 +2,16 @@
 use libc::STDIN_FILENO;
 use line::complain;
 use line::fail;
+ghost use Prim.Native.Nat.{_≤_};
+ghost use lib.ListN.{length};
 
 // Room for a path and `.new`.
 const NAME: usize = 4100;
 
-pub enum Got {
-    Bytes(usize),
-    Failed,
+// Whether the file was read, and how many bytes came.
+pub struct Got {
+    pub ok: bool,
+    pub count: usize,
 }
 
 // A short count is the end of the file only where one more read says so.
@@ -26,26 +29,31 @@ fn is_ended(fd: i32, path: &[u8]) -> bool {
     true
 }
 
-fn fill(fd: i32, path: &[u8], room: &mut [u8]) -> Got {
-    let n = io::read_full(fd, room);
-    if n == room.len() {
-        return Got::Bytes(n);
+fn fill(fd: i32, path: &[u8], room: &mut [u8]) -> Got
+    ensures { λ r. ⌜ r .count ≤ length (now (room .entry)) ⌝ }
+{
+    let count = io::read_full(fd, room);
+    if count == room.len() {
+        return Got { ok: true, count };
     }
-    if is_ended(fd, path) {
-        return Got::Bytes(n);
-    }
-    Got::Failed
+    let ok = is_ended(fd, path);
+    Got { ok, count }
 }
 
 // The bytes of the file to the front of the room, as many as it has places; `-` is standard input. A failure is said.
-pub fn read(path: &[u8], room: &mut [u8]) -> Got {
-    if wire::is_word(path, 0, path.len(), b"-") {
+pub fn read(path: &[u8], room: &mut [u8]) -> Got
+    ensures { λ r. ⌜ r .count ≤ length (now (room .entry)) ⌝ }
+{
+    if check::same(path, b"-") {
         return fill(STDIN_FILENO, b"standard input", room);
     }
     let fd = os::open_read(path);
     if fd < 0 {
         fail(path);
-        return Got::Failed;
+        return Got {
+            ok: false,
+            count: 0,
+        };
     }
     let got = fill(fd, path, room);
     libc::close(fd);

@@ -14,7 +14,7 @@ use Rattle.network.specs.Evaluation.{evaluate}
 use Rattle.network.specs.declared.Network.{Network}
 use Rattle.network.proofs.Holding.{nodes-held, output-held, divisor-held, rules-sound}
 use Rattle.hangs.specs.Hangs.{hangsOn, hangsAt}
-use Rattle.hangs.proofs.Hanging.{Divides, Leans, Keeps, known-at, hangs-iff, hangs-output}
+use Rattle.hangs.proofs.Hanging.{IsDivisor, Leans, KeepsAlone, known-at, hangs-iff, hangs-output}
 
 -- the expressions of a network read known variables alone
 node-known : (n : Net) → Sound n → (i v : ℕ) → Reads (getD (nodes n) i []) v → Known n v
@@ -29,7 +29,7 @@ module _ (n : Network) (h : rules n ≡ true) where
   hangs-node i = rw h
 
   -- the divisors that node i reads, directly or through others, and no others
-  pub hangs-at : (i v : ℕ) → (v ∈ hangsAt n i) ↔ (Divides (netOf n) v × Leans (netOf n) (getD (nodes (netOf n)) i []) v)
+  pub hangs-at : (i v : ℕ) → (v ∈ hangsAt n i) ↔ (IsDivisor (netOf n) v × Leans (netOf n) (getD (nodes (netOf n)) i []) v)
   hangs-at i v = rw (hangs-node i) (hangs-iff (netOf n) (rules-sound n h) (getD (nodes (netOf n)) i []) (node-known (netOf n) (rules-sound n h) i) v)
 
   -- outputs are the first nodes, divisors come after them
@@ -41,5 +41,5 @@ module _ (n : Network) (h : rules n ≡ true) where
 
 -- two networks by the rules answer alike at an output that both have, where the divisors that it hangs on are kept
 pub hangs-kept : (n m : Network) → rules n ≡ true → rules m ≡ true → (j : ℕ) → j < n .outputs → getD ((netOf n) .outputs) j [] ≡ getD ((netOf m) .outputs) j []
-    → Keeps (netOf n) (netOf m) (hangsAt n j) → (s : ℕ) → bit (evaluate (netOf n) s) j ≡ bit (evaluate (netOf m) s) j
-hangs-kept n m h k j i e q = hangs-output (netOf n) (netOf m) (rules-sound n h) (rules-sound m k) j e (subst (Keeps (netOf n) (netOf m)) (hangs-first n h j i) q)
+    → KeepsAlone (netOf n) (netOf m) (hangsAt n j) → (s : ℕ) → bit (evaluate (netOf n) s) j ≡ bit (evaluate (netOf m) s) j
+hangs-kept n m h k j i e q = hangs-output (netOf n) (netOf m) (rules-sound n h) (rules-sound m k) j e (subst (KeepsAlone (netOf n) (netOf m)) (hangs-first n h j i) q)

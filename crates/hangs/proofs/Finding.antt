@@ -19,14 +19,14 @@ use Rattle.network.proofs.Numbering.{numbered-length}
 use Rattle.network.proofs.Parts.{divisors-length, nodes-at}
 use Rattle.network.proofs.Holding.{cut-length, cut-node, nodes-held}
 use Rattle.hangs.specs.Hangs.{readsOf, reached, hangsOn, hangsAt, Marks}
-use Rattle.hangs.specs.Parts.{before, Begun, Makes}
+use Rattle.hangs.specs.Parts.{countBefore, Begun, Makes}
 use Rattle.hangs.proofs.Marking.{marks-none}
 use Rattle.hangs.proofs.Reading.{reached-none}
 
-pub sum-le : (counts : List ℕ) (i j : ℕ) → j ≤ i → before j counts ≤ before i counts
+pub sum-le : (counts : List ℕ) (i j : ℕ) → j ≤ i → countBefore j counts ≤ countBefore i counts
 sum-le counts i j h =
     let e : i ≡ j + (i - j) = omega arith in
-    let q = ap (λ x. before x counts) e ∙ ap (total (λ c. c)) (take-add j (i - j) counts) ∙ total-append (λ c. c) (take j counts) (take (i - j) (drop j counts)) in
+    let q = ap (λ x. countBefore x counts) e ∙ ap (total (λ c. c)) (take-add j (i - j) counts) ∙ total-append (λ c. c) (take j counts) (take (i - j) (drop j counts)) in
     omega arith
 
 -- fewer counts have no more cubes
@@ -36,7 +36,7 @@ begun-less counts i j h b = record { counted = omega (arith, b .counted); few = 
 pub sized-begun : {n m k : ℕ} {words counts : List ℕ} → Sized n m k words counts → Begun (m + k) counts
 sized-begun z = record { counted = z .lent .counted; few = z .cubes }
 
-pub node-cubes : (counts : List ℕ) (f : List (List ℕ)) (i a e : ℕ) → a ≡ before i counts → e ≡ a + getD counts i 0 → take (e - a) (drop a f) ≡ getD (cut counts f) i []
+pub node-cubes : (counts : List ℕ) (f : List (List ℕ)) (i a e : ℕ) → a ≡ countBefore i counts → e ≡ a + getD counts i 0 → take (e - a) (drop a f) ≡ getD (cut counts f) i []
 node-cubes counts f i a e p q =
     let z : e - a ≡ getD counts i 0 = omega arith in
     rw (z, p) (sym (cut-node counts f i))

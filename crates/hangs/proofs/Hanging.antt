@@ -28,8 +28,8 @@ use Rattle.hangs.specs.Hangs.{readsOf, readBy, reached, hangsOn, Fits}
 use Rattle.hangs.proofs.Reading.{reads-in, reads-out, by-in, by-out, reads-divisor}
 
 -- v is the number of a divisor
-abbrev pub Divides : Net → ℕ → Type 0
-Divides n v = (e : Node) × (e ∈ n .divisors) × (v ≡ e .number)
+abbrev pub IsDivisor : Net → ℕ → Type 0
+IsDivisor n v = (e : Node) × (e ∈ n .divisors) × (v ≡ e .number)
 
 -- an expression reads v, directly or through others
 abbrev pub Leans : Net → List (List ℕ) → ℕ → Type 0
@@ -64,25 +64,25 @@ reached-more n (suc j) (suc k) l v h m = reached-more n j k (union l (readBy n l
 
 module _ (n : Net) (o : Sound n) where
   -- what a divisor reads and is no input is a divisor
-  read-divides : (e : Node) → e ∈ n .divisors → (v : ℕ) → n .inputs ≤ v → Reads (e .cubes) v → Divides n v
-  read-divides e m v h r = elim (o .closed .divisors e m v r) [ inl k ↦ absurd (omega arith) | inr d ↦ d ]
+  read-is-divisor : (e : Node) → e ∈ n .divisors → (v : ℕ) → n .inputs ≤ v → Reads (e .cubes) v → IsDivisor n v
+  read-is-divisor e m v h r = elim (o .closed .divisors e m v r) [ inl k ↦ absurd (omega arith) | inr d ↦ d ]
 
   through-read : (u v : ℕ) → n .inputs ≤ v → Reads (cubesAt u (n .divisors)) v → Through n u v
   through-read u v h r =
       let q = reads-divisor n u v r in
-      let d = read-divides (q .0) (q .1) v h (q .3) in
+      let d = read-is-divisor (q .0) (q .1) v h (q .3) in
       subst (λ (x : ℕ). Through n x v) (sym (q .2)) (subst (Through n (q .0 .number)) (sym (d .2)) (itself (q .1) (d .1) (subst (Reads (q .0 .cubes)) (d .2) (q .3))))
 
-  through-from : {u v : ℕ} → Through n u v → Divides n u
+  through-from : {u v : ℕ} → Through n u v → IsDivisor n u
   through-from (itself {e = e} m i r) = (e, m, refl)
   through-from (others {e = e} m i r t) = (e, m, refl)
 
-  through-to : {u v : ℕ} → Through n u v → Divides n v
+  through-to : {u v : ℕ} → Through n u v → IsDivisor n v
   through-to (itself {g = g} m i r) = (g, i, refl)
   through-to (others m i r t) = through-to t
 
-  divides-above : (v : ℕ) → Divides n v → n .inputs ≤ v
-  divides-above v (e, m, p) = rw p (o .distinct .above e m)
+  divisor-above : (v : ℕ) → IsDivisor n v → n .inputs ≤ v
+  divisor-above v (e, m, p) = rw p (o .distinct .above e m)
 
   -- what is reached was there, or is read through others by what was there
   reached-out : (k : ℕ) (l : List ℕ) (v : ℕ) → n .inputs ≤ v → v ∈ reached k n l → (v ∈ l) ⊎ ((u : ℕ) × (u ∈ l) × Through n u v)
@@ -92,7 +92,7 @@ module _ (n : Net) (o : Sound n) where
     | inl i ↦ elim (step-out n l v i) [ inl j ↦ inl j | inr (u, j, r) ↦ inr (u, j, through-read u v h r) ]
     | inr (u, i, t) ↦ elim (step-out n l u i) [
       | inl j ↦ inr (u, j, t)
-      | inr (w, j, r) ↦ inr (w, j, through-then n (through-read w u (divides-above u (through-from t)) r) t)
+      | inr (w, j, r) ↦ inr (w, j, through-then n (through-read w u (divisor-above u (through-from t)) r) t)
     ]
   ]
 
@@ -126,29 +126,29 @@ module _ (n : Net) (o : Sound n) where
 -- ---- what an expression over known variables hangs on
 
 module _ (n : Net) (o : Sound n) (f : List (List ℕ)) (k : (v : ℕ) → Reads f v → Known n v) where
-  known-divides : (v : ℕ) → n .inputs ≤ v → Reads f v → Divides n v
-  known-divides v h r = elim (k v r) [ inl i ↦ absurd (omega arith) | inr d ↦ d ]
+  known-is-divisor : (v : ℕ) → n .inputs ≤ v → Reads f v → IsDivisor n v
+  known-is-divisor v h r = elim (k v r) [ inl i ↦ absurd (omega arith) | inr d ↦ d ]
 
-  hangs-into : (v : ℕ) → v ∈ hangsOn n f → Divides n v × Leans n f v
+  hangs-into : (v : ℕ) → v ∈ hangsOn n f → IsDivisor n v × Leans n f v
   unfolding hangsOn
   hangs-into v m =
       let q = keep-out (λ x. leb (n .inputs) x) (reached (length (n .divisors)) n (readsOf f)) m in
       let h = leb-true (n .inputs) v (q .1) in
       elim (reached-out n o (length (n .divisors)) (readsOf f) v h (q .0)) [
-        | inl i ↦ let r = reads-out f v (mem-of i) in (known-divides v h r, inl r)
+        | inl i ↦ let r = reads-out f v (mem-of i) in (known-is-divisor v h r, inl r)
         | inr (u, i, t) ↦ (through-to n o t, inr (u, reads-out f u (mem-of i), t))
       ]
 
-  hangs-back : (v : ℕ) → Divides n v × Leans n f v → v ∈ hangsOn n f
+  hangs-back : (v : ℕ) → IsDivisor n v × Leans n f v → v ∈ hangsOn n f
   unfolding hangsOn
-  hangs-back v (d, r) = keep-in (λ x. leb (n .inputs) x) (go r) (le-leb (n .inputs) v (divides-above n o v d))
+  hangs-back v (d, r) = keep-in (λ x. leb (n .inputs) x) (go r) (le-leb (n .inputs) v (divisor-above n o v d))
     where
       go : Leans n f v → v ∈ reached (length (n .divisors)) n (readsOf f)
       go (inl i) = reached-stay n (length (n .divisors)) (readsOf f) v (of-mem v (readsOf f) (reads-in f v i))
       go (inr (u, i, t)) = reached-all n o u v (readsOf f) (of-mem u (readsOf f) (reads-in f u i)) t
 
   -- the divisors that it reads, directly or through others, and no others
-  pub hangs-iff : (v : ℕ) → (v ∈ hangsOn n f) ↔ (Divides n v × Leans n f v)
+  pub hangs-iff : (v : ℕ) → (v ∈ hangsOn n f) ↔ (IsDivisor n v × Leans n f v)
   hangs-iff v = (hangs-into v, hangs-back v)
 
   -- what a divisor of these reads is an input or one of these
@@ -203,7 +203,7 @@ module _ (n : Net) (o : Sound n) (f : List (List ℕ)) (k : (v : ℕ) → Reads 
 -- ---- an output's answer
 
 -- the network m has the expressions that n has at the divisors of a list
-pub record Keeps (n m : Net) (l : List ℕ) : Type 0 where
+pub record KeepsAlone (n m : Net) (l : List ℕ) : Type 0 where
   pub inputs : n .inputs ≡ m .inputs
   pub divisors : (v : ℕ) → v ∈ l → (e : Node) × (e ∈ m .divisors) × (v ≡ e .number) × (e .cubes ≡ cubesAt v (n .divisors))
 
@@ -215,7 +215,7 @@ known-at n fs k j v r = elim (decided (leb (length fs) j)) [
 ]
 
 -- two networks with the same inputs and the same output answer alike there, where the divisors that it hangs on have the same expressions
-pub hangs-output : (n m : Net) → Sound n → Sound m → (j : ℕ) → getD (n .outputs) j [] ≡ getD (m .outputs) j [] → Keeps n m (hangsOn n (getD (n .outputs) j []))
+pub hangs-output : (n m : Net) → Sound n → Sound m → (j : ℕ) → getD (n .outputs) j [] ≡ getD (m .outputs) j [] → KeepsAlone n m (hangsOn n (getD (n .outputs) j []))
     → (s : ℕ) → bit (evaluate n s) j ≡ bit (evaluate m s) j
 hangs-output n m o q j e k s =
     let f = getD (n .outputs) j [] in

@@ -7,13 +7,13 @@ use Rattle.network.specs.Held.{mostCubes}
 use Rattle.hangs.specs.Hangs.{Marks}
 
 -- the sum of the counts before place i
-abbrev pub before : ℕ → List ℕ → ℕ
-before i counts = total (λ c. c) (take i counts)
+abbrev pub countBefore : ℕ → List ℕ → ℕ
+countBefore i counts = total (λ c. c) (take i counts)
 
 -- there are i counts, and they sum up to no more cubes than a network may have
 pub record Begun (i : ℕ) (counts : List ℕ) : Type 0 where
   pub counted : i ≤ length counts
-  pub few : before i counts ≤ mostCubes
+  pub few : countBefore i counts ≤ mostCubes
 
 -- of any list that the mask marks, r marks what f makes
 pub record Makes (mask r : ℕ) (f : List ℕ → List ℕ) : Type 0 where

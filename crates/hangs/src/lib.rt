@@ -15,12 +15,12 @@ ghost use Rattle.expression.specs.Words.{cubesOf};
 ghost use Rattle.network.specs.Held.{cut};
 ghost use Rattle.network.specs.Parts.{nodesOf, netAt, Sized};
 ghost use Rattle.hangs.specs.Hangs.{variablesOf, readsOf, readBy, reached, hangsOn, hangsAt, Marks};
-ghost use Rattle.hangs.specs.Parts.{before, Begun, Makes};
+ghost use Rattle.hangs.specs.Parts.{countBefore, Begun, Makes};
 
 // Where the cubes of node i begin.
 fn start(counts: &[usize], i: usize) -> usize
     requires { ⌜ Begun i (now counts) ⌝ }
-    ensures { λ r. ⌜ r ≡ before i (now (counts .entry)) ⌝ }
+    ensures { λ r. ⌜ r ≡ countBefore i (now (counts .entry)) ⌝ }
 {
     let mut sum = 0;
     let mut j = 0;

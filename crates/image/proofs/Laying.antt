@@ -9,11 +9,11 @@ use lib.Seq.{drop-cons, set-at, set-append-left, getD-set-same}
 use Rattle.sets.proofs.Places.{at-in}
 use Rattle.fields.specs.Fields.{bytesFor, bytesOf}
 use Rattle.fields.proofs.Bytes.{bytes-length, from-small, bytes-more-new, bytes-more-old}
-use Rattle.image.specs.Parts.{written, Ready, Laid}
+use Rattle.image.specs.Parts.{overlaid, RoomFor, LaidBits}
 
 -- ---- one bit more
 
-module _ (o old : List ℕ) (l : List Bool) (b : Bool) (at x : ℕ) (n : length l ≡ at) (e : o ≡ written l old) (w : x ≡ cond b (2 ^ (7 - at % 8)) 0) (r : at + 1 ≤ 8 * length o) where
+module _ (o old : List ℕ) (l : List Bool) (b : Bool) (at x : ℕ) (n : length l ≡ at) (e : o ≡ overlaid l old) (w : x ≡ cond b (2 ^ (7 - at % 8)) 0) (r : at + 1 ≤ 8 * length o) where
   size : length (bytesOf l) ≡ bytesFor at
   size = bytes-length l ∙ ap bytesFor n
 
@@ -21,7 +21,7 @@ module _ (o old : List ℕ) (l : List Bool) (b : Bool) (at x : ℕ) (n : length 
   next = omega (arith, length-append l (b ∷ []))
 
   -- the first of a byte
-  pub bit-new : at % 8 ≡ 0 → set o (at / 8) x ≡ written (l ++ (b ∷ [])) old
+  pub bit-new : at % 8 ≡ 0 → set o (at / 8) x ≡ overlaid (l ++ (b ∷ [])) old
   bit-new z =
       let q : bytesFor at ≡ at / 8 = omega arith in
       let h : at / 8 < length old = omega (arith, ap length e, length-append (bytesOf l) (drop (bytesFor (length l)) old), size, length-drop (bytesFor (length l)) old) in
@@ -49,7 +49,7 @@ module _ (o old : List ℕ) (l : List Bool) (b : Bool) (at x : ℕ) (n : length 
         ∙ ap₂ (λ (i j : ℕ). set (bytesOf l) (at / 8) (i + j)) (sym here) (sym w)
 
     -- one of those that follow
-    pub bit-old : set o (at / 8) (getD o (at / 8) 0 + x) ≡ written (l ++ (b ∷ [])) old
+    pub bit-old : set o (at / 8) (getD o (at / 8) 0 + x) ≡ overlaid (l ++ (b ∷ [])) old
     bit-old =
         let f : bytesFor (length l) ≡ bytesFor (length (l ++ (b ∷ []))) = omega (arith, next, size, bytes-length l, inside) in
         ap (λ (u : List ℕ). set u (at / 8) (getD o (at / 8) 0 + x)) e
@@ -68,14 +68,14 @@ module _ (o old : List ℕ) (l : List Bool) (b : Bool) (at x : ℕ) (n : length 
 pub record Going (o : List ℕ) (at : ℕ) (bs : List Bool) (o′ : List ℕ) (p : ℕ) (rest : List Bool) : Type 0 where
   pub done : List Bool
   pub whole : bs ≡ done ++ rest
-  pub laid : Laid o o′ at p done
+  pub laid : LaidBits o o′ at p done
   pub same : length o′ ≡ length o
 
 pub going-all : (o : List ℕ) (at : ℕ) (bs : List Bool) → Going o at bs o at bs
 going-all o at bs = record {
   done = [];
   whole = refl;
-  laid = record { place = omega arith; adds = λ l old n e. e ∙ ap (λ u. written u old) (sym (append-nil l)) };
+  laid = record { place = omega arith; adds = λ l old n e. e ∙ ap (λ u. overlaid u old) (sym (append-nil l)) };
   same = refl;
 }
 
@@ -83,19 +83,19 @@ module _ {o : List ℕ} {at : ℕ} {bs : List Bool} {o′ : List ℕ} {p : ℕ} 
   pub going-as : {rest rest′ : List Bool} → Going o at bs o′ p rest → rest ≡ rest′ → Going o at bs o′ p rest′
   going-as g e = record { done = g .done; whole = g .whole ∙ ap (g .done ++_) e; laid = g .laid; same = g .same }
 
-  pub going-next : {o″ : List ℕ} {r : ℕ} {x rest : List Bool} → Going o at bs o′ p (x ++ rest) → Laid o′ o″ p r x → length o″ ≡ length o′ → Going o at bs o″ r rest
+  pub going-next : {o″ : List ℕ} {r : ℕ} {x rest : List Bool} → Going o at bs o′ p (x ++ rest) → LaidBits o′ o″ p r x → length o″ ≡ length o′ → Going o at bs o″ r rest
   going-next {x = x} {rest = rest} g k s = record {
     done = g .done ++ x;
     whole = g .whole ∙ sym (append-assoc (g .done) x rest);
     laid = record {
       place = omega (arith, k .place, g .laid .place, length-append (g .done) x);
-      adds = λ l old n e. k .adds (l ++ g .done) old (length-append l (g .done) ∙ omega (arith, g .laid .place)) (g .laid .adds l old n e) ∙ ap (λ u. written u old) (append-assoc l (g .done) x);
+      adds = λ l old n e. k .adds (l ++ g .done) old (length-append l (g .done) ∙ omega (arith, g .laid .place)) (g .laid .adds l old n e) ∙ ap (λ u. overlaid u old) (append-assoc l (g .done) x);
     };
     same = s ∙ g .same;
   }
 
   -- there is room for the bits that come next
-  pub going-ready : (x rest : List Bool) → Going o at bs o′ p (x ++ rest) → Ready o at (length bs) → Ready o′ p (length x)
+  pub going-ready : (x rest : List Bool) → Going o at bs o′ p (x ++ rest) → RoomFor o at (length bs) → RoomFor o′ p (length x)
   going-ready x rest g r =
       let t : length bs ≡ length (g .done) + (length x + length rest) = ap length (g .whole) ∙ length-append (g .done) (x ++ rest) ∙ ap (length (g .done) +_) (length-append x rest) in
       record {
@@ -107,7 +107,7 @@ module _ {o : List ℕ} {at : ℕ} {bs : List Bool} {o′ : List ℕ} {p : ℕ} 
         short = omega (arith, r .short, g .laid .place);
       }
 
-  pub going-last : {x : List Bool} → Going o at bs o′ p x → Ready o at (length bs) → Ready o′ p (length x)
+  pub going-last : {x : List Bool} → Going o at bs o′ p x → RoomFor o at (length bs) → RoomFor o′ p (length x)
   going-last {x} g r = going-ready x [] (going-as g (sym (append-nil x))) r
 
   -- what is left is laid in turn
@@ -115,8 +115,8 @@ module _ {o : List ℕ} {at : ℕ} {bs : List Bool} {o′ : List ℕ} {p : ℕ} 
   going-trans g h = going-next (going-as g (h .whole)) (h .laid) (h .same)
 
   -- all are laid
-  pub going-done : Going o at bs o′ p [] → Laid o o′ at p bs
-  going-done g = subst (Laid o o′ at p) (sym (g .whole ∙ append-nil (g .done))) (g .laid)
+  pub going-done : Going o at bs o′ p [] → LaidBits o o′ at p bs
+  going-done g = subst (LaidBits o o′ at p) (sym (g .whole ∙ append-nil (g .done))) (g .laid)
 
-pub going-end : {o o′ o″ : List ℕ} {at p r : ℕ} {bs x : List Bool} → Going o at bs o′ p x → Laid o′ o″ p r x → length o″ ≡ length o′ → Laid o o″ at r bs
+pub going-end : {o o′ o″ : List ℕ} {at p r : ℕ} {bs x : List Bool} → Going o at bs o′ p x → LaidBits o′ o″ p r x → length o″ ≡ length o′ → LaidBits o o″ at r bs
 going-end {x = x} g k s = going-done (going-next (going-as g (sym (append-nil x))) k s)

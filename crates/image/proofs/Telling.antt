@@ -28,7 +28,7 @@ use Rattle.imaging.proofs.Fielding.{divisorCubes, nodeBits, net-bits, net-bits-
 use Rattle.renumber.specs.Answers.{toldBy}
 use Rattle.renumber.specs.declared.Renumbered.{Renumbered}
 use Rattle.image.specs.Answers.{refusedBy, Told}
-use Rattle.image.specs.Parts.{written, Laid, nodesFrom, bitsFrom, allBits, Held, Writable}
+use Rattle.image.specs.Parts.{overlaid, LaidBits, nodesFrom, bitsFrom, allBits, Held, Writable}
 use Rattle.image.specs.declared.Wrote.{Wrote}
 use Rattle.image.specs.declared.Wrote.the-variants as wrote
 
@@ -122,11 +122,11 @@ module _ (n : Network) (slots : length (n .counts) ≡ 96) (lawful : rules n ≡
             }
 
         -- the image at the front, the rest as it was
-        pub told-written : (o′ : List ℕ) (p : ℕ) → Laid o o′ 0 p (allBits (r .inputs) (r .outputs) (r .divisors) (r .words) (r .counts)) → Told (refusedBy n o) n o o′ (wrote.Bytes (bytesFor (20 + bits)))
+        pub told-written : (o′ : List ℕ) (p : ℕ) → LaidBits o o′ 0 p (allBits (r .inputs) (r .outputs) (r .divisors) (r .words) (r .counts)) → Told (refusedBy n o) n o o′ (wrote.Bytes (bytesFor (20 + bits)))
         unfolding refusedBy bytesFrom imageOf netBytes
         told-written o′ p k =
             let w : o′ ≡ imageOf (netOf n) ++ drop (length (imageOf (netOf n))) o =
-            k .adds [] o refl refl ∙ ap (λ (u : List Bool). written u o) (bits-held r (renumbered (netOf n)) h)
+            k .adds [] o refl refl ∙ ap (λ (u : List Bool). overlaid u o) (bits-held r (renumbered (netOf n)) h)
             ∙ ap (λ i. imageOf (netOf n) ++ drop i o) (sym (bytes-length (fieldBits (netFields (renumbered (netOf n)))))) in
             rw (lawful, le-ltb (length o) (length (imageOf (netOf n))) (omega (arith, image-length))) (ap wrote.Bytes (sym image-length), w)
 

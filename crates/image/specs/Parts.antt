@@ -11,22 +11,22 @@ use Rattle.network.specs.Handed.{flat}
 use Rattle.imaging.specs.Image.{nodeFields, headFields}
 
 -- the bytes of the bits at the front of the old bytes
-abbrev pub written : List Bool → List ℕ → List ℕ
-written l old = bytesOf l ++ drop (bytesFor (length l)) old
+abbrev pub overlaid : List Bool → List ℕ → List ℕ
+overlaid l old = bytesOf l ++ drop (bytesFor (length l)) old
 
 -- the bytes hold so many bits and then old bytes, and have room for w bits more
-pub record Ready (o : List ℕ) (at w : ℕ) : Type 0 where
+pub record RoomFor (o : List ℕ) (at w : ℕ) : Type 0 where
   pub bits : List Bool
   pub old : List ℕ
   pub number : length bits ≡ at
-  pub bytes : o ≡ written bits old
+  pub bytes : o ≡ overlaid bits old
   pub room : at + w ≤ 8 * length o
   pub short : at + w < 4294967296
 
 -- the bits bs stand from bit `at` on after whatever was written, up to bit r
-pub record Laid (o o′ : List ℕ) (at r : ℕ) (bs : List Bool) : Type 0 where
+pub record LaidBits (o o′ : List ℕ) (at r : ℕ) (bs : List Bool) : Type 0 where
   pub place : r ≡ at + length bs
-  pub adds : (l : List Bool) (old : List ℕ) → length l ≡ at → o ≡ written l old → o′ ≡ written (l ++ bs) old
+  pub adds : (l : List Bool) (old : List ℕ) → length l ≡ at → o ≡ overlaid l old → o′ ≡ overlaid (l ++ bs) old
 
 -- the nodes from a up to e, and their bits
 abbrev pub nodesFrom : ℕ → ℕ → List ℕ → List ℕ → List (List (List ℕ))
@@ -50,4 +50,4 @@ pub record Writable (n m k : ℕ) (words counts o : List ℕ) : Type 0 where
   pub inputs : 1 ≤ n
   pub outputs : 1 ≤ m
   pub held : Held words counts (m + k)
-  pub ready : Ready o 0 (length (allBits n m k words counts))
+  pub ready : RoomFor o 0 (length (allBits n m k words counts))

@@ -14,7 +14,7 @@ ghost use Rattle.expression.specs.Words.{cubesOf};
 ghost use Rattle.fields.specs.Fields.{bitsOf, fieldBits};
 ghost use Rattle.imaging.specs.Image.{cubeFields, nodeFields, headFields};
 ghost use Rattle.image.specs.Answers.{refusedBy, Told};
-ghost use Rattle.image.specs.Parts.{Ready, Laid, bitsFrom, allBits, Held, Writable};
+ghost use Rattle.image.specs.Parts.{RoomFor, LaidBits, bitsFrom, allBits, Held, Writable};
 
 pub enum Wrote {
     Bytes(usize),
@@ -36,8 +36,8 @@ fn worth(r: usize, b: bool) -> u8
 
 // One bit more; the first of a byte leaves nothing of what the byte was.
 fn put_bit(o: &mut [u8], at: usize, b: bool) -> usize
-    requires { ⌜ Ready (now o) at 1 ⌝ }
-    ensures { λ r. ⌜ Laid (now (o .entry)) (now (o .exit)) at r (b ∷ []) ⌝ }
+    requires { ⌜ RoomFor (now o) at 1 ⌝ }
+    ensures { λ r. ⌜ LaidBits (now (o .entry)) (now (o .exit)) at r (b ∷ []) ⌝ }
 {
     let i = at / 8;
     let r = at % 8;
@@ -53,8 +53,8 @@ fn put_bit(o: &mut [u8], at: usize, b: bool) -> usize
 
 // The lowest w bits of v, the most significant first.
 fn put_field(o: &mut [u8], at: usize, w: usize, v: u64) -> usize
-    requires { ⌜ (w ≤ 64) × Ready (now o) at (length (bitsOf w v)) ⌝ }
-    ensures { λ r. ⌜ Laid (now (o .entry)) (now (o .exit)) at r (bitsOf w v) ⌝ }
+    requires { ⌜ (w ≤ 64) × RoomFor (now o) at (length (bitsOf w v)) ⌝ }
+    ensures { λ r. ⌜ LaidBits (now (o .entry)) (now (o .exit)) at r (bitsOf w v) ⌝ }
 {
     let mut p = at;
     let mut i = w;
@@ -67,8 +67,8 @@ fn put_field(o: &mut [u8], at: usize, w: usize, v: u64) -> usize
 
 // Literal count 7, literals 7 each, ascending.
 fn put_cube(o: &mut [u8], at: usize, c: Cube) -> usize
-    requires { ⌜ Ready (now o) at (length (fieldBits (cubeFields (lits c)))) ⌝ }
-    ensures { λ r. ⌜ Laid (now (o .entry)) (now (o .exit)) at r (fieldBits (cubeFields (lits c))) ⌝ }
+    requires { ⌜ RoomFor (now o) at (length (fieldBits (cubeFields (lits c)))) ⌝ }
+    ensures { λ r. ⌜ LaidBits (now (o .entry)) (now (o .exit)) at r (fieldBits (cubeFields (lits c))) ⌝ }
 {
     let mut p = put_field(o, at, 7, cubes::count(c) as u64);
     let mut rest = c;
@@ -84,8 +84,8 @@ fn put_cube(o: &mut [u8], at: usize, c: Cube) -> usize
 
 // Cube count 11, each cube.
 fn put_node(o: &mut [u8], at: usize, f: &[u64]) -> usize
-    requires { ⌜ Ready (now o) at (length (fieldBits (nodeFields (cubesOf (now f))))) ⌝ }
-    ensures { λ r. ⌜ Laid (now (o .entry)) (now (o .exit)) at r (fieldBits (nodeFields (cubesOf (now (f .entry))))) ⌝ }
+    requires { ⌜ RoomFor (now o) at (length (fieldBits (nodeFields (cubesOf (now f))))) ⌝ }
+    ensures { λ r. ⌜ LaidBits (now (o .entry)) (now (o .exit)) at r (fieldBits (nodeFields (cubesOf (now (f .entry))))) ⌝ }
 {
     let n = expression::number(f);
     let mut p = put_field(o, at, 11, n as u64);
@@ -99,8 +99,8 @@ fn put_node(o: &mut [u8], at: usize, f: &[u64]) -> usize
 
 // The nodes from a up to e.
 fn put_nodes(o: &mut [u8], at: usize, words: &[u64], counts: &[usize], a: usize, e: usize) -> usize
-    requires { ⌜ (a ≤ e) × Held (now words) (now counts) e × Ready (now o) at (length (bitsFrom a e (now words) (now counts))) ⌝ }
-    ensures { λ r. ⌜ Laid (now (o .entry)) (now (o .exit)) at r (bitsFrom a e (now (words .entry)) (now (counts .entry))) ⌝ }
+    requires { ⌜ (a ≤ e) × Held (now words) (now counts) e × RoomFor (now o) at (length (bitsFrom a e (now words) (now counts))) ⌝ }
+    ensures { λ r. ⌜ LaidBits (now (o .entry)) (now (o .exit)) at r (bitsFrom a e (now (words .entry)) (now (counts .entry))) ⌝ }
 {
     let mut p = at;
     let mut i = a;
@@ -113,8 +113,8 @@ fn put_nodes(o: &mut [u8], at: usize, words: &[u64], counts: &[usize], a: usize,
 
 // Edition 4 bits (1), n-1 5, m-1 5, k 6.
 fn put_head(o: &mut [u8], n: usize, m: usize, k: usize) -> usize
-    requires { ⌜ (1 ≤ n) × (1 ≤ m) × Ready (now o) 0 (length (fieldBits (headFields n m k))) ⌝ }
-    ensures { λ r. ⌜ Laid (now (o .entry)) (now (o .exit)) 0 r (fieldBits (headFields n m k)) ⌝ }
+    requires { ⌜ (1 ≤ n) × (1 ≤ m) × RoomFor (now o) 0 (length (fieldBits (headFields n m k))) ⌝ }
+    ensures { λ r. ⌜ LaidBits (now (o .entry)) (now (o .exit)) 0 r (fieldBits (headFields n m k)) ⌝ }
 {
     let p = put_field(o, 0, 4, 1);
     let q = put_field(o, p, 5, (n - 1) as u64);
@@ -125,7 +125,7 @@ fn put_head(o: &mut [u8], n: usize, m: usize, k: usize) -> usize
 // The head, then each divisor, then each output.
 fn put_all(o: &mut [u8], n: usize, m: usize, k: usize, words: &[u64], counts: &[usize]) -> usize
     requires { ⌜ Writable n m k (now words) (now counts) (now o) ⌝ }
-    ensures { λ r. ⌜ Laid (now (o .entry)) (now (o .exit)) 0 r (allBits n m k (now (words .entry)) (now (counts .entry))) ⌝ }
+    ensures { λ r. ⌜ LaidBits (now (o .entry)) (now (o .exit)) 0 r (allBits n m k (now (words .entry)) (now (counts .entry))) ⌝ }
 {
     let p = put_head(o, n, m, k);
     let q = put_nodes(o, p, words, counts, m, m + k);

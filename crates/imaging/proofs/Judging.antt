@@ -21,9 +21,8 @@ use Rattle.network.specs.Held.{numbered, reach, mostCubes, mostLiterals}
 use Rattle.network.specs.Rules.{Lawful}
 use Rattle.network.proofs.Numbering.{numbered-length, numbered-cubes, reach-in, reach-out}
 use Rattle.imaging.specs.Reading.{Raw, rawNodes, rawNet, summed, inTheOrder, readsEarlier, oneOrder}
-use Rattle.imaging.specs.Meaning.{InOrder}
+use Rattle.imaging.specs.Meaning.{OneOrder, FitCube, FitRaw}
 use Rattle.imaging.proofs.Fielding.{divisorCubes}
-use Rattle.imaging.proofs.Reading.{FitCube, FitRaw}
 
 module _ {A : Type 0} where
   swap-in : {x : A} (a b : List A) → x ∈ (a ++ b) → x ∈ (b ++ a)
@@ -68,7 +67,7 @@ module _ (r : Raw) (fits : FitRaw r) (sums : summed r ≡ true) (order : oneOrde
   unfolding oneOrder
   ranks f m = all-out inTheOrder (raw-in m) ((both (all inTheOrder (rawNodes r)) (readsEarlier (r .inputs) (r .divisors)) order) .0)
 
-  pub raw-order : InOrder (rawNet r)
+  pub raw-order : OneOrder (rawNet r)
   unfolding oneOrder inTheOrder
   raw-order = record {
     cubes = λ f m. (both (ordered f) (pairwise loose f) ((both (all asc f) (ordered f && pairwise loose f) (ranks f m)) .1)) .0;
@@ -143,7 +142,7 @@ module _ (n : Net) (h : Lawful n) where
       (le-leb (total length (rawNodes (rawOf n))) mostCubes (omega (arith, total-append length (n .outputs) (divisorCubes n), total-append length (divisorCubes n) (n .outputs), h .cubes)))
       (le-leb (total literalsOf (rawNodes (rawOf n))) mostLiterals (omega (arith, total-append literalsOf (n .outputs) (divisorCubes n), total-append literalsOf (divisorCubes n) (n .outputs), h .literals)))
 
-  pub lawful-order : InOrder n → oneOrder (rawOf n) ≡ true
+  pub lawful-order : OneOrder n → oneOrder (rawOf n) ≡ true
   unfolding oneOrder inTheOrder
   lawful-order o =
       together (all inTheOrder (rawNodes (rawOf n))) (readsEarlier (n .inputs) (divisorCubes n))

@@ -19,39 +19,19 @@ use Rattle.fields.proofs.Bits.{bits-length, value-lt, value-bits, bits-value}
 use Rattle.network.specs.Held.{mostInputs, mostOutputs, mostVariables, mostCubes}
 use Rattle.network.specs.Handed.{flat}
 use Rattle.network.proofs.Numbering.{numbered-length, numbered-cubes}
-use Rattle.imaging.specs.Image.{field, cubeFields, nodeFields, headFields, netFields}
+use Rattle.imaging.specs.Image.{field, cubeFields, nodeFields, headFields}
 use Rattle.imaging.specs.Reading.{Got, got, bad, andThen, getField, getMany, getLiterals, getCube, getNode, Raw, getNodes, getRaw, rawNodes, rawNet}
+use Rattle.imaging.specs.Meaning.{FitCube, FitNode, FitRaw, rawBits}
 use Rattle.imaging.proofs.Fielding.{fields-append, nodeBits, net-bits}
-
--- ---- what fits its fields
-
-pub record FitCube (v : ℕ) (c : List ℕ) : Type 0 where
-  pub few : length c ≤ v
-  pub known : (l : ℕ) → l ∈ c → l / 2 < v
-  pub single : proper c ≡ true
-
-pub record FitNode (v : ℕ) (f : List (List ℕ)) : Type 0 where
-  pub few : length f ≤ mostCubes
-  pub cubes : (c : List ℕ) → c ∈ f → FitCube v c
-
-pub record FitRaw (r : Raw) : Type 0 where
-  pub inputs : (1 ≤ r .inputs) × (r .inputs ≤ mostInputs)
-  pub outputs : (1 ≤ length (r .outputs)) × (length (r .outputs) ≤ mostOutputs)
-  pub few : r .inputs + length (r .divisors) ≤ mostVariables
-  pub nodes : (f : List (List ℕ)) → f ∈ rawNodes r → FitNode (r .inputs + length (r .divisors)) f
 
 -- ---- one field
 
-pub field-put : (w v : ℕ) (ok : ℕ → Bool) (rest : List Bool) → v < 2 ^ w → ok v ≡ true → getField w ok (bitsOf w v ++ rest) ≡ got v rest
+pub field-whole : (w : ℕ) (ok : ℕ → Bool) (b rest : List Bool) → length b ≡ w → getField w ok (b ++ rest) ≡ cond (ok (valueOf b)) (got (valueOf b) rest) (bad 12)
 unfolding getField
-field-put w v ok rest h k =
-    rw (
-      le-ltb (length (bitsOf w v ++ rest)) w (omega (arith, length-append (bitsOf w v) rest, bits-length w v)),
-      take-at (bitsOf w v) rest w (bits-length w v),
-      drop-at (bitsOf w v) rest w (bits-length w v),
-      value-bits w v h,
-      k,
-    )
+field-whole w ok b rest h = rw (le-ltb (length (b ++ rest)) w (omega (arith, length-append b rest)), take-at b rest w h, drop-at b rest w h)
+
+pub field-put : (w v : ℕ) (ok : ℕ → Bool) (rest : List Bool) → v < 2 ^ w → ok v ≡ true → getField w ok (bitsOf w v ++ rest) ≡ got v rest
+field-put w v ok rest h k = field-whole w ok (bitsOf w v) rest (bits-length w v) ∙ rw (value-bits w v h, k)
 
 pub field-get : (w : ℕ) (ok : ℕ → Bool) (l : List Bool) {v : ℕ} {rest : List Bool} → getField w ok l ≡ got v rest
     → (l ≡ bitsOf w v ++ rest) × (v < 2 ^ w) × (ok v ≡ true)
@@ -219,10 +199,6 @@ node-get v l f rest e =
     )
 
 -- ---- the whole
-
--- the bits of what is read as it stands
-abbrev pub rawBits : Raw → List Bool
-rawBits r = fieldBits (netFields (rawNet r))
 
 -- the four fields of the head, and bits after them
 abbrev headed : ℕ → ℕ → ℕ → List Bool → List Bool

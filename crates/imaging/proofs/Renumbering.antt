@@ -28,7 +28,7 @@ use Rattle.network.proofs.Numbering.{in-output, in-divisor, numbered-length, nu
 use Rattle.network.proofs.Listings.{ready-out, listing-once, listing-number, listing-in, listing-step, listing-all}
 use Rattle.network.proofs.Evaluating.{evaluate-settled, evaluate-read}
 use Rattle.imaging.specs.Renumber.{indexOf, newNumber, newNode, renumbered}
-use Rattle.imaging.specs.Meaning.{InOrder}
+use Rattle.imaging.specs.Meaning.{OneOrder}
 use Rattle.imaging.proofs.NewNumbers.{index-before, index-new, index-from, Named, Over, Reaches, oldNumber, new-input, new-listed, old-new, new-injective, new-below, new-node-reads, new-node-length, new-node-literals, new-node-expression, new-node-value, new-node-same}
 
 -- the expressions of divisors
@@ -227,7 +227,7 @@ module _ (n : Net) where
         ]
 
     -- it stands in the one order
-    pub renumbered-order : InOrder (renumbered n)
+    pub renumbered-order : OneOrder (renumbered n)
     renumbered-order = record { cubes = λ f m. let q = renumbered-node f m in rw (q .2) ((node-made (q .1)) .1); earlier = divisor-earlier }
 
     -- and follows the rules
@@ -357,7 +357,7 @@ module _ (n : Net) (w : Lawful n) (k : Earlier n) where
   ]
 
 -- a network in the one order stays as it is
-pub renumbered-same : (n : Net) → Lawful n → InOrder n → renumbered n ≡ n
+pub renumbered-same : (n : Net) → Lawful n → OneOrder n → renumbered n ≡ n
 unfolding renumbered
 renumbered-same n w o = λ i. record {
   inputs = n .inputs;
@@ -382,8 +382,8 @@ renumbered-same n w o = λ i. record {
         ∙ map-cong (λ (e : Node). cubesAt (e .number) (n .divisors)) (λ (e : Node). e .cubes) (n .divisors) (λ e m. cubes-at n ((lawful-sound n w) .distinct) m)
 
 -- and no other does
-pub renumbered-iff : (n : Net) → Lawful n → (renumbered n ≡ n) ↔ InOrder n
-renumbered-iff n w = (λ e. subst InOrder e (renumbered-order n w), renumbered-same n w)
+pub renumbered-iff : (n : Net) → Lawful n → (renumbered n ≡ n) ↔ OneOrder n
+renumbered-iff n w = (λ e. subst OneOrder e (renumbered-order n w), renumbered-same n w)
 
 -- once is enough
 pub renumbered-once : (n : Net) → Lawful n → renumbered (renumbered n) ≡ renumbered n

@@ -19,9 +19,8 @@ use Rattle.network.specs.Rules.{Lawful}
 use Rattle.imaging.specs.Renumber.{renumbered}
 use Rattle.imaging.specs.Image.{netFields, netBytes, imageOf}
 use Rattle.imaging.specs.Reading.{Raw, rawNet, padding, summed, oneOrder, accepted, refused, readImage}
-use Rattle.imaging.specs.Meaning.{InOrder}
-use Rattle.imaging.proofs.Reading.{rawBits}
-use Rattle.imaging.proofs.Refusing.{begins-early, Stands, Judged, early, over, taken, judged-iff, judged-read}
+use Rattle.imaging.specs.Meaning.{OneOrder, rawBits, Fills, ImageAnswer, early, over, taken}
+use Rattle.imaging.proofs.Refusing.{begins-early, judged-iff, judged-read}
 use Rattle.imaging.proofs.Renumbering.{renumbered-same, renumbered-lawful, renumbered-order}
 use Rattle.imaging.proofs.Judging.{raw-order, raw-lawful, rawOf, raw-net, lawful-fits, lawful-sums, lawful-order}
 
@@ -48,14 +47,14 @@ padding-in k h = together (ltb (length (replicate k false)) 8) (all not (replica
 record Accepts (bytes : List ℕ) (n : Net) : Type 0 where
   raw : Raw
   rest : List Bool
-  stands : Stands bytes raw rest
+  fills : Fills bytes raw rest
   padded : padding rest ≡ true
   sums : summed raw ≡ true
   order : oneOrder raw ≡ true
   same : rawNet raw ≡ n
 
-taken-out : {bytes : List ℕ} {n : Net} → Judged bytes (accepted n) → Accepts bytes n
-taken-out (taken {r = r} {rest = l} s p q o) = record { raw = r; rest = l; stands = s; padded = p; sums = q; order = o; same = refl }
+taken-out : {bytes : List ℕ} {n : Net} → ImageAnswer bytes (accepted n) → Accepts bytes n
+taken-out (taken {r = r} {rest = l} s p q o) = record { raw = r; rest = l; fills = s; padded = p; sums = q; order = o; same = refl }
 
 accepts : (bytes : List ℕ) (n : Net) → readImage bytes ≡ accepted n → Accepts bytes n
 accepts bytes n h = taken-out ((judged-iff bytes (accepted n)) .0 h)
@@ -63,11 +62,11 @@ accepts bytes n h = taken-out ((judged-iff bytes (accepted n)) .0 h)
 -- ---- both ways
 
 -- a network that is read is by the rules and in the one order
-pub read-lawful : (bytes : List ℕ) (n : Net) → readImage bytes ≡ accepted n → Lawful n × InOrder n
+pub read-lawful : (bytes : List ℕ) (n : Net) → readImage bytes ≡ accepted n → Lawful n × OneOrder n
 read-lawful bytes n h =
     let a = accepts bytes n h in
-    let f = a .stands .fits in
-    subst (λ m. Lawful m × InOrder m) (a .same) (raw-lawful (a .raw) f (a .sums) (a .order), raw-order (a .raw) f (a .sums) (a .order))
+    let f = a .fills .fits in
+    subst (λ m. Lawful m × OneOrder m) (a .same) (raw-lawful (a .raw) f (a .sums) (a .order), raw-order (a .raw) f (a .sums) (a .order))
 
 -- and its own bytes are the image
 pub read-bytes : (bytes : List ℕ) (n : Net) → ((b : ℕ) → b ∈ bytes → b < 256) → readImage bytes ≡ accepted n → netBytes n ≡ bytes
@@ -77,7 +76,7 @@ read-bytes bytes n small h =
     let l = rawBits (a .raw) in
     let k = length (a .rest) in
     let z = padding-out (a .rest) (a .padded) in
-    let e : bitsIn bytes ≡ l ++ replicate k false = a .stands .bits ∙ ap (l ++_) (z .1) in
+    let e : bitsIn bytes ≡ l ++ replicate k false = a .fills .bits ∙ ap (l ++_) (z .1) in
     let w : 8 * length bytes ≡ length l + k = sym (bits-in-length bytes) ∙ ap length e ∙ length-append l (replicate k false) ∙ ap (length l +_) (length-replicate k false) in
     subst (λ m. bytesOf (fieldBits (netFields m)) ≡ bytes) (a .same)
     (sym (bytes-pad l k (omega (arith, z .0))) ∙ ap bytesOf (sym e) ∙ bits-bytes bytes small)
@@ -98,7 +97,7 @@ module _ (n : Net) (h : Lawful n) where
   bytes-stand = bytes-bits (fieldBits (netFields n)) ∙ ap (_++ zeroBits) net-raw
 
   -- the bytes of a network by the rules and in the one order are read as that network
-  pub bytes-read : InOrder n → readImage (netBytes n) ≡ accepted n
+  pub bytes-read : OneOrder n → readImage (netBytes n) ≡ accepted n
   unfolding zeroBits spare
   bytes-read o =
       judged-read (netBytes n)
@@ -130,7 +129,7 @@ module _ (n : Net) (h : Lawful n) where
       }) (rw (le-ltb (length (zeroBits ++ bitsIn (b ∷ bs))) 8 (omega (arith, length-append zeroBits (bitsIn (b ∷ bs)), bits-in-length (b ∷ bs))))))
 
 -- an image is accepted exactly when it is the bytes of a network by the rules and in the one order, and that network is read
-pub read-iff : (bytes : List ℕ) (n : Net) → ((b : ℕ) → b ∈ bytes → b < 256) → (readImage bytes ≡ accepted n) ↔ (Lawful n × InOrder n × (netBytes n ≡ bytes))
+pub read-iff : (bytes : List ℕ) (n : Net) → ((b : ℕ) → b ∈ bytes → b < 256) → (readImage bytes ≡ accepted n) ↔ (Lawful n × OneOrder n × (netBytes n ≡ bytes))
 read-iff bytes n small = (
   λ h. let q = read-lawful bytes n h in (q .0, q .1, read-bytes bytes n small h),
   λ (a, b, e). ap readImage (sym e) ∙ bytes-read n a b,

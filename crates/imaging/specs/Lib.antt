@@ -1,4 +1,5 @@
 pub mod Renumber
 pub mod Image
 pub mod Reading
+pub mod Layout
 pub mod Meaning

@@ -1,5 +1,6 @@
 // The dispatcher's map of a network: the inputs, the shared conditions and the orchards, in columns for paper.
 use network::Network;
+use std::num;
 
 // Room for a line: a factored text, and what stands beside it.
 const LINE: usize = 266240;
@@ -47,7 +48,7 @@ fn put_last(out: &mut [u8], at: usize, letter: u8, from: usize, count: usize) ->
         return at;
     }
     let next = wire::put_text(out, at, b" to ");
-    line::put_name(out, next, letter, node::sum(from, count - 1))
+    line::put_name(out, next, letter, num::wrapping_add_usize(from, count - 1))
 }
 
 // `x0 to x14   the inputs`, where there are any.
@@ -113,9 +114,21 @@ fn print_each_input(text: &[u8], inputs: usize, out: &mut [u8]) {
     }
 }
 
+// Whether the text names one of the inputs.
+fn is_any(text: &[u8], inputs: usize, out: &mut [u8]) -> bool {
+    let mut i = 0;
+    while i < inputs {
+        if name::put_name(out, 0, text, i) > 0 {
+            return true;
+        }
+        i += 1;
+    }
+    false
+}
+
 fn print_inputs(text: &[u8], inputs: usize, out: &mut [u8]) {
     line::print(b"\nINPUTS");
-    if name::is_any(text, inputs) {
+    if is_any(text, inputs, out) {
         print_each_input(text, inputs, out);
         return;
     }
@@ -172,8 +185,8 @@ fn put_orchards(out: &mut [u8], at: usize, masks: [u64; 32], v: usize) -> usize 
 }
 
 fn print_condition(n: Network, i: usize, masks: [u64; 32], wide: usize, out: &mut [u8]) {
-    let v = node::sum(n.inputs, i);
-    let at = put_node(out, n, node::sum(n.outputs, i), b'x', v, wide);
+    let v = num::wrapping_add_usize(n.inputs, i);
+    let at = put_node(out, n, num::wrapping_add_usize(n.outputs, i), b'x', v, wide);
     let next = put_orchards(out, at, masks, v);
     end_list(out, at, next);
 }

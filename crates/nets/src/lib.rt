@@ -3,25 +3,6 @@ ghost use Prim.Native.Nat.{_≤_};
 use network::Network;
 use network::Number;
 use wire::Groups;
-use wire::Taken;
-
-// Three numbers, if that is what was given.
-struct Sizes {
-    pub ok: bool,
-    pub inputs: u64,
-    pub outputs: u64,
-    pub divisors: u64,
-}
-
-struct Counts {
-    pub ok: bool,
-    pub counts: [usize; 96],
-}
-
-struct Words {
-    pub ok: bool,
-    pub words: [u64; 2176],
-}
 
 // A network as it was given, if it was. Slots that are not given are 0.
 pub struct Given {
@@ -29,126 +10,61 @@ pub struct Given {
     pub network: Network,
 }
 
-fn read_sizes(line: &[u8], a: usize, e: usize) -> Sizes {
-    let mut pool = [0u64; 3];
-    let got = wire::numbers(line, a, e, &mut pool);
-    let Taken::All(n) = got else {
-        return Sizes {
-            ok: false,
-            inputs: 0,
-            outputs: 0,
-            divisors: 0,
-        };
-    };
-    Sizes {
-        ok: n == 3,
-        inputs: pool[0],
-        outputs: pool[1],
-        divisors: pool[2],
-    }
-}
-
-fn narrow(pool: [u64; 96]) -> [usize; 96] {
-    let mut counts = [0usize; 96];
+fn narrow(pool: [u64; network::NODES]) -> [usize; network::NODES] {
+    let mut counts = [0usize; network::NODES];
     let mut i = 0;
-    while i < 96 {
+    while i < network::NODES {
         counts[i] = pool[i] as usize;
         i += 1;
     }
     counts
 }
 
-fn read_counts(line: &[u8], a: usize, e: usize) -> Counts {
-    let mut pool = [0u64; 96];
-    let got = wire::numbers(line, a, e, &mut pool);
-    let Taken::All(n) = got else {
-        return Counts {
-            ok: false,
-            counts: [0; 96],
-        };
-    };
-    let c = narrow(pool);
-    Counts {
-        ok: true,
-        counts: c,
-    }
-}
-
-fn read_words(line: &[u8], a: usize, e: usize) -> Words {
-    let mut pool = [0u64; 2176];
-    let got = wire::numbers(line, a, e, &mut pool);
-    let Taken::All(n) = got else {
-        return Words {
-            ok: false,
-            words: pool,
-        };
-    };
-    Words {
-        ok: true,
-        words: pool,
-    }
-}
-
-// Both hold.
-fn and(a: bool, b: bool) -> bool {
-    if a { b } else { false }
-}
-
-fn whole(s: Sizes, c: Counts, w: Words) -> Given {
-    let counts = c.counts;
-    let words = w.words;
+// The network of groups 1 to 3.
+pub fn read_net(line: &[u8], g: Groups) -> Given {
+    let mut sizes = [0u64; 3];
+    let mut pool = [0u64; network::NODES];
+    let mut words = [0u64; network::WORDS];
+    let s = wire::numbers(wire::group(line, g, 1), &mut sizes);
+    let c = wire::numbers(wire::group(line, g, 2), &mut pool);
+    let w = wire::numbers(wire::group(line, g, 3), &mut words);
+    let counts = narrow(pool);
     Given {
-        ok: and(s.ok, and(c.ok, w.ok)),
+        ok: s.count == 3 && c.ok && w.ok,
         network: Network {
-            inputs: s.inputs as usize,
-            outputs: s.outputs as usize,
-            divisors: s.divisors as usize,
+            inputs: sizes[0] as usize,
+            outputs: sizes[1] as usize,
+            divisors: sizes[2] as usize,
             counts,
             words,
         },
     }
 }
 
-// The network of groups 1 to 3.
-pub fn read_net(line: &[u8], g: Groups) -> Given {
-    let s = read_sizes(line, g.from[1], g.to[1]);
-    let c = read_counts(line, g.from[2], g.to[2]);
-    let w = read_words(line, g.from[3], g.to[3]);
-    whole(s, c, w)
-}
-
 // ---- answers
 
-fn put_counts(out: &mut [u8], n: usize, counts: &[usize], used: usize) -> usize {
-    let mut at = n;
-    let mut i = 0;
-    while i < used {
-        if i >= counts.len() {
-            return at;
-        }
-        at = wire::put_number(out, at, counts[i] as u64);
-        i += 1;
-    }
-    at
+// Where the answer goes on after the counts, and the cubes that they name.
+struct Counted {
+    at: usize,
+    cubes: usize,
 }
 
-// The cubes that the counts in use name.
-fn cubes_in(counts: &[usize], used: usize) -> usize
-    ensures { λ r. ⌜ r ≤ 1088 ⌝ }
+// The counts of the nodes in use, 32 outputs and 63 divisors at most.
+fn put_counts(out: &mut [u8], n: usize, counts: [usize; network::NODES], used: usize) -> Counted
+    requires { ⌜ used ≤ 96 ⌝ }
 {
-    let mut sum: usize = 0;
+    let mut at = n;
+    let mut cubes = 0;
     let mut i = 0;
     while i < used {
-        if i >= counts.len() {
-            return sum;
+        if counts[i] > network::CUBES - cubes {
+            return Counted { at, cubes };
         }
-        if counts[i] > 1088 - sum {
-            return sum;
-        }
-        sum += counts[i];
+        at = wire::put_number(out, at, counts[i] as u64);
+        cubes += counts[i];
         i += 1;
     }
-    sum
+    Counted { at, cubes }
 }
 
 fn put_sizes(out: &mut [u8], n: usize, inputs: u64, outputs: u64, divisors: u64) -> usize {
@@ -159,18 +75,10 @@ fn put_sizes(out: &mut [u8], n: usize, inputs: u64, outputs: u64, divisors: u64)
     wire::put_part(out, at)
 }
 
-// The first so many words.
-fn put_first(out: &mut [u8], n: usize, words: &[u64], end: usize) -> usize {
-    if end <= words.len() {
-        return wire::put_numbers(out, n, &words[0..end]);
-    }
-    n
-}
-
 // The three groups of a network handed back.
 pub fn put_network(out: &mut [u8], n: usize, network: Network) -> usize {
-    let counts = network.counts;
     let words = network.words;
+    let counts = network.counts;
     let at = put_sizes(
         out,
         n,
@@ -178,18 +86,25 @@ pub fn put_network(out: &mut [u8], n: usize, network: Network) -> usize {
         network.outputs as u64,
         network.divisors as u64,
     );
-    let nodes = network.outputs % 64 + network.divisors % 128;
-    let at = put_counts(out, at, &counts, nodes);
-    let at = wire::put_part(out, at);
-    put_first(out, at, &words, 2 * cubes_in(&counts, nodes))
+    let c = put_counts(
+        out,
+        at,
+        counts,
+        network.outputs % 33 + network.divisors % 64,
+    );
+    let at = wire::put_part(out, c.at);
+    wire::put_numbers(out, at, expression::part(&words, 0, c.cubes))
+}
+
+// `ok` and the network.
+pub fn put_handed(out: &mut [u8], network: Network) -> usize {
+    let at = wire::put_text(out, 0, b"ok");
+    put_network(out, at, network)
 }
 
 pub fn put_answer(out: &mut [u8], x: Number) -> usize {
     match x {
-        Number::Is(v) => {
-            let at = wire::put_text(out, 0, b"ok");
-            wire::put_number(out, at, v)
-        }
+        Number::Is(v) => wire::put_ok(out, v),
         Number::No(k) => wire::put_refused(out, k, 0),
     }
 }

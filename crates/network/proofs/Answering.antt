@@ -13,12 +13,12 @@ use Rattle.expression.specs.Answers.{capped}
 use Rattle.network.specs.Net.{Net}
 use Rattle.network.specs.Listing.{listing}
 use Rattle.network.specs.Evaluation.{evaluate}
-use Rattle.network.specs.Held.{netOf, rules, reach}
+use Rattle.network.specs.Held.{netOf, sized, rules, reach}
 use Rattle.network.specs.Answers.{counted, evaluated, listable, numbersOf, listedOf}
 use Rattle.network.specs.declared.Network.{Network}
 use Rattle.network.specs.declared.Listed.{Listed}
 use Rattle.network.specs.declared.Number.the-variants.{Is, No}
-use Rattle.network.specs.Parts.{nodesOf, divisorsOf, heldIn, netAt, sizedAt, Sized, Truths, holds, settledIn, Lists, Ordered}
+use Rattle.network.specs.Parts.{nodesOf, divisorsOf, heldIn, netAt, Sized, Truths, someWithin, settledIn, PaddedList, Ordered}
 use Rattle.network.proofs.Numbering.{numbered-length}
 use Rattle.network.proofs.Listings.{listing-length}
 use Rattle.network.proofs.Holding.{nodes-held, divisors-held, rules-sound}
@@ -33,7 +33,7 @@ module _ (n m k : ℕ) (words counts : List ℕ) (z : Sized n m k words counts) 
   many : length (divisorsOf m k counts words) ≡ k
   many = divisors-length counts words m k (z .lent .counted)
 
-  module _ (o : Lists (listing net) count order) where
+  module _ (o : PaddedList (listing net) count order) where
     pub ordered-listing : Ordered n m k words counts count order
     ordered-listing = record {
       lent = z .lent;
@@ -50,9 +50,9 @@ module _ (n m k : ℕ) (words counts : List ℕ) (z : Sized n m k words counts) 
     taken = ap₂ take (o .number) (o .places) ∙ take-append-seam (listing net) (replicate (64 - length (listing net)) 0)
 
     pub answer-is : rules (heldIn n m k counts words) ≡ true → (s : ℕ) (g t : List ℕ) → Truths n [] (bit s) g → t ≡ settledIn n (divisorsOf m k counts words) (take count order) g
-        → packed (map (holds t) (nodesOf m counts words)) ≡ evaluate net s
+        → packed (map (someWithin t) (nodesOf m counts words)) ≡ evaluate net s
     answer-is h s g t w q =
-        ap₂ (λ (u : List ℕ) (l : List (List (List ℕ))). packed (map (holds u) l)) (q ∙ ap (λ o. settledIn n (divisorsOf m k counts words) o g) taken) (sym (outputs-are counts words m k))
+        ap₂ (λ (u : List ℕ) (l : List (List (List ℕ))). packed (map (someWithin u) l)) (q ∙ ap (λ o. settledIn n (divisorsOf m k counts words) o g) taken) (sym (outputs-are counts words m k))
         ∙ outputs-value net (divisorsOf m k counts words) refl (rules-sound (heldIn n m k counts words) h) s g w
 
 -- ---- what is answered
@@ -74,21 +74,21 @@ module _ (n : Network) where
   unfolding evaluated
   evaluated-is s t e q = rw e (ap Is q)
 
-  listed-as : (r : Listed) (b : Bool) → listable n ≡ b → Lists (cond b (listing (netOf n)) []) (r .count) (r .order) → r ≡ listedOf n
+  listed-as : (r : Listed) (b : Bool) → listable n ≡ b → PaddedList (cond b (listing (netOf n)) []) (r .count) (r .order) → r ≡ listedOf n
   unfolding listedOf numbersOf
   listed-as r b e l = rw e (ap₂ (λ (c : ℕ) (o : List ℕ). record { count = c; order = o }) (l .number) (l .places))
 
-  pub listed-no : (r : Listed) → listable n ≡ false → Lists [] (r .count) (r .order) → r ≡ listedOf n
+  pub listed-no : (r : Listed) → listable n ≡ false → PaddedList [] (r .count) (r .order) → r ≡ listedOf n
   listed-no r e l = listed-as r false e l
 
-  pub listed-is : (r : Listed) → listable n ≡ true → Lists (listing (netOf n)) (r .count) (r .order) → r ≡ listedOf n
+  pub listed-is : (r : Listed) → listable n ≡ true → PaddedList (listing (netOf n)) (r .count) (r .order) → r ≡ listedOf n
   listed-is r e l = listed-as r true e l
 
-  pub listable-no : sizedAt (n .inputs) (n .outputs) (n .divisors) (n .counts) ≡ false → listable n ≡ false
+  pub listable-no : sized n ≡ false → listable n ≡ false
   unfolding listable
   listable-no e = rw e
 
-  pub listable-as : (b : Bool) → length (n .counts) ≡ 96 → Sized (n .inputs) (n .outputs) (n .divisors) (n .words) (n .counts) → sizedAt (n .inputs) (n .outputs) (n .divisors) (n .counts) ≡ true
+  pub listable-as : (b : Bool) → length (n .counts) ≡ 96 → Sized (n .inputs) (n .outputs) (n .divisors) (n .words) (n .counts) → sized n ≡ true
       → all (reach (n .inputs + n .divisors)) (nodesOf (n .outputs + n .divisors) (n .counts) (n .words)) ≡ b → listable n ≡ b
   unfolding listable
   listable-as b a z e q = rw (e, nodes-held n, divisors-held n a (omega (arith, z .lent .counted))) q

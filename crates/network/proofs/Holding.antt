@@ -97,8 +97,7 @@ module _ (n m : Network) (e : Alike n m) where
 
   pub rules-same : rules n ≡ rules m
   unfolding rules
-  rules-same = ap₂ _&&_ (ap₂ (λ (i o : ℕ). sized i o (n .divisors) (total (λ c. c) (used n))) (e .inputs) (e .outputs)
-      ∙ ap₂ (λ (k : ℕ) (l : List ℕ). sized (m .inputs) (m .outputs) k (total (λ c. c) l)) (e .divisors) (e .counts)) (ap lawful held-same)
+  rules-same = let s : sized n ≡ sized m = rw (e .counts, e .inputs, e .outputs, e .divisors) in ap₂ _&&_ s (ap lawful held-same)
 
   pub judged-same : judged n ≡ judged m
   unfolding judged
@@ -171,7 +170,7 @@ module _ (n : Network) where
   unfolding rules lawful
   rules-tested h =
       let t = total (λ c. c) (used n) in
-      let a = both (sized (n .inputs) (n .outputs) (n .divisors) t) (lawful (netOf n)) h in
+      let a = both (sized n) (lawful (netOf n)) h in
       let b = both (upTo mostInputs (n .inputs)) (upTo mostOutputs (n .outputs) && (leb (n .inputs + n .divisors) mostVariables && leb t mostCubes)) (a .0) in
       let c = both (upTo mostOutputs (n .outputs)) (leb (n .inputs + n .divisors) mostVariables && leb t mostCubes) (b .1) in
       let d = both (leb (n .inputs + n .divisors) mostVariables) (leb t mostCubes) (c .1) in

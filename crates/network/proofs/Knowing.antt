@@ -17,7 +17,7 @@ use Rattle.expression.specs.Value.{lit, value}
 use Rattle.network.specs.Listing.{ready}
 use Rattle.network.specs.Evaluation.{assign}
 use Rattle.network.specs.Held.{reach}
-use Rattle.network.specs.Parts.{known, Spans, Truths, signed, within, holds}
+use Rattle.network.specs.Parts.{known, BothWays, Truths, signed, everyWithin, someWithin}
 
 -- ---- one literal more
 
@@ -108,7 +108,7 @@ both-mem l v k =
     rw (insert-mem l (negatedOf v) (insert (plainOf v) k), insert-mem l (plainOf v) k)
     (sym (or-assoc (eqb l (negatedOf v)) (eqb l (plainOf v)) (mem l k)) ∙ ap (λ t. t || mem l k) (of-variable l v))
 
-pub spans-none : {k : List ℕ} → k ≡ [] → Spans 0 [] k
+pub spans-none : {k : List ℕ} → k ≡ [] → BothWays 0 [] k
 unfolding mem
 spans-none e = record { each = λ l. rw (e, none-known (l / 2)) }
 
@@ -116,10 +116,10 @@ module _ (v : ℕ) (k a b : List ℕ) (p : a ≡ insert (signed v true) k) (q : 
   more : (l : ℕ) → mem l b ≡ (eqb (l / 2) v || mem l k)
   more l = ap (mem l) (q ∙ ap (insert (negatedOf v)) p) ∙ both-mem l v k
 
-  pub spans-input : Spans v [] k → Spans (v + 1) [] b
+  pub spans-input : BothWays v [] k → BothWays (v + 1) [] b
   spans-input s = record { each = λ l. more l ∙ ap (λ t. eqb (l / 2) v || t) (s .each l) ∙ known-input v (l / 2) }
 
-  pub spans-listed : (n : ℕ) (listed : List ℕ) → Spans n listed k → Spans n (listed ++ (v ∷ [])) b
+  pub spans-listed : (n : ℕ) (listed : List ℕ) → BothWays n listed k → BothWays n (listed ++ (v ∷ [])) b
   spans-listed n listed s = record { each = λ l. more l ∙ ap (λ t. eqb (l / 2) v || t) (s .each l) ∙ known-listed n listed v (l / 2) }
 
 -- ---- true literals
@@ -148,9 +148,9 @@ truths-input v a {t} p s = record {
 
 -- ---- tests of an expression
 
-module _ (n : ℕ) (listed k : List ℕ) (s : Spans n listed k) where
+module _ (n : ℕ) (listed k : List ℕ) (s : BothWays n listed k) where
   -- an expression is ready where its cubes have only literals of known variables
-  pub within-ready : (f : List (List ℕ)) → within k f ≡ ready n listed f
+  pub within-ready : (f : List (List ℕ)) → everyWithin k f ≡ ready n listed f
   unfolding ready sub
   within-ready f =
       all-cong (λ c. sub c k) (all (λ l. ltb (l / 2) n || mem (l / 2) listed)) f
@@ -163,7 +163,7 @@ module _ (n : ℕ) (listed k : List ℕ) (s : Spans n listed k) where
       s .each (plainOf v) ∙ ap (known n listed) e ∙ ap (λ t. t || mem v listed) (le-ltb v n h)
 
 -- with no more than v inputs known, that every literal is of one of them
-pub within-reach : (v : ℕ) (k : List ℕ) → Spans v [] k → (f : List (List ℕ)) → within k f ≡ reach v f
+pub within-reach : (v : ℕ) (k : List ℕ) → BothWays v [] k → (f : List (List ℕ)) → everyWithin k f ≡ reach v f
 unfolding sub mem
 within-reach v k s f =
     all-cong (λ c. sub c k) (all (λ l. ltb (l / 2) v)) f
@@ -173,7 +173,7 @@ within-reach v k s f =
 
 module _ (n : ℕ) (listed : List ℕ) (a : ℕ → Bool) (t : List ℕ) (s : Truths n listed a t) where
   -- a ready expression has value 1 where a cube has only true literals
-  pub holds-value : (f : List (List ℕ)) → ready n listed f ≡ true → holds t f ≡ value (lit a) f
+  pub holds-value : (f : List (List ℕ)) → ready n listed f ≡ true → someWithin t f ≡ value (lit a) f
   unfolding ready sub
   holds-value f h = any-cong (λ c. sub c t) (all (lit a)) f (λ c i. all-cong (λ l. mem l t) (lit a) c (λ l j.
       s .each l ∙ ap (λ x. x && lit a l) (all-out (λ y. ltb (y / 2) n || mem (y / 2) listed) j (all-out (all (λ y. ltb (y / 2) n || mem (y / 2) listed)) i h))))

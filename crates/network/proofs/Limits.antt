@@ -6,7 +6,7 @@ use mathlib.Core.Bool.{Bool, true, false, cond, _&&_}
 use mathlib.Core.List.{List}
 use native.Mathlib.Omega.{arith}
 use lib.Dec.{leb, ltb, eqb}
-use lib.ListN.{length, take}
+use lib.ListN.{length}
 use borrow.Author.Tests.{leb-true, leb-false, le-leb, lt-leb, ltb-false, lt-ltb}
 use Rattle.sets.specs.Lists.{all, total}
 use Rattle.sets.proofs.Truth.{both, decided}
@@ -15,8 +15,8 @@ use Rattle.expression.specs.Answers.{capped}
 use Rattle.expression.proofs.Words.{cubes-length}
 use Rattle.network.specs.Net.{Net, literalCount}
 use Rattle.network.specs.Listing.{listing}
-use Rattle.network.specs.Held.{netOf, rules, upTo, reach, lawful, mostLiterals, mostInputs, mostOutputs, mostVariables, mostCubes}
-use Rattle.network.specs.Parts.{startOf, nodesOf, heldIn, netAt, sizedAt, Sized}
+use Rattle.network.specs.Held.{used, netOf, rules, upTo, sized, reach, lawful, mostLiterals, mostInputs, mostOutputs, mostVariables, mostCubes}
+use Rattle.network.specs.Parts.{startOf, nodesOf, heldIn, netAt, Sized}
 use Rattle.network.proofs.Holding.{nodes-held, divisors-held, rules-iff}
 use Rattle.network.specs.declared.Network.{Network}
 
@@ -31,34 +31,33 @@ start-few t = go (decided (leb t mostCubes))
     go (inl e) = le-leb (min t (suc mostCubes)) mostCubes (omega (arith, leb-true t mostCubes e)) ∙ sym e
     go (inr e) = lt-leb (min t (suc mostCubes)) mostCubes (omega (arith, leb-false t mostCubes e)) ∙ sym e
 
-module _ (n m k : ℕ) where
-  module _ (counts : List ℕ) where
-    pub sized-inputs : upTo mostInputs n ≡ false → false ≡ sizedAt n m k counts
-    sized-inputs e = rw e
+module _ (n : Network) where
+  pub sized-inputs : upTo mostInputs (n .inputs) ≡ false → false ≡ sized n
+  sized-inputs e = rw e
 
-    module _ (i : upTo mostInputs n ≡ true) where
-      pub sized-outputs : upTo mostOutputs m ≡ false → false ≡ sizedAt n m k counts
-      sized-outputs e = rw (i, e)
+  module _ (i : upTo mostInputs (n .inputs) ≡ true) where
+    pub sized-outputs : upTo mostOutputs (n .outputs) ≡ false → false ≡ sized n
+    sized-outputs e = rw (i, e)
 
-      module _ (o : upTo mostOutputs m ≡ true) where
-        pub sized-variables : mostVariables < n + k → false ≡ sizedAt n m k counts
-        sized-variables h = rw (i, o, lt-leb (n + k) mostVariables h)
+    module _ (o : upTo mostOutputs (n .outputs) ≡ true) where
+      pub sized-variables : mostVariables < n .inputs + n .divisors → false ≡ sized n
+      sized-variables h = rw (i, o, lt-leb (n .inputs + n .divisors) mostVariables h)
 
-        pub sized-cubes : n + k ≤ mostVariables → leb (startOf (m + k) counts) mostCubes ≡ sizedAt n m k counts
-        sized-cubes h = rw (i, o, le-leb (n + k) mostVariables h) (start-few (total (λ c. c) (take (m + k) counts)))
+      pub sized-cubes : n .inputs + n .divisors ≤ mostVariables → leb (startOf (n .outputs + n .divisors) (n .counts)) mostCubes ≡ sized n
+      sized-cubes h = rw (i, o, le-leb (n .inputs + n .divisors) mostVariables h) (start-few (total (λ c. c) (used n)))
 
   -- what follows from the limits
-  pub sized-out : (words counts : List ℕ) → length counts ≡ 96 → length words ≡ 2176 → sizedAt n m k counts ≡ true → Sized n m k words counts
-  sized-out words counts a b h =
-      let t = total (λ c. c) (take (m + k) counts) in
-      let p = both (upTo mostInputs n) (upTo mostOutputs m && (leb (n + k) mostVariables && leb t mostCubes)) h in
-      let q = both (upTo mostOutputs m) (leb (n + k) mostVariables && leb t mostCubes) (p .1) in
-      let r = both (leb (n + k) mostVariables) (leb t mostCubes) (q .1) in
-      let wide = leb-true (n + k) mostVariables (r .0) in
-      let narrow = up-to-le mostOutputs m (q .0) in
+  pub sized-out : length (n .counts) ≡ 96 → length (n .words) ≡ 2176 → sized n ≡ true → Sized (n .inputs) (n .outputs) (n .divisors) (n .words) (n .counts)
+  sized-out a b h =
+      let t = total (λ c. c) (used n) in
+      let p = both (upTo mostInputs (n .inputs)) (upTo mostOutputs (n .outputs) && (leb (n .inputs + n .divisors) mostVariables && leb t mostCubes)) h in
+      let q = both (upTo mostOutputs (n .outputs)) (leb (n .inputs + n .divisors) mostVariables && leb t mostCubes) (p .1) in
+      let r = both (leb (n .inputs + n .divisors) mostVariables) (leb t mostCubes) (q .1) in
+      let wide = leb-true (n .inputs + n .divisors) mostVariables (r .0) in
+      let narrow = up-to-le mostOutputs (n .outputs) (q .0) in
       record {
         slots = a;
-        lent = record { counted = omega arith; few = omega (arith, cubes-length words) };
+        lent = record { counted = omega arith; few = omega (arith, cubes-length (n .words)) };
         narrow = narrow;
         variables = wide;
         cubes = leb-true t mostCubes (r .1);
@@ -107,8 +106,7 @@ module _ (n m k : ℕ) (words counts : List ℕ) (slots : length counts ≡ 96) 
 
 pub rules-sized : (n : Network) → length (n .counts) ≡ 96 → length (n .words) ≡ 2176 → rules n ≡ true → Sized (n .inputs) (n .outputs) (n .divisors) (n .words) (n .counts)
 unfolding rules
-rules-sized n a b h =
-    sized-out (n .inputs) (n .outputs) (n .divisors) (n .words) (n .counts) a b ((both (sizedAt (n .inputs) (n .outputs) (n .divisors) (n .counts)) (lawful (netOf n)) h) .0)
+rules-sized n a b h = sized-out n a b ((both (sized n) (lawful (netOf n)) h) .0)
 
 -- what is counted is not past 64 bits
 pub rules-literals : (n : Network) → length (n .counts) ≡ 96 → rules n ≡ true → capped (literalCount (netOf n)) ≡ literalCount (netOf n)

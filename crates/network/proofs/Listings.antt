@@ -16,7 +16,7 @@ use Rattle.sets.proofs.Lists.{_∈_, all-out, map-in, map-out, pairwise-imp}
 use Rattle.sets.proofs.Sets.{mem-of, of-mem}
 use Rattle.network.specs.Net.{Node, Net}
 use Rattle.network.specs.Listing.{ready, nextReady, listMore, listing}
-use Rattle.network.specs.Meaning.{Reads, Through, Listed, Closed, Distinct, differ}
+use Rattle.network.specs.Meaning.{Reads, Through, ListedNext, Closed, Distinct, differ}
 use Rattle.network.specs.Meaning.Through.{itself, others}
 use Rattle.network.proofs.Places.{split-in, all-fails, differ-in, once-le, once-cons, once-all, once-in}
 use Rattle.network.proofs.Numbering.{numbers-ahead, cubes-at}
@@ -183,7 +183,7 @@ module _ (n : Net) where
 
 module _ (n : Net) (d : Distinct n) where
   -- again and again the smallest number whose own divisors are all listed
-  pub listing-step : (a b : List ℕ) (v : ℕ) → listing n ≡ a ++ (v ∷ b) → Listed n a v
+  pub listing-step : (a b : List ℕ) (v : ℕ) → listing n ≡ a ++ (v ∷ b) → ListedNext n a v
   listing-step a b v e = let q = listing-from n a b v e in record {
     node = q .node;
     inside = q .inside;

@@ -2,14 +2,14 @@
 use Prim.Native.Nat.{ℕ, zero, suc, _+_, _-_, _<_, _≤_}
 use mathlib.Core.Path.{_≡_, refl, sym, ap, _∙_}
 use mathlib.Core.Logic.{_⊎_, inl, inr}
-use mathlib.Core.Bool.{Bool, true, false}
+use mathlib.Core.Bool.{Bool, true, false, cond, not}
 use mathlib.Core.List.{List, [], _∷_}
 use native.Mathlib.Omega.{arith}
 use lib.Dec.{leb}
 use lib.ListN.{length, getD, take, drop, drop-of-length-le, length-drop}
 use lib.Seq.{getD-take, getD-drop, length-take-le, take-take, take-all, take-nil}
 use borrow.Author.Tests.{leb-true, leb-false}
-use Rattle.sets.specs.Lists.{any, total}
+use Rattle.sets.specs.Lists.{any, all, total}
 use Rattle.sets.proofs.Truth.{decided}
 use Rattle.expression.specs.Words.{cubesOf}
 use Rattle.expression.proofs.Counting.{total-next}
@@ -18,18 +18,25 @@ use Rattle.network.specs.Held.{cut, mostCubes}
 use Rattle.network.proofs.Holding.{cut-length, cut-node}
 use Rattle.network.specs.Parts.{startOf, nodesOf}
 
--- ---- a test that some element passes, over what is left from a place on
+-- ---- a test that every element passes, or some element, over what is left from a place on
 
-module _ {A : Type 0} (l : List A) (i : ℕ) where
+module _ {A : Type 0} (l : List A) (i : ℕ) (p : A → Bool) where
+  -- by every: all of them, or any
+  abbrev pub passed : Bool → ℕ → Bool
+  passed every j = cond every (all p (drop j l)) (any p (drop j l))
+
   module _ (d : A) (h : i < length l) where
-    pub any-stop : (p : A → Bool) → p (getD l i d) ≡ true → any p (drop i l) ≡ true
-    any-stop p e = rw (drop-next l i d h, e)
+    pub test-stop : (every : Bool) → p (getD l i d) ≡ not every → passed every i ≡ not every
+    test-stop true e = rw (drop-next l i d h, e)
+    test-stop false e = rw (drop-next l i d h, e)
 
-    pub any-on : (p : A → Bool) → p (getD l i d) ≡ false → any p (drop i l) ≡ any p (drop (i + 1) l)
-    any-on p e = rw (drop-next l i d h, e)
+    pub test-on : (every : Bool) → p (getD l i d) ≡ every → passed every i ≡ passed every (i + 1)
+    test-on true e = rw (drop-next l i d h, e)
+    test-on false e = rw (drop-next l i d h, e)
 
-  pub any-done : length l ≤ i → (p : A → Bool) → any p (drop i l) ≡ false
-  any-done h p = rw (drop-of-length-le l h)
+  pub test-done : length l ≤ i → (every : Bool) → passed every i ≡ every
+  test-done h true = rw (drop-of-length-le l h)
+  test-done h false = rw (drop-of-length-le l h)
 
 -- ---- expressions cut from cubes
 

@@ -20,10 +20,10 @@ use Rattle.sets.specs.Sets.{mem, insert}
 use Rattle.sets.proofs.Places.{drop-next, at-in}
 use Rattle.network.specs.Net.{Node, Net, cubesAt}
 use Rattle.network.specs.Listing.{ready, listing}
-use Rattle.network.specs.Meaning.{Listed, Distinct, Known, Sound}
+use Rattle.network.specs.Meaning.{ListedNext, Distinct, Known, Sound}
 use Rattle.network.specs.Held.{numbered}
 use Rattle.network.specs.Evaluation.{assign, settle, evaluate}
-use Rattle.network.specs.Parts.{known, Truths, signed, holds, settledIn}
+use Rattle.network.specs.Parts.{known, Truths, signed, someWithin, settledIn}
 use Rattle.network.proofs.Numbering.{numbered-at, numbered-range, numbered-distinct}
 use Rattle.network.proofs.Listings.{listing-step, listing-number, listing-in}
 use Rattle.network.proofs.Knowing.{holds-value, truths-listed}
@@ -31,13 +31,13 @@ use Rattle.network.proofs.Knowing.{holds-value, truths-listed}
 -- ---- one divisor after the other
 
 module _ (n : ℕ) (ds : List (List (List ℕ))) (l : List ℕ) (i : ℕ) (t : List ℕ) where
-  pub settled-on : i < length l → (v : ℕ) (f : List (List ℕ)) (b : Bool) (u : List ℕ) → v ≡ getD l i 0 → f ≡ getD ds (v - n) [] → b ≡ holds t f → u ≡ insert (signed v b) t
+  pub settled-on : i < length l → (v : ℕ) (f : List (List ℕ)) (b : Bool) (u : List ℕ) → v ≡ getD l i 0 → f ≡ getD ds (v - n) [] → b ≡ someWithin t f → u ≡ insert (signed v b) t
       → settledIn n ds (drop i l) t ≡ settledIn n ds (drop (i + 1) l) u
   unfolding settledIn
   settled-on h v f b u p q r s =
       ap (λ (x : List ℕ). settledIn n ds x t) (drop-next l i 0 h ∙ ap (_∷ drop (i + 1) l) (sym p))
       ∙ ap (settledIn n ds (drop (i + 1) l))
-      (ap (λ (x : List (List ℕ)). insert (signed v (holds t x)) t) (sym q) ∙ ap (λ (x : Bool). insert (signed v x) t) (sym r) ∙ sym s)
+      (ap (λ (x : List (List ℕ)). insert (signed v (someWithin t x)) t) (sym q) ∙ ap (λ (x : Bool). insert (signed v x) t) (sym r) ∙ sym s)
 
   pub settled-done : length l ≤ i → settledIn n ds (drop i l) t ≡ t
   unfolding settledIn
@@ -58,7 +58,7 @@ module _ (net : Net) (ds : List (List (List ℕ))) (e : net .divisors ≡ number
   settled-truths done [] a t q s = rw append-nil s
   settled-truths done (v ∷ l) a t q s = rw (← (append-assoc done (v ∷ []) l), same) (settled-truths (done ++ (v ∷ [])) l (assign a v b) (insert (signed v b) t) (q ∙ sym (append-assoc done (v ∷ []) l)) (truths-listed n done a t s v b above (x .fresh)))
     where
-      x : Listed net done v
+      x : ListedNext net done v
       x = listing-step net own done l v q
 
       above : n ≤ v
@@ -70,8 +70,8 @@ module _ (net : Net) (ds : List (List (List ℕ))) (e : net .divisors ≡ number
       at : cubesAt v (net .divisors) ≡ getD ds (v - n) []
       at = let w : n + (v - n) ≡ v = omega (arith, above) in ap₂ cubesAt (sym w) e ∙ numbered-at n ds (v - n)
 
-      same : holds t (getD ds (v - n) []) ≡ b
-      same = ap (holds t) (sym at) ∙ holds-value n done a t s (cubesAt v (net .divisors)) (x .allowed)
+      same : someWithin t (getD ds (v - n) []) ≡ b
+      same = ap (someWithin t) (sym at) ∙ holds-value n done a t s (cubesAt v (net .divisors)) (x .allowed)
 
   pub listing-truths : (a : ℕ → Bool) (t : List ℕ) → Truths n [] a t → Truths n (listing net) (settle net (listing net) a) (settledIn n ds (listing net) t)
   listing-truths a t s = settled-truths [] (listing net) a t refl s
@@ -94,9 +94,9 @@ module _ (net : Net) (ds : List (List (List ℕ))) (e : net .divisors ≡ number
         seen v (inr (g, i, p)) = or-right (ltb v n) (mem v (listing net)) (rw p (mem-of (listing-in net (o .whole) g i)))
 
     -- the outputs where true literals are those of the settled divisors
-    pub outputs-value : (s : ℕ) (t : List ℕ) → Truths n [] (bit s) t → packed (map (holds (settledIn n ds (listing net) t)) (net .outputs)) ≡ evaluate net s
+    pub outputs-value : (s : ℕ) (t : List ℕ) → Truths n [] (bit s) t → packed (map (someWithin (settledIn n ds (listing net) t)) (net .outputs)) ≡ evaluate net s
     unfolding evaluate
-    outputs-value s t w = ap packed (map-cong (holds (settledIn n ds (listing net) t)) (value (lit (settle net (listing net) (bit s)))) (net .outputs)
+    outputs-value s t w = ap packed (map-cong (someWithin (settledIn n ds (listing net) t)) (value (lit (settle net (listing net) (bit s)))) (net .outputs)
         (λ f m. holds-value n (listing net) (settle net (listing net) (bit s)) (settledIn n ds (listing net) t) (listing-truths (bit s) t w) f (output-ready f m)))
 
 -- ---- outputs as bits

@@ -14,7 +14,7 @@ use Rattle.sets.proofs.Places.{drop-next}
 use Rattle.network.specs.Net.{Net}
 use Rattle.network.specs.Listing.{nextReady, listMore, listing}
 use Rattle.network.specs.Held.{numbered}
-use Rattle.network.specs.Parts.{within, Spans, signed, nextIn, Lists}
+use Rattle.network.specs.Parts.{everyWithin, BothWays, signed, nextIn, PaddedList}
 use Rattle.network.proofs.Listings.{more-none, more-some}
 use Rattle.network.proofs.Knowing.{spans-listed, within-ready, plain-listed}
 
@@ -22,14 +22,14 @@ use Rattle.network.proofs.Knowing.{spans-listed, within-ready, plain-li
 
 module _ (k : List ℕ) (n : ℕ) (ds : List (List (List ℕ))) (i : ℕ) where
   module _ (h : i < length ds) where
-    turn : nextIn k (numbered (n + i) (drop i ds)) ≡ cond (not (mem (plainOf (n + i)) k) && within k (getD ds i [])) (some (n + i)) (nextIn k (numbered (n + (i + 1)) (drop (i + 1) ds)))
+    turn : nextIn k (numbered (n + i) (drop i ds)) ≡ cond (not (mem (plainOf (n + i)) k) && everyWithin k (getD ds i [])) (some (n + i)) (nextIn k (numbered (n + (i + 1)) (drop (i + 1) ds)))
     unfolding nextIn numbered
     turn = let e : n + (i + 1) ≡ suc (n + i) = omega arith in rw (drop-next ds i [] h, e)
 
-    pub next-found : (not (mem (plainOf (n + i)) k) && within k (getD ds i [])) ≡ true → nextIn k (numbered (n + i) (drop i ds)) ≡ some (n + i)
+    pub next-found : (not (mem (plainOf (n + i)) k) && everyWithin k (getD ds i [])) ≡ true → nextIn k (numbered (n + i) (drop i ds)) ≡ some (n + i)
     next-found e = turn ∙ ap (λ b. cond b (some (n + i)) (nextIn k (numbered (n + (i + 1)) (drop (i + 1) ds)))) e
 
-    pub next-on : (not (mem (plainOf (n + i)) k) && within k (getD ds i [])) ≡ false → nextIn k (numbered (n + i) (drop i ds)) ≡ nextIn k (numbered (n + (i + 1)) (drop (i + 1) ds))
+    pub next-on : (not (mem (plainOf (n + i)) k) && everyWithin k (getD ds i [])) ≡ false → nextIn k (numbered (n + i) (drop i ds)) ≡ nextIn k (numbered (n + (i + 1)) (drop (i + 1) ds))
     next-on e = turn ∙ ap (λ b. cond b (some (n + i)) (nextIn k (numbered (n + (i + 1)) (drop (i + 1) ds)))) e
 
   pub next-done : length ds ≤ i → nextIn k (numbered (n + i) (drop i ds)) ≡ none
@@ -40,14 +40,14 @@ module _ (k : List ℕ) (n : ℕ) (ds : List (List (List ℕ))) (i : ℕ) where
 pub next-range : (k : List ℕ) (n : ℕ) (ds : List (List (List ℕ))) (v : ℕ) → nextIn k (numbered n ds) ≡ some v → (n ≤ v) × (v < n + length ds)
 unfolding nextIn numbered
 next-range k n [] v e = absurd (Option·none-ne-some v e)
-next-range k n (f ∷ ds) v e = go (not (mem (plainOf n) k) && within k f) e (next-range k (suc n) ds v)
+next-range k n (f ∷ ds) v e = go (not (mem (plainOf n) k) && everyWithin k f) e (next-range k (suc n) ds v)
   where
     go : (b : Bool) → cond b (some n) (nextIn k (numbered (suc n) ds)) ≡ some v → (nextIn k (numbered (suc n) ds) ≡ some v → (suc n ≤ v) × (v < suc n + length ds)) → (n ≤ v) × (v < n + suc (length ds))
     go true p r = let q = Option·some-injective n v p in (omega arith, omega arith)
     go false p r = let q = r p in (omega arith, omega arith)
 
 -- known literals give the next number of the definition
-pub next-ready : (n : ℕ) (listed k : List ℕ) → Spans n listed k → (v : ℕ) (ds : List (List (List ℕ))) → n ≤ v → nextIn k (numbered v ds) ≡ nextReady n listed (numbered v ds)
+pub next-ready : (n : ℕ) (listed k : List ℕ) → BothWays n listed k → (v : ℕ) (ds : List (List (List ℕ))) → n ≤ v → nextIn k (numbered v ds) ≡ nextReady n listed (numbered v ds)
 unfolding nextIn numbered nextReady
 next-ready n listed k s v [] h = refl
 next-ready n listed k s v (f ∷ ds) h =
@@ -59,10 +59,10 @@ next-ready n listed k s v (f ∷ ds) h =
 pub record Turn (net : Net) (todo : ℕ) (order : List ℕ) (count : ℕ) (k : List ℕ) : Type 0 where
   pub whole : length order ≡ 64
   pub rest : drop count order ≡ replicate (64 - count) 0
-  pub spans : Spans (net .inputs) (take count order) k
+  pub spans : BothWays (net .inputs) (take count order) k
   pub going : listMore todo net (take count order) ≡ listing net
 
-pub turn-first : (net : Net) (todo : ℕ) (k : List ℕ) → todo ≡ length (net .divisors) → Spans (net .inputs) [] k → Turn net todo (replicate 64 0) 0 k
+pub turn-first : (net : Net) (todo : ℕ) (k : List ℕ) → todo ≡ length (net .divisors) → BothWays (net .inputs) [] k → Turn net todo (replicate 64 0) 0 k
 unfolding listing
 turn-first net todo k e s = record { whole = refl; rest = refl; spans = s; going = rw e }
 
@@ -82,13 +82,13 @@ module _ (net : Net) (order : List ℕ) (count : ℕ) (k : List ℕ) where
         less x y z = rw z
 
   -- the listing is what is listed so far
-  closed : count ≤ 64 → length order ≡ 64 → drop count order ≡ replicate (64 - count) 0 → take count order ≡ listing net → Lists (listing net) count order
+  closed : count ≤ 64 → length order ≡ 64 → drop count order ≡ replicate (64 - count) 0 → take count order ≡ listing net → PaddedList (listing net) count order
   closed h w r e =
       let n : count ≡ length (listing net) = sym (length-take-le count order (omega arith)) ∙ ap length e in
       record { number = n; places = sym (take-append-drop count order) ∙ ap₂ _++_ e (r ∙ ap (λ x. replicate (64 - x) 0) n) }
 
   module _ (todo : ℕ) (h : count ≤ 64) (t : Turn net todo order count k) where
-    pub turn-none : nextReady (net .inputs) (take count order) (net .divisors) ≡ none → Lists (listing net) count order
+    pub turn-none : nextReady (net .inputs) (take count order) (net .divisors) ≡ none → PaddedList (listing net) count order
     unfolding listMore
     turn-none e = closed h (t .whole) (t .rest) (go todo (t .going))
       where
@@ -96,6 +96,6 @@ module _ (net : Net) (order : List ℕ) (count : ℕ) (k : List ℕ) where
         go zero p = p
         go (suc x) p = sym (more-none x net (take count order) e) ∙ p
 
-    pub turn-last : todo ≡ 0 → Lists (listing net) count order
+    pub turn-last : todo ≡ 0 → PaddedList (listing net) count order
     unfolding listMore
     turn-last e = closed h (t .whole) (t .rest) (subst (λ x. listMore x net (take count order) ≡ listing net) e (t .going))

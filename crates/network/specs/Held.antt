@@ -1,5 +1,5 @@
 -- The network that the fields of the struct hold, and the rules on networks.
-use Prim.Native.Nat.{ℕ, suc, _+_, _*_, _/_}
+use Prim.Native.Nat.{ℕ, suc, _+_, _/_}
 use mathlib.Core.Bool.{Bool, _&&_}
 use mathlib.Core.List.{List, [], _∷_}
 use lib.Dec.{leb, ltb, eqb}
@@ -55,8 +55,9 @@ abbrev pub upTo : ℕ → ℕ → Bool
 upTo most n = leb 1 n && leb n most
 
 -- numbers of inputs, outputs, divisors and cubes within the limits
-abbrev pub sized : ℕ → ℕ → ℕ → ℕ → Bool
-sized n m k cubes = upTo mostInputs n && (upTo mostOutputs m && (leb (n + k) mostVariables && leb cubes mostCubes))
+abbrev pub sized : Network → Bool
+sized n =
+    upTo mostInputs (n .inputs) && (upTo mostOutputs (n .outputs) && (leb (n .inputs + n .divisors) mostVariables && leb (total (λ c. c) (used n)) mostCubes))
 
 -- every literal is of a variable below v
 abbrev pub reach : ℕ → List (List ℕ) → Bool
@@ -69,4 +70,4 @@ lawful n =
 
 -- the rules on networks and expressions, and the limits
 unfoldable pub rules : Network → Bool
-rules n = sized (n .inputs) (n .outputs) (n .divisors) (total (λ c. c) (used n)) && lawful (netOf n)
+rules n = sized n && lawful (netOf n)

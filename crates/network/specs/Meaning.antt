@@ -21,7 +21,7 @@ pub data Through (n : Net) : ℕ → ℕ → Type 0 where
   others : {e g : Node} {v : ℕ} → List·Memᴰ e (n .divisors) → List·Memᴰ g (n .divisors) → Reads (e .cubes) (g .number) → Through n (g .number) v → Through n (e .number) v
 
 -- v is listed next after the numbers of a: it is not among them, reads inputs and divisors among them only, and is the smallest such
-pub record Listed (n : Net) (a : List ℕ) (v : ℕ) : Type 0 where
+pub record ListedNext (n : Net) (a : List ℕ) (v : ℕ) : Type 0 where
   pub node : Node
   pub inside : List·Memᴰ node (n .divisors)
   pub number : v ≡ node .number

@@ -12,7 +12,7 @@ use Rattle.sets.specs.Literal.{plainOf, negatedOf}
 use Rattle.expression.specs.Words.{cubesOf}
 use Rattle.expression.specs.Value.{lit}
 use Rattle.network.specs.Net.{Node, Net}
-use Rattle.network.specs.Held.{cut, netOf, sized, mostCubes, mostVariables}
+use Rattle.network.specs.Held.{cut, netOf, mostCubes, mostVariables}
 use Rattle.network.specs.Answers.{padded}
 use Rattle.network.specs.declared.Network.{Network}
 
@@ -42,9 +42,6 @@ heldIn n m k counts words = record { inputs = n; outputs = m; divisors = k; coun
 abbrev pub netAt : ℕ → ℕ → ℕ → List ℕ → List ℕ → Net
 netAt n m k counts words = netOf (heldIn n m k counts words)
 
-abbrev pub sizedAt : ℕ → ℕ → ℕ → List ℕ → Bool
-sizedAt n m k counts = sized n m k (total (λ c. c) (take (m + k) counts))
-
 -- what follows from the limits
 pub record Sized (n m k : ℕ) (words counts : List ℕ) : Type 0 where
   pub slots : length counts ≡ 96
@@ -56,21 +53,21 @@ pub record Sized (n m k : ℕ) (words counts : List ℕ) : Type 0 where
 -- ---- known variables
 
 -- every cube has only literals of k
-abbrev pub within : List ℕ → List (List ℕ) → Bool
-within k f = all (λ c. sub c k) f
+abbrev pub everyWithin : List ℕ → List (List ℕ) → Bool
+everyWithin k f = all (λ c. sub c k) f
 
 -- the variable v is one of n inputs or listed
 abbrev pub known : ℕ → List ℕ → ℕ → Bool
 known n listed v = ltb v n || mem v listed
 
 -- k has both literals of each known variable, and no others
-pub record Spans (n : ℕ) (listed k : List ℕ) : Type 0 where
+pub record BothWays (n : ℕ) (listed k : List ℕ) : Type 0 where
   pub each : (l : ℕ) → mem l k ≡ known n listed (l / 2)
 
 -- the first divisor that is not known and reads known variables alone
 unfoldable pub nextIn : List ℕ → List Node → Option ℕ
 nextIn k [] = none
-nextIn k (e ∷ l) = cond (not (mem (plainOf (e .number)) k) && within k (e .cubes)) (some (e .number)) (nextIn k l)
+nextIn k (e ∷ l) = cond (not (mem (plainOf (e .number)) k) && everyWithin k (e .cubes)) (some (e .number)) (nextIn k l)
 
 -- ---- assignments
 
@@ -79,8 +76,12 @@ abbrev pub signed : ℕ → Bool → ℕ
 signed v b = cond b (plainOf v) (negatedOf v)
 
 -- some cube has only literals of t
-abbrev pub holds : List ℕ → List (List ℕ) → Bool
-holds t f = any (λ c. sub c t) f
+abbrev pub someWithin : List ℕ → List (List ℕ) → Bool
+someWithin t f = any (λ c. sub c t) f
+
+-- every cube, or else some cube, has only literals of k
+abbrev pub within : Bool → List ℕ → List (List ℕ) → Bool
+within every k f = cond every (everyWithin k f) (someWithin k f)
 
 -- t has the literals of known variables that have value 1 under a, and no others
 pub record Truths (n : ℕ) (listed : List ℕ) (a : ℕ → Bool) (t : List ℕ) : Type 0 where
@@ -89,10 +90,10 @@ pub record Truths (n : ℕ) (listed : List ℕ) (a : ℕ → Bool) (t : List ℕ
 -- the listed divisors, numbered from n on, take their values one after the other
 unfoldable pub settledIn : ℕ → List (List (List ℕ)) → List ℕ → List ℕ → List ℕ
 settledIn n ds [] t = t
-settledIn n ds (v ∷ l) t = settledIn n ds l (insert (signed v (holds t (getD ds (v - n) []))) t)
+settledIn n ds (v ∷ l) t = settledIn n ds l (insert (signed v (someWithin t (getD ds (v - n) []))) t)
 
 -- an order of so many numbers is a list, with zeros after it
-pub record Lists (l : List ℕ) (count : ℕ) (order : List ℕ) : Type 0 where
+pub record PaddedList (l : List ℕ) (count : ℕ) (order : List ℕ) : Type 0 where
   pub number : count ≡ length l
   pub places : order ≡ padded l
 

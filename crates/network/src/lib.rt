@@ -18,25 +18,25 @@ ghost use Rattle.expression.specs.Answers.{placeOf, capped};
 ghost use Rattle.network.specs.Listing.{listing};
 ghost use Rattle.network.specs.Evaluation.{evaluate};
 ghost use Rattle.network.specs.Handed.{Blank};
-ghost use Rattle.network.specs.Held.{cut, upTo, reach, lawful, rules};
+ghost use Rattle.network.specs.Held.{cut, upTo, sized, reach, lawful, rules};
 ghost use Rattle.network.specs.Answers.{judged, counted, evaluated, listedOf};
-ghost use Rattle.network.specs.Parts.{Lent, startOf, nodesOf, divisorsOf, heldIn, netAt, sizedAt, Sized, within, Spans, nextIn, signed, holds, Truths, settledIn, Lists, Ordered};
+ghost use Rattle.network.specs.Parts.{Lent, startOf, nodesOf, divisorsOf, heldIn, netAt, Sized, everyWithin, BothWays, nextIn, signed, someWithin, within, Truths, settledIn, PaddedList, Ordered};
+
+// The limits: inputs, outputs, inputs plus divisors, cubes, and literals counted over all of them.
+pub const INPUTS: usize = 32;
+
+pub const OUTPUTS: usize = 32;
+
+pub const VARIABLES: usize = 64;
+
+pub const CUBES: usize = 1088;
+
+pub const LITERAL_COUNT: u64 = 32768;
 
 // Slots for nodes and for words of cubes.
-pub const NODES: usize = 96;
+pub const NODES: usize = OUTPUTS + VARIABLES;
 
-pub const WORDS: usize = 2176;
-
-// The limits.
-const INPUTS: usize = 32;
-
-const OUTPUTS: usize = 32;
-
-const VARIABLES: usize = 64;
-
-const CUBES: usize = 1088;
-
-const LITERALS: u64 = 32768;
+pub const WORDS: usize = 2 * CUBES;
 
 // Counts and cubes of the outputs first, then of the divisors by number; slots past those in use mean nothing.
 pub struct Network {
@@ -61,7 +61,7 @@ pub enum Number {
 // Numbers of divisors in the order of the listing, as many as are listed, and zeros after them.
 pub struct Listed {
     pub count: usize,
-    pub order: [u32; 64],
+    pub order: [u32; VARIABLES],
 }
 
 // Where the cubes of node i begin: the sum of the counts before it, or one past the most cubes where that is larger.
@@ -92,32 +92,18 @@ fn node<'a>(words: &'a [u64], counts: &[usize], i: usize) -> &'a [u64]
     expression::part(words, a, e)
 }
 
-// Whether every cube has only literals of k.
-fn all_in(f: &[u64], k: Cube) -> bool
-    ensures { λ r. ⌜ r ≡ within (lits k) (cubesOf (now (f .entry))) ⌝ }
+// Whether every cube has only literals of k, or, where not every one is asked for, whether some cube does.
+fn within(f: &[u64], k: Cube, every: bool) -> bool
+    ensures { λ r. ⌜ r ≡ within every (lits k) (cubesOf (now (f .entry))) ⌝ }
 {
     let mut i = 0;
     while i < expression::number(f) {
-        if !cubes::contains(k, expression::cube_at(f, i)) {
-            return false;
+        if cubes::contains(k, expression::cube_at(f, i)) != every {
+            return !every;
         }
         i += 1;
     }
-    true
-}
-
-// Whether some cube has only literals of k.
-fn any_in(f: &[u64], k: Cube) -> bool
-    ensures { λ r. ⌜ r ≡ holds (lits k) (cubesOf (now (f .entry))) ⌝ }
-{
-    let mut i = 0;
-    while i < expression::number(f) {
-        if cubes::contains(k, expression::cube_at(f, i)) {
-            return true;
-        }
-        i += 1;
-    }
-    false
+    every
 }
 
 // c with the literal of the variable v that has value 1 where v has the value b.
@@ -136,7 +122,7 @@ fn valued(c: Cube, v: usize, b: bool) -> Cube
 // Both literals of each variable below n.
 fn below(n: usize) -> Cube
     requires { ⌜ n ≤ 64 ⌝ }
-    ensures { λ r. ⌜ Spans n [] (lits r) ⌝ }
+    ensures { λ r. ⌜ BothWays n [] (lits r) ⌝ }
 {
     let mut c = cube::empty();
     let mut v = 0;
@@ -164,12 +150,12 @@ fn given(n: usize, setting: u64) -> Cube
 // Whether k lacks the variable v and has all literals of the cubes.
 fn is_next(f: &[u64], v: usize, k: Cube) -> bool
     requires { ⌜ v < 64 ⌝ }
-    ensures { λ r. ⌜ r ≡ (not (mem (plainOf v) (lits k)) && within (lits k) (cubesOf (now (f .entry)))) ⌝ }
+    ensures { λ r. ⌜ r ≡ (not (mem (plainOf v) (lits k)) && everyWithin (lits k) (cubesOf (now (f .entry)))) ⌝ }
 {
     if cube::has(k, cube::plain(Variable(v as u32))) {
         return false;
     }
-    all_in(f, k)
+    within(f, k, true)
 }
 
 // The first divisor that is not known and reads known variables alone.
@@ -190,7 +176,7 @@ fn next(words: &[u64], counts: &[usize], n: usize, m: usize, k: usize, known: Cu
 // Again and again the smallest number whose own divisors are all listed.
 fn list(words: &[u64], counts: &[usize], n: usize, m: usize, k: usize) -> Listed
     requires { ⌜ Sized n m k (now words) (now counts) ⌝ }
-    ensures { λ r. ⌜ Lists (listing (netAt n m k (now (counts .entry)) (now (words .entry)))) (r .count) (r .order) ⌝ }
+    ensures { λ r. ⌜ PaddedList (listing (netAt n m k (now (counts .entry)) (now (words .entry)))) (r .count) (r .order) ⌝ }
 {
     let mut order = [0u32; 64];
     let mut count = 0;
@@ -218,20 +204,20 @@ fn up_to(most: usize, x: usize) -> bool
 }
 
 // Whether the numbers of inputs, outputs, divisors and cubes are within the limits.
-fn is_sized(counts: &[usize], n: usize, m: usize, k: usize) -> bool
-    requires { ⌜ length (now counts) ≡ 96 ⌝ }
-    ensures { λ r. ⌜ r ≡ sizedAt n m k (now (counts .entry)) ⌝ }
+pub fn is_sized(n: Network) -> bool
+    ensures { λ r. ⌜ r ≡ sized n ⌝ }
 {
-    if !up_to(INPUTS, n) {
+    if !up_to(INPUTS, n.inputs) {
         return false;
     }
-    if !up_to(OUTPUTS, m) {
+    if !up_to(OUTPUTS, n.outputs) {
         return false;
     }
-    if k > VARIABLES - n {
+    if n.divisors > VARIABLES - n.inputs {
         return false;
     }
-    start(counts, m + k) <= CUBES
+    let counts = n.counts;
+    start(&counts, n.outputs + n.divisors) <= CUBES
 }
 
 // Whether each node is an expression.
@@ -254,7 +240,7 @@ fn reaches(words: &[u64], counts: &[usize], e: usize, v: usize) -> bool
     requires { ⌜ Lent (now words) (now counts) e × (v ≤ 64) ⌝ }
     ensures { λ r. ⌜ r ≡ all (reach v) (nodesOf e (now (counts .entry)) (now (words .entry))) ⌝ }
 {
-    all_in(expression::part(words, 0, start(counts, e)), below(v))
+    within(expression::part(words, 0, start(counts, e)), below(v), true)
 }
 
 // The literals of the first e nodes.
@@ -276,7 +262,7 @@ fn is_lawful(words: &[u64], counts: &[usize], n: usize, m: usize, k: usize) -> b
     if !reaches(words, counts, m + k, n + k) {
         return false;
     }
-    if count(words, counts, m + k) > LITERALS {
+    if count(words, counts, m + k) > LITERAL_COUNT {
         return false;
     }
     let l = list(words, counts, n, m, k);
@@ -284,14 +270,15 @@ fn is_lawful(words: &[u64], counts: &[usize], n: usize, m: usize, k: usize) -> b
 }
 
 // Whether all rules are kept.
-fn follows(words: &[u64], counts: &[usize], n: usize, m: usize, k: usize) -> bool
-    requires { ⌜ (length (now counts) ≡ 96) × (length (now words) ≡ 2176) ⌝ }
-    ensures { λ r. ⌜ r ≡ rules (heldIn n m k (now (counts .entry)) (now (words .entry))) ⌝ }
+fn follows(n: Network) -> bool
+    ensures { λ r. ⌜ r ≡ rules n ⌝ }
 {
-    if !is_sized(counts, n, m, k) {
+    if !is_sized(n) {
         return false;
     }
-    is_lawful(words, counts, n, m, k)
+    let words = n.words;
+    let counts = n.counts;
+    is_lawful(&words, &counts, n.inputs, n.outputs, n.divisors)
 }
 
 // The listed divisors take their values, one after the other: the literals that have value 1.
@@ -313,7 +300,7 @@ fn settle(
     let mut i = 0;
     while i < count {
         let v = order[i] as usize;
-        let b = any_in(node(words, counts, m + (v - n)), t);
+        let b = within(node(words, counts, m + (v - n)), t, false);
         t = valued(t, v, b);
         i += 1;
     }
@@ -323,13 +310,13 @@ fn settle(
 // The values of m outputs where the literals of t have value 1: output j is bit j.
 fn collect(words: &[u64], counts: &[usize], m: usize, t: Cube) -> u64
     requires { ⌜ Lent (now words) (now counts) m × (m ≤ 32) ⌝ }
-    ensures { λ r. ⌜ r ≡ packed (map (holds (lits t)) (nodesOf m (now (counts .entry)) (now (words .entry)))) ⌝ }
+    ensures { λ r. ⌜ r ≡ packed (map (someWithin (lits t)) (nodesOf m (now (counts .entry)) (now (words .entry)))) ⌝ }
 {
     let mut r: u64 = 0;
     let mut j = m;
     while j > 0 {
         let i = j - 1;
-        if any_in(node(words, counts, i), t) {
+        if within(node(words, counts, i), t, false) {
             r = 2 * r + 1;
         } else {
             r = 2 * r;
@@ -366,9 +353,7 @@ pub fn blank() -> Network
 pub fn judge(n: Network) -> Judged
     ensures { λ r. ⌜ r ≡ judged n ⌝ }
 {
-    let words = n.words;
-    let counts = n.counts;
-    if follows(&words, &counts, n.inputs, n.outputs, n.divisors) {
+    if follows(n) {
         Judged::Accepted
     } else {
         Judged::Refused(10)
@@ -379,11 +364,11 @@ pub fn judge(n: Network) -> Judged
 pub fn literals(n: Network) -> Number
     ensures { λ r. ⌜ r ≡ counted n ⌝ }
 {
-    let words = n.words;
-    let counts = n.counts;
-    if !follows(&words, &counts, n.inputs, n.outputs, n.divisors) {
+    if !follows(n) {
         return Number::No(10);
     }
+    let words = n.words;
+    let counts = n.counts;
     Number::Is(count(&words, &counts, n.outputs + n.divisors))
 }
 
@@ -391,17 +376,17 @@ pub fn literals(n: Network) -> Number
 pub fn evaluate(n: Network, setting: u64) -> Number
     ensures { λ r. ⌜ r ≡ evaluated n setting ⌝ }
 {
-    let words = n.words;
-    let counts = n.counts;
-    if !follows(&words, &counts, n.inputs, n.outputs, n.divisors) {
+    if !follows(n) {
         return Number::No(10);
     }
+    let words = n.words;
+    let counts = n.counts;
     Number::Is(answer(&words, &counts, n.inputs, n.outputs, n.divisors, setting))
 }
 
 // No number listed.
 fn nothing() -> Listed
-    ensures { λ r. ⌜ Lists [] (r .count) (r .order) ⌝ }
+    ensures { λ r. ⌜ PaddedList [] (r .count) (r .order) ⌝ }
 {
     Listed {
         count: 0,
@@ -413,11 +398,11 @@ fn nothing() -> Listed
 pub fn listing(n: Network) -> Listed
     ensures { λ r. ⌜ r ≡ listedOf n ⌝ }
 {
-    let words = n.words;
-    let counts = n.counts;
-    if !is_sized(&counts, n.inputs, n.outputs, n.divisors) {
+    if !is_sized(n) {
         return nothing();
     }
+    let words = n.words;
+    let counts = n.counts;
     if !reaches(
         &words,
         &counts,

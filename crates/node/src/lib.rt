@@ -1,55 +1,22 @@
 // The nodes of a network for printing: the factored text of each, and the divisors that each output hangs on.
 use factor::Wrote;
 use network::Network;
-ghost use Prim.Native.Nat.{_≤_};
-
-const CUBES: usize = 1088;
+use std::num;
+ghost use mathlib.Core.Bool.{cond};
+ghost use mathlib.Core.List.{[]};
+ghost use mathlib.Core.Path.{_≡_};
+ghost use Prim.Native.Nat.{ℕ, _<_, _≤_};
+ghost use lib.Dec.{ltb};
+ghost use lib.ListN.{getD};
+ghost use Rattle.sets.specs.Masks.{bit};
+ghost use Rattle.expression.specs.Words.{cubesOf};
+ghost use Rattle.expression.specs.Expression.{literalsOf};
+ghost use Rattle.expression.specs.Answers.{capped};
+ghost use Rattle.network.specs.Held.{cut};
+ghost use Rattle.hangs.specs.Hangs.{hangsAt, Marks};
 
 // The longest text that widens a column.
 const COLUMN: usize = 40;
-
-// A text of so many bytes has no more literals: each takes two, and one stands between two of them.
-const LITERALS: u64 = 13;
-
-// Where the cubes of node i begin.
-fn start(counts: &[usize], i: usize) -> usize
-    ensures { λ r. ⌜ r ≤ 1088 ⌝ }
-{
-    let mut sum = 0;
-    let mut j = 0;
-    while j < i {
-        if j >= counts.len() {
-            return sum;
-        }
-        if counts[j] > CUBES - sum {
-            return sum;
-        }
-        sum += counts[j];
-        j += 1;
-    }
-    sum
-}
-
-// The cubes of node i.
-fn cubes<'a>(words: &'a [u64], counts: &[usize], i: usize) -> &'a [u64] {
-    if i >= counts.len() {
-        return expression::part(words, 0, 0);
-    }
-    let a = start(counts, i);
-    let e = start(counts, i + 1);
-    expression::part(words, a, e)
-}
-
-// The sum of two numbers of nodes or variables.
-pub fn sum(a: usize, b: usize) -> usize {
-    if a > CUBES {
-        return a;
-    }
-    if b > CUBES {
-        return b;
-    }
-    a + b
-}
 
 // The place n further on, where that lies in the room.
 fn advance(out: &[u8], at: usize, n: usize) -> usize {
@@ -81,23 +48,22 @@ fn put_form(out: &mut [u8], at: usize, f: &[u64]) -> usize {
 pub fn put_text(out: &mut [u8], at: usize, n: Network, i: usize) -> usize {
     let words = n.words;
     let counts = n.counts;
-    put_form(out, at, cubes(&words, &counts, i))
+    put_form(out, at, renumber::node(&words, &counts, i))
 }
 
 // The literals of node i.
-pub fn literals(n: Network, i: usize) -> u64 {
+pub fn literals(n: Network, i: usize) -> u64
+    ensures { λ r. ⌜ r ≡ capped (literalsOf (getD (cut (n .counts) (cubesOf (n .words))) i [])) ⌝ }
+{
     let words = n.words;
     let counts = n.counts;
-    expression::literals(cubes(&words, &counts, i))
+    expression::literals(renumber::node(&words, &counts, i))
 }
 
 // The length of the factored text of f, or 0 where that is too long for a column.
 fn length_of(f: &[u64]) -> usize
     ensures { λ r. ⌜ r ≤ 40 ⌝ }
 {
-    if expression::literals(f) > LITERALS {
-        return 0;
-    }
     let mut room = [0u8; COLUMN];
     let a = factor::factored(f, &mut room);
     let Wrote::Bytes(n) = a else {
@@ -116,7 +82,7 @@ fn widened(most: usize, n: Network, i: usize) -> usize
 {
     let words = n.words;
     let counts = n.counts;
-    let k = length_of(cubes(&words, &counts, i));
+    let k = length_of(renumber::node(&words, &counts, i));
     if most < k {
         return k;
     }
@@ -127,7 +93,7 @@ fn widened(most: usize, n: Network, i: usize) -> usize
 pub fn widest(n: Network) -> usize
     ensures { λ r. ⌜ r ≤ 40 ⌝ }
 {
-    let nodes = sum(n.outputs, n.divisors);
+    let nodes = num::wrapping_add_usize(n.outputs, n.divisors);
     let mut most = 0;
     let mut i = 0;
     while i < nodes {
@@ -138,7 +104,9 @@ pub fn widest(n: Network) -> usize
 }
 
 // The divisors that output i hangs on.
-fn mask(n: Network, i: usize) -> u64 {
+fn mask(n: Network, i: usize) -> u64
+    ensures { λ r. ⌜ Marks r (cond (ltb i (n .outputs)) (hangsAt n i) []) ⌝ }
+{
     if i < n.outputs {
         return hangs::hangs(n, i);
     }
@@ -146,7 +114,9 @@ fn mask(n: Network, i: usize) -> u64 {
 }
 
 // The same for each output.
-pub fn masks(n: Network) -> [u64; 32] {
+pub fn masks(n: Network) -> [u64; 32]
+    ensures { λ r. ⌜ ((i : ℕ) → i < 32 → Marks (getD r i 0) (cond (ltb i (n .outputs)) (hangsAt n i) [])) ⌝ }
+{
     let mut all = [0u64; 32];
     let mut i = 0;
     while i < 32 {
@@ -157,7 +127,9 @@ pub fn masks(n: Network) -> [u64; 32] {
 }
 
 // Whether the mask has the variable v.
-pub fn has(mask: u64, v: usize) -> bool {
+pub fn has(mask: u64, v: usize) -> bool
+    ensures { λ r. ⌜ r ≡ bit mask v ⌝ }
+{
     if v >= 64 {
         return false;
     }

@@ -3,9 +3,10 @@ use cube::Cube;
 use cube::Found;
 use cube::Literal;
 use cube::Order;
+use cube::Variable;
 ghost use mathlib.Core.Path.{_≡_};
-ghost use Prim.Native.Nat.{_*_};
 ghost use Rattle.sets.specs.Lists.{isSome};
+ghost use Rattle.sets.specs.Literal.{plainOf};
 ghost use Rattle.sets.specs.Sets.{firstFrom};
 ghost use Rattle.sets.specs.Masks.{Lowest};
 ghost use Rattle.cube.specs.Cube.{lits, answer, orderOf};
@@ -19,24 +20,25 @@ fn lowest(m: u64) -> u32
 }
 
 // The first literal of the variables from v on.
-fn first_at(c: Cube, v: u32) -> Found
-    ensures { λ r. ⌜ answer r ≡ firstFrom (2 * v) (lits c) ⌝ }
+fn first_at(c: Cube, v: Variable) -> Found
+    ensures { λ r. ⌜ answer r ≡ firstFrom (plainOf (v .0)) (lits c) ⌝ }
 {
-    if v >= cube::VARIABLES {
+    let at = v.0;
+    if at >= cube::VARIABLES {
         return Found::Nothing;
     }
-    let p = c.plain >> v;
-    let n = c.negated >> v;
+    let p = c.plain >> at;
+    let n = c.negated >> at;
     let m = p | n;
     if m == 0 {
         return Found::Nothing;
     }
     let t = lowest(m);
-    let k = v + t;
+    let first = Variable(at + t);
     if (p >> t) & 1 == 1 {
-        Found::At(Literal(2 * k))
+        Found::At(cube::plain(first))
     } else {
-        Found::At(Literal(2 * k + 1))
+        Found::At(cube::negated(first))
     }
 }
 
@@ -44,14 +46,14 @@ fn first_at(c: Cube, v: u32) -> Found
 pub fn first_from(c: Cube, l: Literal) -> Found
     ensures { λ r. ⌜ answer r ≡ firstFrom (l .0) (lits c) ⌝ }
 {
-    let at = l.0;
-    if at % 2 == 0 {
-        return first_at(c, at / 2);
+    let v = cube::variable_of(l);
+    if cube::is_negated(l) {
+        if cube::has(c, l) {
+            return Found::At(l);
+        }
+        return first_at(c, Variable(v.0 + 1));
     }
-    if cube::has(c, l) {
-        return Found::At(l);
-    }
-    first_at(c, at / 2 + 1)
+    first_at(c, v)
 }
 
 // Whether there is a literal that is not below l.
@@ -73,7 +75,7 @@ pub fn compare(a: Cube, b: Cube) -> Order
         plain: a.plain ^ b.plain,
         negated: a.negated ^ b.negated,
     };
-    let f = first_at(x, 0);
+    let f = first_at(x, Variable(0));
     match f {
         Found::Nothing => Order::Same,
         Found::At(d) => {

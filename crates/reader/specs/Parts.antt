@@ -115,7 +115,7 @@ NodesAre k bits s g old new first was are (step.Bad e) = g ≡ bad e
 -- ---- the whole
 
 -- numbers of inputs, outputs and divisors that leave room for them
-pub record Sized (z : Sizes) : Type 0 where
+pub record SizesFit (z : Sizes) : Type 0 where
   pub outputs : z .outputs ≤ 32
   pub variables : z .inputs + z .divisors ≤ mostVariables
 
@@ -130,7 +130,7 @@ sizesOf a b k = cond (leb (a + 1 + k) mostVariables) (head.Of (record { inputs =
 -- the first fields give these numbers, and the nodes follow
 pub record HeadGot (bits : List Bool) (z : Sizes) : Type 0 where
   pub is : getRaw bits ≡ nodesAt bits z
-  pub sized : Sized z
+  pub sized : SizesFit z
 
 -- or the number of the refusal
 abbrev pub HeadIs : List Bool → Head → Type 0
@@ -164,7 +164,7 @@ divisorCounts z counts = take (z .divisors) (drop (z .outputs) counts)
 -- what is read is not too long, and the sum of the counts is that of the cubes
 pub record Judging (s : State) (z : Sizes) (counts : List ℕ) : Type 0 where
   pub at : s .at ≤ billions 6
-  pub sized : Sized z
+  pub sized : SizesFit z
   pub places : length counts ≡ 96
   pub sum : s .cubes ≡ total (λ c. c) (divisorCounts z counts) + total (λ c. c) (outputCounts z counts)
 
@@ -198,7 +198,7 @@ blankCounts = replicate 96 0
 
 -- the divisors are read
 pub record Half (bits : List Bool) (z : Sizes) (s : State) (apart counts : List ℕ) : Type 0 where
-  pub sized : Sized z
+  pub sized : SizesFit z
   pub divisors : NodesGot (z .divisors) bits first (getMany (getNode (z .inputs + z .divisors)) (z .divisors) (drop 20 bits)) blankWords apart (z .outputs) blankCounts counts s
 
 -- the outputs too

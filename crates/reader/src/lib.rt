@@ -3,6 +3,7 @@ use cube::Cube;
 use cube::Found;
 use cube::Literal;
 use cube::Order;
+use cube::Variable;
 use network::Network;
 ghost use mathlib.Core.Path.{_≡_};
 ghost use mathlib.Core.Bool.{cond, not, _&&_};
@@ -21,15 +22,8 @@ ghost use Rattle.expression.specs.Expression.{ordered};
 ghost use Rattle.network.specs.Handed.{Blank};
 ghost use Rattle.network.specs.Held.{cut, reach};
 ghost use Rattle.imaging.specs.Reading.{getLiterals, getCube, getMany, getNode, padding, readsEarlier, judgeRaw, readImage};
-ghost use Rattle.reader.specs.Parts.{billions, FieldIs, CubeIs, added, Low, CubesAre, NodesAre, Sized, nodesAt, sizesOf, HeadIs, tidy, nodesIn, orderedIn, Counted, Judging, judgedOf, Copied, Half, Whole};
+ghost use Rattle.reader.specs.Parts.{billions, FieldIs, CubeIs, added, Low, CubesAre, NodesAre, SizesFit, nodesAt, sizesOf, HeadIs, tidy, nodesIn, orderedIn, Counted, Judging, judgedOf, Copied, Half, Whole};
 ghost use Rattle.reader.specs.Answers.{Told};
-
-// The limits on a whole network.
-const CUBES: usize = 1088;
-
-const LITERALS: usize = 32768;
-
-const VARIABLES: usize = 64;
 
 pub enum Answer {
     Accepted,
@@ -142,8 +136,8 @@ fn is_below(c: Cube, l: Literal) -> bool
 fn is_allowed(c: Cube, l: Literal, v: usize) -> bool
     ensures { λ r. ⌜ r ≡ (ltb (l .0 / 2) v && not (mem (oppositeOf (l .0)) (lits c))) ⌝ }
 {
-    let x = l.0 as usize;
-    if x / 2 >= v {
+    let x = cube::variable_of(l);
+    if x.0 as usize >= v {
         return false;
     }
     let o = cube::opposite(l);
@@ -252,7 +246,7 @@ fn node(bytes: &[u8], start: State, v: usize, words: &mut [u64]) -> Step
     let Field::Is(k) = f else {
         return Step::Bad(11);
     };
-    if k > CUBES {
+    if k > network::CUBES {
         return Step::Bad(12);
     }
     let mut s = start;
@@ -292,7 +286,7 @@ fn sizes_of(a: usize, b: usize, k: usize) -> Head
     requires { ⌜ (a < 32) × (b < 32) × (k < 64) ⌝ }
     ensures { λ r. ⌜ r ≡ sizesOf a b k ⌝ }
 {
-    if a + 1 + k > VARIABLES {
+    if a + 1 + k > network::VARIABLES {
         return Head::Bad(12);
     }
     Head::Of(Sizes {
@@ -391,9 +385,10 @@ fn reaches(f: &[u64], v: usize) -> bool
     requires { ⌜ v ≤ 64 ⌝ }
     ensures { λ r. ⌜ r ≡ reach v (cubesOf (now (f .entry))) ⌝ }
 {
+    let next = cube::plain(Variable(v as u32));
     let mut i = 0;
     while i < expression::number(f) {
-        if !is_below(expression::cube_at(f, i), Literal(2 * v as u32)) {
+        if !is_below(expression::cube_at(f, i), next) {
             return false;
         }
         i += 1;
@@ -451,10 +446,10 @@ fn judge(bytes: &[u8], s: State, z: Sizes, apart: &[u64], words: &[u64], counts:
     if !is_padded(bytes, s.at) {
         return Answer::Refused(11);
     }
-    if s.cubes > CUBES {
+    if s.cubes > network::CUBES {
         return Answer::Refused(12);
     }
-    if s.literals > LITERALS {
+    if s.literals > network::LITERAL_COUNT as usize {
         return Answer::Refused(12);
     }
     let m = z.outputs;
@@ -501,8 +496,8 @@ fn finish(
     divisors: usize,
     t: State,
     apart: &[u64],
-    held: [u64; 2176],
-    counts: [usize; 96],
+    held: [u64; network::WORDS],
+    counts: [usize; network::NODES],
 ) -> Image
     requires { ⌜ Whole (bitsIn (now bytes)) z divisors t (now apart) held counts ⌝ }
     ensures { λ r. ⌜ Told (judgeRaw (nodesAt (bitsIn (now (bytes .entry))) z)) r ⌝ }
@@ -530,12 +525,12 @@ fn finish(
 }
 
 // The divisors are read: now the outputs, whose counts stand before theirs.
-fn rest(bytes: &[u8], z: Sizes, s: State, apart: &[u64], given: [usize; 96]) -> Image
+fn rest(bytes: &[u8], z: Sizes, s: State, apart: &[u64], given: [usize; network::NODES]) -> Image
     requires { ⌜ Half (bitsIn (now bytes)) z s (now apart) given ⌝ }
     ensures { λ r. ⌜ Told (judgeRaw (nodesAt (bitsIn (now (bytes .entry))) z)) r ⌝ }
 {
     let mut counts = given;
-    let mut words = [0u64; 2176];
+    let mut words = [0u64; network::WORDS];
     let mut next = s;
     next.cubes = 0;
     let o = nodes(
@@ -555,11 +550,11 @@ fn rest(bytes: &[u8], z: Sizes, s: State, apart: &[u64], given: [usize; 96]) -> 
 
 // The nodes of an image, divisors first.
 fn body(bytes: &[u8], z: Sizes) -> Image
-    requires { ⌜ Sized z ⌝ }
+    requires { ⌜ SizesFit z ⌝ }
     ensures { λ r. ⌜ Told (judgeRaw (nodesAt (bitsIn (now (bytes .entry))) z)) r ⌝ }
 {
-    let mut counts = [0usize; 96];
-    let mut apart = [0u64; 2176];
+    let mut counts = [0usize; network::NODES];
+    let mut apart = [0u64; network::WORDS];
     let start = State {
         at: 20,
         cubes: 0,

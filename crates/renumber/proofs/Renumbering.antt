@@ -33,7 +33,7 @@ use Rattle.network.proofs.Parts.{nodes-at, nodes-length}
 use Rattle.network.proofs.Limits.{rules-sized}
 use Rattle.network.proofs.Answering.{ordered-listing}
 use Rattle.imaging.specs.Renumber.{indexOf, newNumber, newLiteral, newCube, newNode, renumbered}
-use Rattle.renumber.specs.Parts.{Numbers, Placing, Sourced, Buildable, cubeBy, nodeBy, sourceOf}
+use Rattle.renumber.specs.Parts.{Numbers, Placing, Sourced, Numberable, cubeBy, nodeBy, sourceOf}
 
 -- ---- lists
 
@@ -98,7 +98,7 @@ module _ (net : Net) where
 
 -- ---- a network by the rules, with the order of its divisors
 
-module _ {n m k : ℕ} {words counts order : List ℕ} (b : Buildable n m k words counts order) where
+module _ {n m k : ℕ} {words counts order : List ℕ} (b : Numberable n m k words counts order) where
   abbrev net : Net
   net = netAt n m k counts words
 

@@ -4,13 +4,13 @@ use mathlib.Core.Path.{_≡_, refl, sym, ap, _∙_, subst}
 use mathlib.Core.Bool.{Bool, true, false, cond}
 use native.Mathlib.Omega.{arith}
 use lib.ListN.{length}
-use Rattle.sets.specs.Lists.{all, total}
+use Rattle.sets.specs.Lists.{all}
 use Rattle.sets.proofs.Truth.{both, together}
 use Rattle.expression.specs.Expression.{expression}
 use Rattle.expression.proofs.Words.{fit}
 use Rattle.network.specs.Net.{nodes, variables}
 use Rattle.network.specs.Listing.{listing}
-use Rattle.network.specs.Held.{netOf, used, sized, reach, lawful, rules}
+use Rattle.network.specs.Held.{netOf, sized, reach, lawful, rules}
 use Rattle.network.specs.Handed.{Holds, Blank}
 use Rattle.network.specs.Answers.{judged, padded, listable, numbersOf, listedOf}
 use Rattle.network.specs.declared.Network.{Network}
@@ -46,11 +46,10 @@ module _ (n : Network) (h : rules n ≡ true) where
   rules-listable : listable n ≡ true
   unfolding rules lawful listable
   rules-listable =
-      let z = sized (n .inputs) (n .outputs) (n .divisors) (total (λ c. c) (used n)) in
-      let a = both z (lawful (netOf n)) h in
+      let a = both (sized n) (lawful (netOf n)) h in
       let e = both (all expression (nodes (netOf n))) _ (a .1) in
       let f = both (all (reach (variables (netOf n))) (nodes (netOf n))) _ (e .1) in
-      together z _ (a .0) (f .0)
+      together (sized n) _ (a .0) (f .0)
 
   pub rules-order : (r : Listed) → r ≡ listedOf n → r .order ≡ padded (listing (netOf n))
   unfolding listedOf numbersOf

@@ -62,7 +62,7 @@ pub record Sourced (n m i : ℕ) (order : List ℕ) : Type 0 where
   pub above : m ≤ i → n ≤ getD order (i - m) 0
 
 -- a network by the rules, and the order of its divisors
-pub record Buildable (n m k : ℕ) (words counts order : List ℕ) : Type 0 where
+pub record Numberable (n m k : ℕ) (words counts order : List ℕ) : Type 0 where
   pub lawful : rules (heldIn n m k counts words) ≡ true
   pub slots : length counts ≡ 96
   pub whole : length words ≡ 2176

@@ -17,7 +17,7 @@ ghost use Rattle.network.specs.Handed.{Holds, Blank};
 ghost use Rattle.network.specs.Parts.{netAt};
 ghost use Rattle.imaging.specs.Renumber.{renumbered};
 ghost use Rattle.renumber.specs.Answers.{Told};
-ghost use Rattle.renumber.specs.Parts.{Wide, Itself, Numbers, Placing, literalBy, cubeBy, nodeBy, sourceOf, Sourced, Buildable};
+ghost use Rattle.renumber.specs.Parts.{Wide, Itself, Numbers, Placing, literalBy, cubeBy, nodeBy, sourceOf, Sourced, Numberable};
 
 // A refusal carries a network of zeros.
 pub struct Renumbered {
@@ -158,12 +158,12 @@ fn source(order: &[u32], n: usize, m: usize, i: usize) -> usize
 
 // The network renumbered, of a network by the rules and the order of its divisors.
 fn build(n: usize, m: usize, k: usize, words: &[u64], counts: &[usize], order: &[u32]) -> Network
-    requires { ⌜ Buildable n m k (now words) (now counts) (now order) ⌝ }
+    requires { ⌜ Numberable n m k (now words) (now counts) (now order) ⌝ }
     ensures { λ r. ⌜ Holds r (renumbered (netAt n m k (now (counts .entry)) (now (words .entry)))) ⌝ }
 {
     let places = places_of(order, n, k);
-    let mut sizes = [0usize; 96];
-    let mut out = [0u64; 2176];
+    let mut sizes = [0usize; network::NODES];
+    let mut out = [0u64; network::WORDS];
     let mut at = 0;
     let mut i = 0;
     while i < m + k {

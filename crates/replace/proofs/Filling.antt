@@ -11,7 +11,7 @@ use Rattle.expression.proofs.Sorting.{sort-length}
 use Rattle.expression.proofs.Words.{zeros}
 use Rattle.network.specs.Handed.{flat, nodeSlots, cubeSlots}
 use Rattle.network.proofs.Handing.{flat-last}
-use Rattle.replace.specs.Parts.{Front, Adds, Laid}
+use Rattle.replace.specs.Parts.{Front, Appends, LaidNodes}
 
 -- ---- cubes
 
@@ -28,21 +28,21 @@ front-put {n = n} {g} {c} f h p = record {
       ∙ sym (append-snoc g c (replicate (cubeSlots - (n + 1)) []));
 }
 
-pub adds-none : (ws : List ℕ) (a : ℕ) → Adds ws ws a a []
+pub adds-none : (ws : List ℕ) (a : ℕ) → Appends ws ws a a []
 adds-none ws a = record { number = omega arith; front = λ g f. rw (append-nil g) f }
 
 -- the same cubes in other words
-pub adds-as : {old new : List ℕ} {a t : ℕ} {h k : List (List ℕ)} → h ≡ k → Adds old new a t h → Adds old new a t k
-adds-as {old} {new} {a} {t} e w = subst (Adds old new a t) e w
+pub adds-as : {old new : List ℕ} {a t : ℕ} {h k : List (List ℕ)} → h ≡ k → Appends old new a t h → Appends old new a t k
+adds-as {old} {new} {a} {t} e w = subst (Appends old new a t) e w
 
-pub adds-put : {old mid new : List ℕ} {a t : ℕ} {h : List (List ℕ)} {c : List ℕ} → Adds old mid a t h → t < cubeSlots → Put mid new t c → Adds old new a (t + 1) (h ++ (c ∷ []))
+pub adds-put : {old mid new : List ℕ} {a t : ℕ} {h : List (List ℕ)} {c : List ℕ} → Appends old mid a t h → t < cubeSlots → Put mid new t c → Appends old new a (t + 1) (h ++ (c ∷ []))
 adds-put {h = h} {c} w l p = record {
   number = rw (length-append h (c ∷ [])) (omega (arith, w .number));
   front = λ g f. rw (← append-assoc g h (c ∷ [])) (front-put (w .front g f) l p);
 }
 
 -- the cubes put in cube order
-pub adds-sort : {old mid new : List ℕ} {a t : ℕ} {h : List (List ℕ)} → Adds old mid a t h → Placed mid new a (sort (take (t - a) (drop a (cubesOf mid)))) → Adds old new a t (sort h)
+pub adds-sort : {old mid new : List ℕ} {a t : ℕ} {h : List (List ℕ)} → Appends old mid a t h → Placed mid new a (sort (take (t - a) (drop a (cubesOf mid)))) → Appends old new a t (sort h)
 adds-sort {old} {mid} {new} {a} {t} {h} w p = record { number = w .number ∙ ap (a +_) (sym (sort-length h)); front = sorted }
   where
     sorted : (g : List (List ℕ)) → Front old a g → Front new t (g ++ sort h)
@@ -72,12 +72,12 @@ adds-sort {old} {mid} {new} {a} {t} {h} w p = record { number = w .number ∙ ap
 
 -- ---- nodes
 
-pub laid-none : Laid (replicate 2176 0) (replicate 96 0) 0 []
+pub laid-none : LaidNodes (replicate 2176 0) (replicate 96 0) 0 []
 laid-none = record { front = record { number = refl; few = omega arith; cubes = zeros 1088 }; counted = refl }
 
 -- one node more
 module _ {ws new sizes : List ℕ} {t u i : ℕ} {fs : List (List (List ℕ))} {h : List (List ℕ)} where
-  pub laid-next : Laid ws sizes t fs → length fs ≡ i → i < nodeSlots → Adds ws new t u h → Laid new (set sizes i (u - t)) u (fs ++ (h ∷ []))
+  pub laid-next : LaidNodes ws sizes t fs → length fs ≡ i → i < nodeSlots → Appends ws new t u h → LaidNodes new (set sizes i (u - t)) u (fs ++ (h ∷ []))
   laid-next l e k w = record { front = rw (flat-last fs h) (w .front (flat fs) (l .front)); counted = counted }
     where
       rest : List ℕ

@@ -1,18 +1,17 @@
--- The test of a pair, and what becomes of a cube, as the code tells them. Assumes nothing.
+-- A pair, and what becomes of a cube, as the code tells them. Assumes nothing.
 use Prim.Native.Nat.{ℕ, _*_, _<_}
 use mathlib.Core.Path.{_≡_, refl, sym}
 use mathlib.Core.Bool.{Bool, true, false, _&&_}
 use mathlib.Core.List.{List, [], _∷_}
 use mathlib.Core.Option.{none, some}
 use native.Mathlib.Omega.{arith}
-use lib.Dec.{ltb}
-use borrow.Author.Tests.{ltb-true, lt-ltb, le-ltb, ne-eqb}
+use borrow.Author.Tests.{lt-ltb, le-ltb, ne-eqb}
 use Rattle.sets.specs.Sets.{mem, sub, insert, without}
-use Rattle.sets.proofs.Truth.{both}
 use Rattle.cube.specs.Cube.{width, joined}
 use Rattle.extraction.specs.Divisor.{Divisor, pair, part, hit, gone, swap}
-use Rattle.replace.specs.Replace.{placed}
+use Rattle.replace.specs.Replace.{fitting}
 use Rattle.replace.specs.Parts.{fate}
+use Rattle.replace.proofs.Fitting.{pair-below}
 
 -- ---- a pair
 
@@ -30,13 +29,11 @@ module _ (p q : ℕ) (c : List ℕ) where
       and-true false = refl
 
 -- the two literals of a pair, the smaller first, as a cube
-pub pair-part : (p q : ℕ) → placed (pair p q) ≡ true → joined q (joined p []) ≡ p ∷ q ∷ []
-unfolding placed insert
+pub pair-part : (p q : ℕ) → fitting width (pair p q) ≡ true → joined q (joined p []) ≡ p ∷ q ∷ []
+unfolding insert
 pair-part p q h =
-    let w = both (ltb p q) (ltb q (2 * width)) h in
-    let a : p < q = ltb-true p q (w .0) in
-    let b : q < 2 * width = ltb-true q (2 * width) (w .1) in
-    rw (w .1, lt-ltb p (2 * width) (omega arith), le-ltb q p (omega arith), ne-eqb q p (omega arith))
+    let w = pair-below width p q h in
+    rw (lt-ltb q (2 * width) (omega (arith, w .1)), lt-ltb p (2 * width) (omega (arith, w)), le-ltb q p (omega (arith, w .0)), ne-eqb q p (λ e. omega (arith, w .0)))
 
 -- ---- what becomes of a cube
 

@@ -17,14 +17,14 @@ use Rattle.network.specs.Parts.{nodesOf}
 use Rattle.network.proofs.Holding.{cut-node}
 use Rattle.network.proofs.Parts.{before, nodes-length, nodes-at, start-next}
 use Rattle.extraction.specs.Divisor.{Divisor, rewrite}
-use Rattle.replace.specs.Parts.{Adds, Laid, Source}
+use Rattle.replace.specs.Parts.{Appends, LaidNodes, SourceNodes}
 use Rattle.replace.proofs.Filling.{laid-next}
 
 -- a sum over the front of a list is at most that over all
 total-front : (l : List ℕ) (k : ℕ) → total (λ c. c) (take k l) ≤ total (λ c. c) l
 total-front l k = omega (arith, total-append (λ c. c) (take k l) (drop k l), ap (total (λ c. c)) (take-append-drop k l))
 
-module _ {words counts : List ℕ} {e : ℕ} (s : Source words counts e) where
+module _ {words counts : List ℕ} {e : ℕ} (s : SourceNodes words counts e) where
   abbrev fs : List (List (List ℕ))
   fs = nodesOf e counts words
 
@@ -56,10 +56,10 @@ module _ {words counts : List ℕ} {e : ℕ} (s : Source words counts e) where
     node-ordered = all-out ordered (at-in fs i [] (omega (arith, many))) (s .order)
 
     -- one node more is rewritten
-    pub laid-more : (x : ℕ) (d : Divisor) {ws new sizes : List ℕ} {t u : ℕ} → Laid ws sizes t (map (rewrite x d) (take i fs)) → Adds ws new t u (rewrite x d (getD fs i []))
-        → Laid new (set sizes i (u - t)) u (map (rewrite x d) (take (i + 1) fs))
+    pub laid-more : (x : ℕ) (d : Divisor) {ws new sizes : List ℕ} {t u : ℕ} → LaidNodes ws sizes t (map (rewrite x d) (take i fs)) → Appends ws new t u (rewrite x d (getD fs i []))
+        → LaidNodes new (set sizes i (u - t)) u (map (rewrite x d) (take (i + 1) fs))
     laid-more x d {new = new} {sizes} {t} {u} l w =
-        subst (Laid new (set sizes i (u - t)) u) (sym more)
+        subst (LaidNodes new (set sizes i (u - t)) u) (sym more)
         (laid-next l (length-map (take i fs) (rewrite x d) ∙ length-take-le i fs (omega (arith, many))) (omega (arith, s .free)) w)
       where
         more : map (rewrite x d) (take (i + 1) fs) ≡ map (rewrite x d) (take i fs) ++ (rewrite x d (getD fs i []) ∷ [])

@@ -1,20 +1,28 @@
 -- What the parts of a step promise each other.
-use Prim.Native.Nat.{ℕ, _+_, _-_, _<_, _≤_}
+use Prim.Native.Nat.{ℕ, _+_, _-_, _/_, _<_, _≤_}
 use mathlib.Core.Path.{_≡_}
-use mathlib.Core.Bool.{true, cond}
+use mathlib.Core.Bool.{Bool, true, cond, _&&_}
 use mathlib.Core.List.{List, [], _∷_, _++_, map}
 use mathlib.Core.Option.{Option, none, some}
+use lib.Dec.{ltb}
 use lib.ListN.{length, take, replicate}
 use Rattle.sets.specs.Lists.{all, total}
+use Rattle.sets.specs.Sets.{proper}
 use Rattle.cube.specs.Cube.{lits}
 use Rattle.expression.specs.Words.{cubesOf}
 use Rattle.expression.specs.Expression.{ordered}
 use Rattle.network.specs.Held.{mostCubes}
 use Rattle.network.specs.Handed.{flat, nodeSlots, cubeSlots}
 use Rattle.network.specs.Parts.{nodesOf}
-use Rattle.extraction.specs.Divisor.{Divisor, part, hit, gone, swap}
+use Rattle.extraction.specs.Divisor.{Divisor, small, part, hit, gone, swap}
 use Rattle.replace.specs.declared.Fate.{Fate}
 use Rattle.replace.specs.declared.Fate.the-variants.{Becomes, Goes}
+
+-- ---- the parts of a sum
+
+-- one or two literals, no variable both ways, each of a variable below v
+abbrev pub fitPart : ℕ → List ℕ → Bool
+fitPart v a = small a && (proper a && all (λ l. ltb (l / 2) v) a)
 
 -- ---- the cubes of a node
 
@@ -46,18 +54,18 @@ pub record Front (ws : List ℕ) (n : ℕ) (g : List (List ℕ)) : Type 0 where
   pub cubes : cubesOf ws ≡ g ++ replicate (cubeSlots - n) []
 
 -- the cubes h are put from place `at` on, up to place `to`
-pub record Adds (old new : List ℕ) (at to : ℕ) (h : List (List ℕ)) : Type 0 where
+pub record Appends (old new : List ℕ) (at to : ℕ) (h : List (List ℕ)) : Type 0 where
   pub number : to ≡ at + length h
   pub front : (g : List (List ℕ)) → Front old at g → Front new to (g ++ h)
 
 -- the nodes fs stand one after the other, up to place `to`, with their numbers of cubes
-pub record Laid (ws sizes : List ℕ) (to : ℕ) (fs : List (List (List ℕ))) : Type 0 where
+pub record LaidNodes (ws sizes : List ℕ) (to : ℕ) (fs : List (List (List ℕ))) : Type 0 where
   pub front : Front ws to (flat fs)
   pub counted : sizes ≡ map length fs ++ replicate (nodeSlots - length fs) 0
 
 -- ---- the nodes of a network in cube order, with a slot for one more
 
-pub record Source (words counts : List ℕ) (e : ℕ) : Type 0 where
+pub record SourceNodes (words counts : List ℕ) (e : ℕ) : Type 0 where
   pub slots : length counts ≡ nodeSlots
   pub free : e < nodeSlots
   pub cubes : total (λ c. c) (take e counts) ≤ mostCubes

@@ -1,36 +1,47 @@
 -- What a step answers.
-use Prim.Native.Nat.{_*_}
+use Prim.Native.Nat.{ℕ}
 use mathlib.Core.Path.{_≡_}
-use mathlib.Core.Bool.{Bool, true, cond, _&&_}
+use mathlib.Core.Bool.{Bool, cond, _&&_}
+use mathlib.Core.Option.{Option, none, some}
 use lib.Dec.{ltb}
-use Rattle.cube.specs.Cube.{width}
-use Rattle.network.specs.Net.{Net}
-use Rattle.network.specs.Held.{netOf}
+use Rattle.expression.specs.Expression.{expression}
+use Rattle.network.specs.Net.{Net, variables, literalCount}
+use Rattle.network.specs.Held.{netOf, reach, mostLiterals}
 use Rattle.network.specs.Handed.{Holds, Blank}
 use Rattle.network.specs.declared.Network.{Network}
 use Rattle.extraction.specs.Divisor as extraction
-use Rattle.extraction.specs.Divisor.{pair, sum}
+use Rattle.extraction.specs.Divisor.{own, sound}
 use Rattle.extraction.specs.Extract.{step}
-use Rattle.extraction.specs.Run.{Move, finished, stuck, take, room, done, asked, numbers, rows}
+use Rattle.extraction.specs.Run.{Move, finished, stuck, take, roomFor, done, asked, numbers, rows}
 use Rattle.tidy.specs.Tidy.{arranged}
-use Rattle.choice.specs.Choice.{divisorOf}
-use Rattle.choice.specs.declared.Divisor.{Divisor}
+use Rattle.divisor.specs.Divisor.{divisorOf}
+use Rattle.divisor.specs.declared.Divisor.{Divisor}
 use Rattle.replace.specs.declared.Outcome.the-variants.{Made, Numbers, Rows, Unfit}
 use Rattle.replace.specs.declared.Next.{Next}
 
--- a pair is of two literals that a cube has places for, the smaller first
-unfoldable pub placed : extraction.Divisor → Bool
-placed (pair p q) = ltb p q && ltb q (2 * width)
-placed (sum a b) = true
+-- a divisor that a network of v variables can take: its own node is an expression over them, the smaller literal or part first
+unfoldable pub fitting : ℕ → extraction.Divisor → Bool
+fitting v d = sound d && (expression (own d) && reach v (own d))
 
--- whether the network has a number and rows for the step; finished: network or divisor unfit
-unfoldable pub outcome : Network → Divisor → Move
-outcome n d = cond (arranged n && placed (divisorOf d)) (room (netOf n) (divisorOf d)) finished
+-- no step is made that passes the most literals
+abbrev pub allowed : Net → Move → Option Move
+allowed n (take d) = cond (ltb mostLiterals (literalCount (step n d))) none (some (take d))
+allowed n (stuck r) = some (stuck r)
+allowed n finished = some finished
 
-abbrev pub Stepped : Network → Divisor → Move → Next → Type 0
-Stepped n d (take e) r = (r .outcome ≡ Made) × Holds (r .network) (step (netOf n) e)
-Stepped n d (stuck numbers) r = (r .outcome ≡ Numbers) × Blank (r .network)
-Stepped n d (stuck rows) r = (r .outcome ≡ Rows) × Blank (r .network)
-Stepped n d (stuck done) r = ⊥
-Stepped n d (stuck asked) r = ⊥
-Stepped n d finished r = (r .outcome ≡ Unfit) × Blank (r .network)
+-- whether the network has a number and rows for the step, where network and divisor are fit for one
+unfoldable pub outcome : Network → Divisor → Option Move
+outcome n d = cond (arranged n && fitting (variables (netOf n)) (divisorOf d)) (allowed (netOf n) (roomFor (netOf n) (divisorOf d))) none
+
+-- a divisor is taken, or there is no number or no room for its rows; a step never ends a run otherwise
+abbrev pub Moved : Network → Move → Next → Type 0
+Moved n (take e) r = (r .outcome ≡ Made) × Holds (r .network) (step (netOf n) e)
+Moved n (stuck numbers) r = (r .outcome ≡ Numbers) × Blank (r .network)
+Moved n (stuck rows) r = (r .outcome ≡ Rows) × Blank (r .network)
+Moved n (stuck done) r = ⊥
+Moved n (stuck asked) r = ⊥
+Moved n finished r = ⊥
+
+abbrev pub Stepped : Network → Option Move → Next → Type 0
+Stepped n (some m) r = Moved n m r
+Stepped n none r = (r .outcome ≡ Unfit) × Blank (r .network)

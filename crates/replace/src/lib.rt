@@ -1,8 +1,10 @@
 // One step: in every use the divisor is replaced by the literal of a new node that holds it.
-use choice::Divisor;
 use cube::Cube;
+use cube::Found;
 use cube::Literal;
+use cube::Order;
 use cube::Variable;
+use divisor::Divisor;
 use network::Network;
 ghost use mathlib.Core.Path.{_≡_};
 ghost use mathlib.Core.Bool.{true};
@@ -14,19 +16,11 @@ ghost use Rattle.expression.specs.Words.{cubesOf};
 ghost use Rattle.expression.specs.Expression.{ordered};
 ghost use Rattle.network.specs.Handed.{Blank};
 ghost use Rattle.network.specs.Parts.{nodesOf, heldIn, netAt};
-ghost use Rattle.extraction.specs.Divisor.{own, part, hit, gone, rewrite};
-ghost use Rattle.extraction.specs.Run.{room};
-ghost use Rattle.choice.specs.Choice.{divisorOf};
-ghost use Rattle.replace.specs.Replace.{placed, Stepped, outcome};
-ghost use Rattle.replace.specs.Parts.{fate, fateOf, become, Adds, Laid, Source};
-
-// The most variables, and the most cubes.
-const VARIABLES: usize = 64;
-
-const CUBES: usize = 1088;
-
-// The literals that a cube has places for.
-const LITERALS: u32 = 128;
+ghost use Rattle.extraction.specs.Divisor.{pair, sum, own, part, hit, gone, rewrite};
+ghost use Rattle.extraction.specs.Run.{roomFor};
+ghost use Rattle.divisor.specs.Divisor.{divisorOf};
+ghost use Rattle.replace.specs.Replace.{fitting, allowed, Stepped, outcome};
+ghost use Rattle.replace.specs.Parts.{fitPart, fate, fateOf, become, Appends, LaidNodes, SourceNodes};
 
 pub enum Outcome {
     Made,
@@ -64,7 +58,7 @@ fn is_hit(f: &[u64], d: Divisor, c: Cube) -> bool
 {
     match d {
         Divisor::Pair(p, q) => has_pair(p, q, c),
-        Divisor::Sum(a, b) => choice::is_use(f, c, a, b),
+        Divisor::Sum(a, b) => divisor::is_use(f, c, a, b),
     }
 }
 
@@ -76,17 +70,17 @@ fn is_gone(f: &[u64], d: Divisor, c: Cube) -> bool
     match d {
         Divisor::Pair(p, q) => has_pair(p, q, c),
         Divisor::Sum(a, b) => {
-            if choice::is_use(f, c, a, b) {
+            if divisor::is_use(f, c, a, b) {
                 return true;
             }
-            choice::is_use(f, c, b, a)
+            divisor::is_use(f, c, b, a)
         }
     }
 }
 
 // The part that a use is named by.
 fn part_of(d: Divisor) -> Cube
-    requires { ⌜ placed (divisorOf d) ≡ true ⌝ }
+    requires { ⌜ fitting 64 (divisorOf d) ≡ true ⌝ }
     ensures { λ r. ⌜ lits r ≡ part (divisorOf d) ⌝ }
 {
     match d {
@@ -97,7 +91,7 @@ fn part_of(d: Divisor) -> Cube
 
 // A use's cube takes the literal x in place of the part, the other cube of a use goes, and any other cube stays.
 fn remake(f: &[u64], d: Divisor, x: Literal, c: Cube) -> Fate
-    requires { ⌜ (ordered (cubesOf (now f)) ≡ true) × (placed (divisorOf d) ≡ true) × (x .0 < 128) ⌝ }
+    requires { ⌜ (ordered (cubesOf (now f)) ≡ true) × (fitting 64 (divisorOf d) ≡ true) × (x .0 < 128) ⌝ }
     ensures { λ r. ⌜ fateOf r ≡ fate (x .0) (divisorOf d) (cubesOf (now (f .entry))) (lits c) ⌝ }
 {
     if is_hit(f, d, c) {
@@ -111,8 +105,8 @@ fn remake(f: &[u64], d: Divisor, x: Literal, c: Cube) -> Fate
 
 // What the cubes of f become, from place `at` on; the place after them.
 fn write_node(f: &[u64], d: Divisor, x: Literal, out: &mut [u64], at: usize) -> usize
-    requires { ⌜ (ordered (cubesOf (now f)) ≡ true) × (placed (divisorOf d) ≡ true) × (x .0 < 128) × (at + length (cubesOf (now f)) ≤ 1088) ⌝ }
-    ensures { λ r. ⌜ Adds (now (out .entry)) (now (out .exit)) at r (become (fate (x .0) (divisorOf d) (cubesOf (now (f .entry)))) (cubesOf (now (f .entry)))) ⌝ }
+    requires { ⌜ (ordered (cubesOf (now f)) ≡ true) × (fitting 64 (divisorOf d) ≡ true) × (x .0 < 128) × (at + length (cubesOf (now f)) ≤ 1088) ⌝ }
+    ensures { λ r. ⌜ Appends (now (out .entry)) (now (out .exit)) at r (become (fate (x .0) (divisorOf d) (cubesOf (now (f .entry)))) (cubesOf (now (f .entry)))) ⌝ }
 {
     let n = expression::number(f);
     let mut to = at;
@@ -131,8 +125,8 @@ fn write_node(f: &[u64], d: Divisor, x: Literal, out: &mut [u64], at: usize) -> 
 
 // The same, in cube order.
 fn put_node(f: &[u64], d: Divisor, x: Literal, out: &mut [u64], at: usize) -> usize
-    requires { ⌜ (ordered (cubesOf (now f)) ≡ true) × (placed (divisorOf d) ≡ true) × (x .0 < 128) × (at + length (cubesOf (now f)) ≤ 1088) ⌝ }
-    ensures { λ r. ⌜ Adds (now (out .entry)) (now (out .exit)) at r (rewrite (x .0) (divisorOf d) (cubesOf (now (f .entry)))) ⌝ }
+    requires { ⌜ (ordered (cubesOf (now f)) ≡ true) × (fitting 64 (divisorOf d) ≡ true) × (x .0 < 128) × (at + length (cubesOf (now f)) ≤ 1088) ⌝ }
+    ensures { λ r. ⌜ Appends (now (out .entry)) (now (out .exit)) at r (rewrite (x .0) (divisorOf d) (cubesOf (now (f .entry)))) ⌝ }
 {
     let to = write_node(f, d, x, out, at);
     sorting::sort_part(out, at, to);
@@ -149,8 +143,8 @@ fn put_nodes(
     out: &mut [u64],
     sizes: &mut [usize],
 ) -> usize
-    requires { ⌜ Source (now words) (now counts) e × (placed (divisorOf d) ≡ true) × (x .0 < 128) ⌝ ∗ ⌜ (now out ≡ replicate 2176 0) × (now sizes ≡ replicate 96 0) ⌝ }
-    ensures { λ r. ⌜ Laid (now (out .exit)) (now (sizes .exit)) r (map (rewrite (x .0) (divisorOf d)) (nodesOf e (now (counts .entry)) (now (words .entry)))) ⌝ }
+    requires { ⌜ SourceNodes (now words) (now counts) e × (fitting 64 (divisorOf d) ≡ true) × (x .0 < 128) ⌝ ∗ ⌜ (now out ≡ replicate 2176 0) × (now sizes ≡ replicate 96 0) ⌝ }
+    ensures { λ r. ⌜ LaidNodes (now (out .exit)) (now (sizes .exit)) r (map (rewrite (x .0) (divisorOf d)) (nodesOf e (now (counts .entry)) (now (words .entry)))) ⌝ }
 {
     let mut at = 0;
     let mut to = 0;
@@ -178,8 +172,8 @@ fn own_size(d: Divisor) -> usize
 
 // The divisor's own cubes, from place `at` on; the place after them.
 fn put_own(d: Divisor, out: &mut [u64], at: usize) -> usize
-    requires { ⌜ (placed (divisorOf d) ≡ true) × (at + length (own (divisorOf d)) ≤ 1088) ⌝ }
-    ensures { λ r. ⌜ Adds (now (out .entry)) (now (out .exit)) at r (own (divisorOf d)) ⌝ }
+    requires { ⌜ (fitting 64 (divisorOf d) ≡ true) × (at + length (own (divisorOf d)) ≤ 1088) ⌝ }
+    ensures { λ r. ⌜ Appends (now (out .entry)) (now (out .exit)) at r (own (divisorOf d)) ⌝ }
 {
     expression::put_cube(out, at, part_of(d));
     let next = at + 1;
@@ -204,17 +198,20 @@ fn refused(outcome: Outcome) -> Next
 
 // The step, where a number is free: the new literal is the plain one of the next free number.
 fn made(words: &[u64], counts: &[usize], n: usize, m: usize, k: usize, d: Divisor) -> Next
-    requires { ⌜ Source (now words) (now counts) (m + k) × (n + k < 64) × (placed (divisorOf d) ≡ true) ⌝ }
-    ensures { λ r. ⌜ Stepped (heldIn n m k (now (counts .entry)) (now (words .entry))) d (room (netAt n m k (now (counts .entry)) (now (words .entry))) (divisorOf d)) r ⌝ }
+    requires { ⌜ SourceNodes (now words) (now counts) (m + k) × (n + k < 64) × (fitting 64 (divisorOf d) ≡ true) ⌝ }
+    ensures { λ r. ⌜ Stepped (heldIn n m k (now (counts .entry)) (now (words .entry))) (allowed (netAt n m k (now (counts .entry)) (now (words .entry))) (roomFor (netAt n m k (now (counts .entry)) (now (words .entry))) (divisorOf d))) r ⌝ }
 {
-    let mut out = [0u64; 2176];
-    let mut sizes = [0usize; 96];
+    let mut out = [0u64; network::WORDS];
+    let mut sizes = [0usize; network::NODES];
     let x = cube::plain(Variable((n + k) as u32));
     let to = put_nodes(words, counts, m + k, d, x, &mut out, &mut sizes);
-    if own_size(d) > CUBES - to {
+    if own_size(d) > network::CUBES - to {
         return refused(Outcome::Rows);
     }
     let end = put_own(d, &mut out, to);
+    if expression::literals(expression::part(&out, 0, end)) > network::LITERAL_COUNT {
+        return refused(Outcome::Unfit);
+    }
     sizes[m + k] = end - to;
     Next {
         outcome: Outcome::Made,
@@ -228,33 +225,91 @@ fn made(words: &[u64], counts: &[usize], n: usize, m: usize, k: usize, d: Diviso
     }
 }
 
-// Whether a pair is of two literals, the smaller first.
-fn is_placed(d: Divisor) -> bool
-    ensures { λ r. ⌜ r ≡ placed (divisorOf d) ⌝ }
+// ---- divisors that a network of v variables can take
+
+// Whether two literals are of different variables below v, the smaller first.
+fn is_pair(p: Literal, q: Literal, v: usize) -> bool
+    ensures { λ r. ⌜ r ≡ fitting v (pair (p .0) (q .0)) ⌝ }
+{
+    if p.0 >= q.0 {
+        return false;
+    }
+    let o = cube::opposite(p);
+    if o.0 == q.0 {
+        return false;
+    }
+    let x = cube::variable_of(q);
+    (x.0 as usize) < v
+}
+
+// Whether a part has one or two literals, of different variables below v.
+fn is_part(a: Cube, v: usize) -> bool
+    requires { ⌜ v ≤ 64 ⌝ }
+    ensures { λ r. ⌜ r ≡ fitPart v (lits a) ⌝ }
+{
+    let n = cubes::count(a);
+    if n < 1 {
+        return false;
+    }
+    if n > 2 {
+        return false;
+    }
+    if !cubes::is_proper(a) {
+        return false;
+    }
+    let f = order::first_from(a, cube::plain(Variable(v as u32)));
+    match f {
+        Found::At(_) => false,
+        Found::Nothing => true,
+    }
+}
+
+// Whether two parts are fit, share no literal and stand in cube order.
+fn is_sum(a: Cube, b: Cube, v: usize) -> bool
+    requires { ⌜ v ≤ 64 ⌝ }
+    ensures { λ r. ⌜ r ≡ fitting v (sum (lits a) (lits b)) ⌝ }
+{
+    if !is_part(a, v) {
+        return false;
+    }
+    if !is_part(b, v) {
+        return false;
+    }
+    if !cubes::is_empty(cubes::common(a, b)) {
+        return false;
+    }
+    let o = order::compare(a, b);
+    match o {
+        Order::Before => true,
+        Order::Same => false,
+        Order::After => false,
+    }
+}
+
+fn is_fit(d: Divisor, v: usize) -> bool
+    requires { ⌜ v ≤ 64 ⌝ }
+    ensures { λ r. ⌜ r ≡ fitting v (divisorOf d) ⌝ }
 {
     match d {
-        Divisor::Pair(p, q) => {
-            if p.0 >= q.0 {
-                return false;
-            }
-            q.0 < LITERALS
-        }
-        Divisor::Sum(_, _) => true,
+        Divisor::Pair(p, q) => is_pair(p, q, v),
+        Divisor::Sum(a, b) => is_sum(a, b, v),
     }
 }
 
 // The network after the step that takes the divisor; or why there is no room for it. Unfit are a network that does not stand in
-// cube order, and a pair that is not two literals, the smaller first.
+// cube order, a divisor whose own node is no expression over the network's variables or that has not the smaller literal or part
+// first, and a step that passes 32,768 literals.
 pub fn step(n: Network, d: Divisor) -> Next
-    ensures { λ r. ⌜ Stepped n d (outcome n d) r ⌝ }
+    ensures { λ r. ⌜ Stepped n (outcome n d) r ⌝ }
 {
     if !tidy::is_arranged(n) {
         return refused(Outcome::Unfit);
     }
-    if !is_placed(d) {
+    let v = n.inputs + n.divisors;
+    if !is_fit(d, v) {
         return refused(Outcome::Unfit);
     }
-    if n.inputs + n.divisors >= VARIABLES {
+    if v >= network::VARIABLES {
         return refused(Outcome::Numbers);
     }
     let words = n.words;

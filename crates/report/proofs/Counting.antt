@@ -2,7 +2,7 @@
 use Prim.Native.Nat.{ℕ, zero, suc, _+_, _-_, _<_, _≤_}
 use mathlib.Core.Path.{_≡_, refl, sym, ap, _∙_, subst}
 use mathlib.Core.Bool.{true, false≢true}
-use mathlib.Core.List.{List, [], _∷_, _++_, List·Memᴰ}
+use mathlib.Core.List.{List, [], _∷_, _++_}
 use native.Mathlib.Omega.{arith}
 use lib.IntN.{ℤ, pos, negsuc, negℤ, _+ℤ_, _-ℤ_, pos-+ℤ-pos, +ℤ-negℤ-cancel, -ℤ-+ℤ-cancel, +ℤ-idr, +ℤ-assoc, negℤ-+ℤ}
 use lib.Dec.{le→leb}
@@ -13,19 +13,18 @@ use mir.Val.{SFits, toZ, ofZ}
 use mir.ValLaws.{toZ-ofZ}
 use Rattle.network.specs.Net.{Net, literalCount}
 use Rattle.extraction.specs.Divisor.{Divisor}
-use Rattle.extraction.specs.Extract.{weight, candidates, step}
+use Rattle.extraction.specs.Extract.{weight, step}
 use Rattle.extraction.specs.Run.{Made, Result, Move, move, made, runFrom, inOrder, run}
 use Rattle.extraction.specs.Meaning.{Good, Worth, Leads, Allows, fall}
 use Rattle.extraction.specs.Meaning.Allows.{nothing, noNumber, noRows, next}
 use Rattle.extraction.specs.Meaning.Leads.{stay, onward}
 use Rattle.extraction.proofs.Weighing.{step-literals}
-use Rattle.extraction.proofs.Offering.{candidate-fit}
 use Rattle.extraction.proofs.Stepping.{step-good}
 use Rattle.extraction.proofs.Arranging.{in-order-literals, in-order-good}
 use Rattle.extraction.proofs.Moving.{move-iff}
 use Rattle.extraction.proofs.Running.{from-none, from-finished, from-stuck, from-take, run-leads}
-use Rattle.extraction.proofs.Keeping.{run-literals}
-use Rattle.report.specs.Report.{stepLine, linesOf}
+use Rattle.extraction.proofs.Keeping.{worth-fit, run-literals}
+use Rattle.report.specs.Report.{stepLine, stepLines}
 use Rattle.report.specs.Meaning.{countsOf, linesWith}
 use Rattle.report.specs.Parts.{Off, Falls}
 use Rattle.report.specs.Parts.Falls.{none, more}
@@ -68,13 +67,13 @@ module _ (a b : ℕ) (small : b < 2147483648) where
   taken (negsuc k) h e = absurd (false≢true h)
 
 pub step-falls : (n : Net) → Good n → (d : Divisor) → Worth n d → literalCount n < 2147483648 → (o : Off (literalCount n) (weight n d)) × (literalCount n - o .size ≡ literalCount (step n d))
-step-falls n g d w s = taken (literalCount (step n d)) (literalCount n) s (weight n d) (w .above) (step-literals n g d (candidate-fit n g d (w .best .chosen) .whole))
+step-falls n g d w s = taken (literalCount (step n d)) (literalCount n) s (weight n d) (w .above) (step-literals n g d (worth-fit g w .whole))
 
 leads-falls : {n m : Net} {l : List Made} → Leads n l m → Good n → literalCount n < 2147483648 → Falls (literalCount n) l
 leads-falls stay g s = none
 leads-falls (onward {n = n} {l = l} d w a b t) g s =
     let f = step-falls n g d w s in
-    more (f .0) (subst (λ c. Falls c l) (sym (f .1)) (leads-falls t (step-good n g d (w .best .chosen)) (omega (arith, f .1))))
+    more (f .0) (subst (λ c. Falls c l) (sym (f .1)) (leads-falls t (step-good n g d (worth-fit g w)) (omega (arith, f .1))))
 
 -- every weight of a run can be taken off the count before it
 pub run-falls : (k : ℕ) (n : Net) → Good n → literalCount n < 2147483648 → Falls (literalCount n) (run k n .steps)
@@ -83,8 +82,8 @@ run-falls k n g s = subst (λ c. Falls c (run k n .steps)) (in-order-literals n)
 -- ---- the counts that are printed
 
 -- they are those of `countsOf`
-pub lines-counts : (v : ℕ) (c : ℤ) (l : List Made) → linesOf v c l ≡ linesWith v l (countsOf c l)
-unfolding linesOf linesWith countsOf
+pub lines-counts : (v : ℕ) (c : ℤ) (l : List Made) → stepLines v c l ≡ linesWith v l (countsOf c l)
+unfolding stepLines linesWith countsOf
 lines-counts v c [] = refl
 lines-counts v c (m ∷ l) = ap (stepLine v (m .divisor) (m .weight) (c -ℤ m .weight) ++_) (lines-counts (suc v) (c -ℤ m .weight) l)
 
@@ -95,10 +94,10 @@ counts n l = countsOf (pos (literalCount n)) l
 from-count : (k : ℕ) (n : Net) → Good n → (i : ℕ) → i < length (runFrom k n .steps) → getD (counts n (runFrom k n .steps)) i (pos 0) ≡ pos (literalCount (runFrom (suc i) n .network))
 unfolding countsOf
 from-count zero n g i h = let e : length (runFrom 0 n .steps) ≡ 0 = ap (λ (r : Result). length (r .steps)) (from-none n) in absurd (omega arith)
-from-count (suc k) n g i h = go (move n) refl ((move-iff n (move n)) .0 refl) (λ d c. from-count k (step n d) (step-good n g d c))
+from-count (suc k) n g i h = go (move n) refl ((move-iff n (move n)) .0 refl) (λ d w. from-count k (step n d) (step-good n g d (worth-fit g w)))
   where
     go : (m : Move) → move n ≡ m → Allows n m
-        → ((d : Divisor) → List·Memᴰ d (candidates n) → (i : ℕ) → i < length (runFrom k (step n d) .steps) → getD (counts (step n d) (runFrom k (step n d) .steps)) i (pos 0) ≡ pos (literalCount (runFrom (suc i) (step n d) .network)))
+        → ((d : Divisor) → Worth n d → (i : ℕ) → i < length (runFrom k (step n d) .steps) → getD (counts (step n d) (runFrom k (step n d) .steps)) i (pos 0) ≡ pos (literalCount (runFrom (suc i) (step n d) .network)))
         → getD (counts n (runFrom (suc k) n .steps)) i (pos 0) ≡ pos (literalCount (runFrom (suc i) n .network))
     go m e (nothing w) f = let z : length (runFrom (suc k) n .steps) ≡ 0 = ap (λ (r : Result). length (r .steps)) (from-finished k n e) in absurd (omega arith)
     go m e (noNumber w l) f = let z : length (runFrom (suc k) n .steps) ≡ 0 = ap (λ (r : Result). length (r .steps)) (from-stuck k n _ e) in absurd (omega arith)
@@ -106,11 +105,11 @@ from-count (suc k) n g i h = go (move n) refl ((move-iff n (move n)) .0 refl) (�
     go m e (next {d = d} w l r) f = ap (λ (r : Result). getD (counts n (r .steps)) i (pos 0)) (from-take k n d e) ∙ turn i (subst (λ (r : Result). i < length (r .steps)) (from-take k n d e) h)
       where
         after : pos (literalCount n) -ℤ weight n d ≡ pos (literalCount (step n d))
-        after = sym (step-literals n g d (candidate-fit n g d (w .best .chosen) .whole))
+        after = sym (step-literals n g d (worth-fit g w .whole))
 
         turn : (i : ℕ) → i < suc (length (runFrom k (step n d) .steps)) → getD (counts n (made n d ∷ runFrom k (step n d) .steps)) i (pos 0) ≡ pos (literalCount (runFrom (suc i) n .network))
         turn zero j = after ∙ ap (λ (r : Result). pos (literalCount (r .network))) (sym (from-take 0 n d e ∙ ap (λ (r : Result). record { network = r .network; stop = r .stop; steps = made n d ∷ r .steps }) (from-none (step n d))))
-        turn (suc i) j = ap (λ c. getD (countsOf c (runFrom k (step n d) .steps)) i (pos 0)) after ∙ f d (w .best .chosen) i (omega arith) ∙ ap (λ (r : Result). pos (literalCount (r .network))) (sym (from-take (suc i) n d e))
+        turn (suc i) j = ap (λ c. getD (countsOf c (runFrom k (step n d) .steps)) i (pos 0)) after ∙ f d w i (omega arith) ∙ ap (λ (r : Result). pos (literalCount (r .network))) (sym (from-take (suc i) n d e))
 
 -- the last of them
 counts-last : (c : ℤ) (m : Made) (l : List Made) → getD (countsOf c (m ∷ l)) (length l) (pos 0) ≡ c -ℤ fall (m ∷ l)

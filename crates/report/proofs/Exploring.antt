@@ -20,7 +20,7 @@ use Rattle.extraction.specs.Meaning.{Good, Within}
 use Rattle.extraction.proofs.Running.{run-few}
 use Rattle.extraction.proofs.Keeping.{run-good}
 use Rattle.extraction.proofs.Following.{rules-good, rules-within, run-rules}
-use Rattle.choice.specs.Choice.{madeOf}
+use Rattle.divisor.specs.Divisor.{madeOf}
 use Rattle.extract.specs.Answers as extract
 use Rattle.extract.specs.Answers.{stopOf, Lists, ran}
 use Rattle.extract.specs.declared.Stop.{Stop}

@@ -25,12 +25,11 @@ use Rattle.extraction.specs.Run.{Stop, done, asked, numbers, rows, Made, made, 
 use Rattle.extraction.specs.Meaning.{Good, Within, Fit, Leads}
 use Rattle.extraction.specs.Meaning.Leads.{stay, onward}
 use Rattle.extraction.proofs.Using.{sum-parts}
-use Rattle.extraction.proofs.Offering.{candidate-fit}
 use Rattle.extraction.proofs.Making.{step-variables}
 use Rattle.extraction.proofs.Stepping.{step-good}
 use Rattle.extraction.proofs.Arranging.{in-order-literals, in-order-variables, in-order-good}
 use Rattle.extraction.proofs.Running.{run-leads, run-few}
-use Rattle.extraction.proofs.Keeping.{run-within}
+use Rattle.extraction.proofs.Keeping.{worth-fit, run-within}
 use Rattle.table.specs.Table.{Outcome, accepted, refused, readText, tableNet}
 use Rattle.table.specs.Meaning.{isLine}
 use Rattle.table.proofs.Refusals.{refused-line, text-long, accepted-complete}
@@ -82,23 +81,22 @@ step-length v d w c hv hd hw hc =
 
 -- ---- the lines of all steps
 
-leads-length : {n m : Net} {l : List Made} → Leads n l m → Good n → literalCount n ≤ 32768 → length (report.linesOf (variables n) (pos (literalCount n)) l) ≤ 55 * length l
+leads-length : {n m : Net} {l : List Made} → Leads n l m → Good n → literalCount n ≤ 32768 → length (report.stepLines (variables n) (pos (literalCount n)) l) ≤ 55 * length l
 leads-length (stay {n = n}) g s = rw (lines-none (variables n) (pos (literalCount n))) (omega arith)
 leads-length (onward {n = n} {l = l} d w a b t) g s =
     let f = step-falls n g d w (omega arith) in
     let k = f .0 .size in
     let c : pos (literalCount n) -ℤ weight n d ≡ pos (literalCount (step n d)) = off-left (f .0) ∙ ap pos (f .1) in
-    let fit = candidate-fit n g d (w .best .chosen) in
-    let e : report.linesOf (variables n) (pos (literalCount n)) (made n d ∷ l) ≡ stepLine (variables n) d (pos k) (pos (literalCount (step n d))) ++ report.linesOf (variables (step n d)) (pos (literalCount (step n d))) l =
+    let e : report.stepLines (variables n) (pos (literalCount n)) (made n d ∷ l) ≡ stepLine (variables n) d (pos k) (pos (literalCount (step n d))) ++ report.stepLines (variables (step n d)) (pos (literalCount (step n d))) l =
     lines-first (variables n) (pos (literalCount n)) (made n d) l
-    ∙ ap₂ (λ y z. stepLine (variables n) d y z ++ report.linesOf (suc (variables n)) z l) (f .0 .is) c
-    ∙ ap (λ v. stepLine (variables n) d (pos k) (pos (literalCount (step n d))) ++ report.linesOf v (pos (literalCount (step n d))) l) (sym (step-variables n d)) in
+    ∙ ap₂ (λ y z. stepLine (variables n) d y z ++ report.stepLines (suc (variables n)) z l) (f .0 .is) c
+    ∙ ap (λ v. stepLine (variables n) d (pos k) (pos (literalCount (step n d))) ++ report.stepLines v (pos (literalCount (step n d))) l) (sym (step-variables n d)) in
     omega (
       arith,
       ap length e,
-      length-append (stepLine (variables n) d (pos k) (pos (literalCount (step n d)))) (report.linesOf (variables (step n d)) (pos (literalCount (step n d))) l),
-      step-length (variables n) d k (literalCount (step n d)) (omega arith) (divisor-length n (omega arith) d fit) (omega (arith, f .0 .fits)) (omega (arith, f .1)),
-      leads-length t (step-good n g d (w .best .chosen)) (omega (arith, f .1)),
+      length-append (stepLine (variables n) d (pos k) (pos (literalCount (step n d)))) (report.stepLines (variables (step n d)) (pos (literalCount (step n d))) l),
+      step-length (variables n) d k (literalCount (step n d)) (omega arith) (divisor-length n (omega arith) d (worth-fit g w)) (omega (arith, f .0 .fits)) (omega (arith, f .1)),
+      leads-length t (step-good n g d (worth-fit g w)) (omega (arith, f .1)),
     )
 
 -- ---- the whole report
@@ -110,13 +108,13 @@ stop-length asked = omega arith
 stop-length numbers = omega arith
 stop-length rows = omega arith
 
-run-length : (n a : ℕ) (l : List Made) (e : ℕ) (r : Stop) → a < 100000 → e < 100000 → length (report.linesOf n (pos a) l) ≤ 55 * length l → length l ≤ 64 → length (runText n a l e r) ≤ 4096
+run-length : (n a : ℕ) (l : List Made) (e : ℕ) (r : Stop) → a < 100000 → e < 100000 → length (report.stepLines n (pos a) l) ≤ 55 * length l → length l ≤ 64 → length (runText n a l e r) ≤ 4096
 run-length n a l e r ha he hl hk =
     rw (run-start n a l e r)
     (omega (
       arith,
-      length-append (field startWord a) (lineEnd ++ (report.linesOf n (pos a) l ++ (field endWord e ++ stopText r))),
-      length-append (report.linesOf n (pos a) l) (field endWord e ++ stopText r),
+      length-append (field startWord a) (lineEnd ++ (report.stepLines n (pos a) l ++ (field endWord e ++ stopText r))),
+      length-append (report.stepLines n (pos a) l) (field endWord e ++ stopText r),
       length-append (field endWord e) (stopText r),
       decimal-length 4 a ha,
       decimal-length 4 e he,
@@ -129,8 +127,8 @@ run-length n a l e r ha he hl hk =
 pub ran-length : (n : Net) → Good n → Within n → length (ranText n (run 64 n)) ≤ 4096
 unfolding ranText
 ran-length n g w =
-    let o : report.linesOf (variables (inOrder n)) (pos (literalCount (inOrder n))) (run 64 n .steps) ≡ report.linesOf (variables n) (pos (literalCount n)) (run 64 n .steps) =
-    ap₂ (λ v c. report.linesOf v (pos c) (run 64 n .steps)) (in-order-variables n) (in-order-literals n) in
+    let o : report.stepLines (variables (inOrder n)) (pos (literalCount (inOrder n))) (run 64 n .steps) ≡ report.stepLines (variables n) (pos (literalCount n)) (run 64 n .steps) =
+    ap₂ (λ v c. report.stepLines v (pos c) (run 64 n .steps)) (in-order-variables n) (in-order-literals n) in
     run-length (variables n) (literalCount n) (run 64 n .steps) (literalCount (run 64 n .network)) (run 64 n .stop) (omega (arith, w .literals)) (omega (arith, run-within 64 n g w .literals))
     (omega (arith, ap length o, leads-length (run-leads 64 n) (in-order-good n g) (omega (arith, in-order-literals n, w .literals))))
     (run-few 64 n)

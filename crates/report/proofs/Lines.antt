@@ -10,13 +10,13 @@ use Rattle.sets.proofs.Places.{drop-next}
 use Rattle.letters.specs.Letters.{decimal, literalText, cubeText}
 use Rattle.extraction.specs.Divisor.{Divisor, pair, sum}
 use Rattle.extraction.specs.Run.{Stop, done, asked, numbers, rows, Made}
-use Rattle.choice.specs.Choice.{madeOf, noStep}
-use Rattle.choice.specs.declared.Step.{Step}
+use Rattle.divisor.specs.Divisor.{madeOf, noStep}
+use Rattle.divisor.specs.declared.Step.{Step}
 use Rattle.extract.specs.Answers.{stopOf}
 use Rattle.table.specs.declared.Answer.the-variants.{Read, Refused}
 use Rattle.report.specs.Parts.{madeIn, runOf, unlessRefused, foundText}
 use Rattle.report.specs.declared.Findings.{Findings}
-use Rattle.report.specs.Report.{divisorText, integer, stepLine, linesOf, stopText, runText, refusalText}
+use Rattle.report.specs.Report.{divisorText, integer, stepLine, stepLines, stopText, runText, refusalText}
 
 -- a word and a number after it
 abbrev pub field : List ℕ → ℕ → List ℕ
@@ -68,22 +68,22 @@ pub step-start : (v : ℕ) (d : Divisor) (w n : ℕ) → stepLine v d (pos w) (p
 unfolding stepLine integer
 step-start v d w n = refl
 
-pub lines-none : (v : ℕ) (c : ℤ) → linesOf v c [] ≡ []
-unfolding linesOf
+pub lines-none : (v : ℕ) (c : ℤ) → stepLines v c [] ≡ []
+unfolding stepLines
 lines-none v c = refl
 
-pub lines-first : (v : ℕ) (c : ℤ) (m : Made) (l : List Made) → linesOf v c (m ∷ l) ≡ stepLine v (m .divisor) (m .weight) (c -ℤ m .weight) ++ linesOf (suc v) (c -ℤ m .weight) l
-unfolding linesOf
+pub lines-first : (v : ℕ) (c : ℤ) (m : Made) (l : List Made) → stepLines v c (m ∷ l) ≡ stepLine v (m .divisor) (m .weight) (c -ℤ m .weight) ++ stepLines (suc v) (c -ℤ m .weight) l
+unfolding stepLines
 lines-first v c m l = refl
 
 -- step i, by the numbers that are printed of it
 pub lines-next : (v i c : ℕ) (m : Made) (l : List Made) {w r : ℕ} → pos w ≡ m .weight → pos r ≡ pos c -ℤ m .weight
-    → linesOf (v + i) (pos c) (m ∷ l) ≡ stepLine (v + i) (m .divisor) (pos w) (pos r) ++ linesOf (v + (i + 1)) (pos r) l
+    → stepLines (v + i) (pos c) (m ∷ l) ≡ stepLine (v + i) (m .divisor) (pos w) (pos r) ++ stepLines (v + (i + 1)) (pos r) l
 lines-next v i c m l {w} {r} e f =
     let k : suc (v + i) ≡ v + (i + 1) = omega arith in
     lines-first (v + i) (pos c) m l
-    ∙ ap₂ (λ y z. stepLine (v + i) (m .divisor) y z ++ linesOf (suc (v + i)) z l) (sym e) (sym f)
-    ∙ ap (λ n. stepLine (v + i) (m .divisor) (pos w) (pos r) ++ linesOf n (pos r) l) k
+    ∙ ap₂ (λ y z. stepLine (v + i) (m .divisor) y z ++ stepLines (suc (v + i)) z l) (sym e) (sym f)
+    ∙ ap (λ n. stepLine (v + i) (m .divisor) (pos w) (pos r) ++ stepLines n (pos r) l) k
 
 -- the steps from i on, of those that are counted
 pub made-next : (s : List Step) (n i : ℕ) → i < n → n ≤ length s → drop i (map madeOf (take n s)) ≡ madeOf (getD s i noStep) ∷ drop (i + 1) (map madeOf (take n s))
@@ -98,7 +98,7 @@ made-next s n i h k =
     getD-map (x ∷ l) zero = refl
     getD-map (x ∷ l) (suc i) = getD-map l i
 
-pub run-start : (n a : ℕ) (l : List Made) (e : ℕ) (r : Stop) → runText n a l e r ≡ field startWord a ++ (lineEnd ++ (linesOf n (pos a) l ++ (field endWord e ++ stopText r)))
+pub run-start : (n a : ℕ) (l : List Made) (e : ℕ) (r : Stop) → runText n a l e r ≡ field startWord a ++ (lineEnd ++ (stepLines n (pos a) l ++ (field endWord e ++ stopText r)))
 unfolding runText
 run-start n a l e r = refl
 
@@ -126,7 +126,7 @@ stop-rows = refl
 
 -- ---- what was found
 
-pub found-start : (f : Findings) → runOf f ≡ field startWord (f .start) ++ (lineEnd ++ (linesOf (f .first) (pos (f .start)) (madeIn (f .steps)) ++ (field endWord (f .end) ++ stopText (stopOf (f .stop)))))
+pub found-start : (f : Findings) → runOf f ≡ field startWord (f .start) ++ (lineEnd ++ (stepLines (f .first) (pos (f .start)) (madeIn (f .steps)) ++ (field endWord (f .end) ++ stopText (stopOf (f .stop)))))
 unfolding runOf
 found-start f = run-start _ _ _ _ _
 

@@ -7,7 +7,7 @@ use lib.ListN.{take}
 use Rattle.network.specs.Held.{netOf, mostVariables}
 use Rattle.network.specs.declared.Network.{Network}
 use Rattle.extraction.specs.Run.{Made, run}
-use Rattle.choice.specs.Choice.{madeOf}
+use Rattle.divisor.specs.Divisor.{madeOf}
 use Rattle.extract.specs.Answers.{stopOf}
 use Rattle.extract.specs.declared.Steps.{Steps}
 use Rattle.table.specs.declared.Answer.{Answer}

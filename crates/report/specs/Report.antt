@@ -24,9 +24,9 @@ stepLine v d weight now =
     120 ∷ (decimal v ++ (32 ∷ 61 ∷ 32 ∷ (divisorText d ++ (32 ∷ 119 ∷ 101 ∷ 105 ∷ 103 ∷ 104 ∷ 116 ∷ 32 ∷ (integer weight ++ (32 ∷ 110 ∷ 111 ∷ 119 ∷ 32 ∷ (integer now ++ (10 ∷ []))))))))
 
 -- the steps in turn: the first makes the variable v, and each takes its weight off the count c before it
-unfoldable pub linesOf : ℕ → ℤ → List Made → List ℕ
-linesOf v c [] = []
-linesOf v c (m ∷ l) = stepLine v (m .divisor) (m .weight) (c -ℤ m .weight) ++ linesOf (suc v) (c -ℤ m .weight) l
+unfoldable pub stepLines : ℕ → ℤ → List Made → List ℕ
+stepLines v c [] = []
+stepLines v c (m ∷ l) = stepLine v (m .divisor) (m .weight) (c -ℤ m .weight) ++ stepLines (suc v) (c -ℤ m .weight) l
 
 -- ` done`, ` asked`, ` numbers`, ` rows`
 unfoldable pub stopText : Stop → List ℕ
@@ -38,7 +38,7 @@ stopText rows = 32 ∷ 114 ∷ 111 ∷ 119 ∷ 115 ∷ 10 ∷ []
 -- `start 8`, the steps, `end 6 done`
 unfoldable pub runText : ℕ → ℕ → List Made → ℕ → Stop → List ℕ
 runText first start steps end stop =
-    115 ∷ 116 ∷ 97 ∷ 114 ∷ 116 ∷ 32 ∷ (decimal start ++ (10 ∷ (linesOf first (pos start) steps ++ (101 ∷ 110 ∷ 100 ∷ 32 ∷ (decimal end ++ stopText stop)))))
+    115 ∷ 116 ∷ 97 ∷ 114 ∷ 116 ∷ 32 ∷ (decimal start ++ (10 ∷ (stepLines first (pos start) steps ++ (101 ∷ 110 ∷ 100 ∷ 32 ∷ (decimal end ++ stopText stop)))))
 
 -- `refused 2 at line 3`
 unfoldable pub refusalText : ℕ → ℕ → List ℕ

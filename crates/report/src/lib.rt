@@ -1,7 +1,7 @@
 // The report on a table text: the literal count at the start, a line for each step, the count at the end and the stop reason; or the refusal.
-use choice::Divisor;
-use choice::Step;
 use cube::Literal;
+use divisor::Divisor;
+use divisor::Step;
 use extract::Steps;
 use extract::Stop;
 use network::Network;
@@ -16,10 +16,10 @@ ghost use lib.Signed.{_≤ℤ_};
 ghost use lib.ListN.{length};
 ghost use Rattle.letters.specs.Letters.{decimal};
 ghost use Rattle.letters.specs.Laid.{Countable, Laid};
-ghost use Rattle.choice.specs.Choice.{divisorOf};
+ghost use Rattle.divisor.specs.Divisor.{divisorOf};
 ghost use Rattle.network.specs.Held.{rules};
 ghost use Rattle.extract.specs.Answers.{stopOf};
-ghost use Rattle.report.specs.Report.{divisorText, stepLine, linesOf, stopText, refusalText, reportOf};
+ghost use Rattle.report.specs.Report.{divisorText, stepLine, stepLines, stopText, refusalText, reportOf};
 ghost use Rattle.report.specs.Parts.{Off, Falls, Numbered, madeIn, runOf, foundText, Steady, Explored};
 ghost use Rattle.report.specs.Answers.{Told};
 
@@ -102,8 +102,8 @@ fn put_step(o: &mut [u8], at: usize, v: u64, d: Divisor, weight: u64, left: u64)
 
 // The lines of all steps, from a number and a count on.
 fn put_steps(o: &mut [u8], at: usize, v: u64, count: u64, steps: Steps) -> usize
-    requires { ⌜ Numbered v steps × Falls count (madeIn steps) × Countable at (linesOf v (pos count) (madeIn steps)) ⌝ }
-    ensures { λ r. ⌜ Laid (now (o .entry)) (now (o .exit)) at r (linesOf v (pos count) (madeIn steps)) ⌝ }
+    requires { ⌜ Numbered v steps × Falls count (madeIn steps) × Countable at (stepLines v (pos count) (madeIn steps)) ⌝ }
+    ensures { λ r. ⌜ Laid (now (o .entry)) (now (o .exit)) at r (stepLines v (pos count) (madeIn steps)) ⌝ }
 {
     let n = steps.count;
     let list = steps.list;

@@ -1,14 +1,13 @@
 // Requests for runs. As in wire, safety and an end are all that is promised here.
-use choice::Divisor;
-use choice::Step;
 use cube::Cube;
 use cube::Found;
 use cube::Literal;
+use divisor::Divisor;
+use divisor::Step;
 use extract::Answer;
 use extract::Steps;
 use extract::Stop;
 use network::Network;
-use wire::Groups;
 
 // The second literal of a part that has two, after `.`.
 fn put_second(out: &mut [u8], n: usize, c: Cube, l: u32) -> usize {
@@ -20,7 +19,7 @@ fn put_second(out: &mut [u8], n: usize, c: Cube, l: u32) -> usize {
         return n;
     };
     let at = wire::put(out, n, b'.');
-    wire::put_hex(out, at, m.0 as u64)
+    wire::put_hex(out, at, m.0 as u64, 1)
 }
 
 // A part of one or two literals.
@@ -89,7 +88,8 @@ fn put_stop(out: &mut [u8], n: usize, s: Stop) -> usize {
     }
 }
 
-fn put_run(out: &mut [u8], n: Network, steps: u64) -> usize {
+// `extract STEPS ; NET`
+pub fn on_extract(n: Network, steps: u64, out: &mut [u8]) -> usize {
     let r = extract::run(n, steps);
     let answer = r.answer;
     match answer {
@@ -103,14 +103,4 @@ fn put_run(out: &mut [u8], n: Network, steps: u64) -> usize {
         }
         Answer::Refused(k) => wire::put_refused(out, k, 0),
     }
-}
-
-// `extract STEPS ; NET`
-pub fn on_extract(line: &[u8], g: Groups, steps: u64, out: &mut [u8]) -> usize {
-    let got = nets::read_net(line, g);
-    if !got.ok {
-        return wire::put_none(out);
-    }
-    let n = got.network;
-    put_run(out, n, steps)
 }

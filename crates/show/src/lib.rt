@@ -2,6 +2,11 @@
 use libc::STDERR_FILENO;
 use network::Network;
 use network::Number;
+use std::num;
+ghost use mathlib.Core.Bool.{cond};
+ghost use mathlib.Core.Path.{_≡_};
+ghost use Rattle.network.specs.Net.{literalCount};
+ghost use Rattle.network.specs.Held.{netOf, rules};
 
 // Room for a line: a factored text, and what stands beside it.
 const LINE: usize = 266240;
@@ -15,7 +20,7 @@ enum Setting {
 
 // The columns of a name.
 fn name_width(n: Network) -> usize {
-    if node::sum(n.inputs, n.divisors) > 10 {
+    if num::wrapping_add_usize(n.inputs, n.divisors) > 10 {
         return 3;
     }
     if n.outputs > 10 {
@@ -29,8 +34,10 @@ fn put_count(out: &mut [u8], at: usize, word: &[u8], x: u64) -> usize {
     line::put_decimal(out, next, x)
 }
 
-// The literals of the network, which keeps the rules.
-pub fn literals(n: Network) -> u64 {
+// The literals of the network; 0 where it breaks a rule.
+pub fn literals(n: Network) -> u64
+    ensures { λ r. ⌜ r ≡ cond (rules n) (literalCount (netOf n)) 0 ⌝ }
+{
     let a = network::literals(n);
     match a {
         Number::Is(x) => x,
@@ -61,9 +68,9 @@ fn print_divisors(n: Network, out: &mut [u8]) {
     while i < n.divisors {
         print_node(
             n,
-            node::sum(n.outputs, i),
+            num::wrapping_add_usize(n.outputs, i),
             b'x',
-            node::sum(n.inputs, i),
+            num::wrapping_add_usize(n.inputs, i),
             out,
         );
         i += 1;

@@ -2,7 +2,6 @@
 // image answers is promised by the crates that are called.
 mod help;
 
-use file::Got;
 use libc::STDERR_FILENO;
 use libc::STDOUT_FILENO;
 use network::Network;
@@ -36,14 +35,21 @@ enum Command {
 }
 
 fn without(kind: Kind) -> Loaded {
-    let network = Network {
-        inputs: 0,
-        outputs: 0,
-        divisors: 0,
-        counts: [0; 96],
-        words: [0; 2176],
-    };
+    let network = network::blank();
     Loaded { kind, network }
+}
+
+fn with(network: Network) -> Loaded {
+    Loaded {
+        kind: Kind::Network,
+        network,
+    }
+}
+
+// A refusal, printed.
+fn refused(number: u32, line: u32) -> Loaded {
+    line::refuse(number, line);
+    without(Kind::Nothing)
 }
 
 // ---- tables
@@ -53,21 +59,16 @@ fn extracted(text: &[u8]) -> Loaded {
     let t = table::read(text);
     let answer = t.answer;
     if let table::Answer::Refused(k, l) = answer {
-        line::refuse(k, l);
-        return without(Kind::Nothing);
+        return refused(k, l);
     }
     let read = t.network;
     let r = extract::run(read, STEPS);
     let stop = r.answer;
     if let extract::Answer::Refused(k) = stop {
-        line::refuse(k, 0);
-        return without(Kind::Nothing);
+        return refused(k, 0);
     }
     let network = r.network;
-    Loaded {
-        kind: Kind::Network,
-        network,
-    }
+    with(network)
 }
 
 fn print_report(text: &[u8]) {
@@ -83,15 +84,13 @@ fn print_report(text: &[u8]) {
 fn on_table(path: &[u8]) {
     let mut text = [0u8; TABLE];
     let got = file::read(path, &mut text);
-    let Got::Bytes(n) = got else {
-        return;
-    };
-    if n <= TABLE {
+    let n = got.count;
+    if got.ok {
         print_report(&text[0..n]);
     }
 }
 
-// `orchards.image: 120 bytes, 80 literals`
+// `orchards.image: 164 bytes, 80 literals`
 fn print_written(path: &[u8], bytes: usize, literals: u64) {
     io::write_all(STDOUT_FILENO, path);
     io::write_all(STDOUT_FILENO, b": ");
@@ -123,12 +122,10 @@ fn write_image(n: Network, path: &[u8]) {
 fn on_image(table: &[u8], path: &[u8]) {
     let mut text = [0u8; TABLE];
     let got = file::read(table, &mut text);
-    let Got::Bytes(n) = got else {
-        return;
-    };
-    if n > TABLE {
+    if !got.ok {
         return;
     }
+    let n = got.count;
     let l = extracted(&text[0..n]);
     let kind = l.kind;
     if let Kind::Network = kind {
@@ -155,25 +152,19 @@ fn opened(bytes: &[u8]) -> Loaded {
     let i = reader::read(bytes);
     let answer = i.answer;
     if let reader::Answer::Refused(k) = answer {
-        line::refuse(k, 0);
-        return without(Kind::Nothing);
+        return refused(k, 0);
     }
     let network = i.network;
-    Loaded {
-        kind: Kind::Network,
-        network,
-    }
+    with(network)
 }
 
 // The image of a file; where a table may stand there too, its text, to the front of the room that is lent.
 fn load_into(path: &[u8], is_either: bool, text: &mut [u8], bytes: &mut [u8]) -> Loaded {
     let got = file::read(path, bytes);
-    let Got::Bytes(n) = got else {
-        return without(Kind::Nothing);
-    };
-    if n > bytes.len() {
+    if !got.ok {
         return without(Kind::Nothing);
     }
+    let n = got.count;
     if is_either {
         if !is_image(&bytes[0..n]) {
             let k = wire::put_text(text, 0, &bytes[0..n]);
@@ -235,10 +226,6 @@ fn on_file(c: Command, path: &[u8], setting: &[u8]) {
 
 // ---- words
 
-fn is(word: &[u8], name: &[u8]) -> bool {
-    wire::is_word(word, 0, word.len(), name)
-}
-
 // A table and a file.
 fn with_two() {
     let mut table = io::buffer();
@@ -253,7 +240,7 @@ fn with_two() {
         line::fail(b"FILE");
         return;
     }
-    if is(&table[..n], &path[..k]) {
+    if check::same(&table[..n], &path[..k]) {
         line::complain(&path[..k], b": the image needs a name of its own");
         return;
     }
@@ -276,21 +263,21 @@ fn with_file(c: Command) {
 // How many words a command has, and which it is.
 fn on_words(word: &[u8], count: usize) {
     if count == 4 {
-        if is(word, b"image") {
+        if check::same(word, b"image") {
             with_two();
             return;
         }
-        if is(word, b"ask") {
+        if check::same(word, b"ask") {
             with_file(Command::Ask);
             return;
         }
     }
     if count == 3 {
-        if is(word, b"show") {
+        if check::same(word, b"show") {
             with_file(Command::Show);
             return;
         }
-        if is(word, b"map") {
+        if check::same(word, b"map") {
             with_file(Command::Map);
             return;
         }
@@ -299,21 +286,21 @@ fn on_words(word: &[u8], count: usize) {
 }
 
 fn is_command(word: &[u8]) -> bool {
-    if is(word, b"image") {
+    if check::same(word, b"image") {
         return true;
     }
-    if is(word, b"show") {
+    if check::same(word, b"show") {
         return true;
     }
-    if is(word, b"ask") {
+    if check::same(word, b"ask") {
         return true;
     }
-    is(word, b"map")
+    check::same(word, b"map")
 }
 
 // One word: help, or a table; a file with the name of a command is written ./show.
 fn on_word(word: &[u8]) {
-    if is(word, b"help") {
+    if check::same(word, b"help") {
         help::help(STDOUT_FILENO);
         return;
     }

@@ -15,14 +15,14 @@ use Rattle.sets.specs.Masks.{packed}
 use Rattle.sets.proofs.Lists.{total-append}
 use Rattle.expression.specs.Words.{cubesOf, Put}
 use Rattle.text.specs.Lines.{CubeLine, cubeLineOf, cubeOf, rowsIn}
-use Rattle.text.specs.Answers.{Told, parsedOf, toldOf, parsing}
+use Rattle.text.specs.Answers.{Entry, parsedOf, entryOf, parsing}
 use Rattle.text.specs.declared.Parsed.{Parsed}
 use Rattle.text.specs.declared.Parsed.the-variants.{Line, Nothing}
 use Rattle.cube.specs.Cube.{lits}
 use Rattle.cube.specs.declared.Cube.{Cube}
 use Rattle.table.specs.Table as table
-use Rattle.table.specs.Meaning.{Good}
-use Rattle.table.specs.Parts.{marked, Stands, withLine}
+use Rattle.table.specs.Meaning.{Bounded}
+use Rattle.table.specs.Parts.{marked, Stands}
 use Rattle.table.specs.declared.State.{State}
 use Rattle.table.proofs.Standing.{wide-none, tall-none, wide-some, tall-some, wide-most, tall-most}
 
@@ -51,7 +51,7 @@ module _ {t : table.State} {s : State} {words marks : List ℕ} (h : Stands t s 
 
   -- a line that makes no row
   pub stands-plain : (rows : ℕ) → rows ≡ rowsIn l → rows ≡ 0
-      → Stands (withLine t l) (record { inputs = s .inputs; outputs = s .outputs; stated = s .stated; lines = s .lines + 1; rows = s .rows + rows; kept = s .kept }) words marks
+      → Stands (table.withLine t l) (record { inputs = s .inputs; outputs = s .outputs; stated = s .stated; lines = s .lines + 1; rows = s .rows + rows; kept = s .kept }) words marks
   stands-plain rows e z =
       let m = plain (sym e ∙ z) in
       record {
@@ -68,7 +68,7 @@ module _ {t : table.State} {s : State} {words marks : List ℕ} (h : Stands t s 
   -- one that makes some
   pub stands-kept : {words' : List ℕ} {cube : List ℕ} (rows mask : ℕ) → rows ≡ rowsIn l → (rows ≡ 0 → ⊥) → s .kept < length (cubesOf words) → s .kept < length marks
       → cube ≡ cubeOf l → mask ≡ packed (l .marks) → Put words words' (s .kept) cube
-      → Stands (withLine t l) (record { inputs = s .inputs; outputs = s .outputs; stated = s .stated; lines = s .lines + 1; rows = s .rows + rows; kept = s .kept + 1 }) words' (set marks (s .kept) mask)
+      → Stands (table.withLine t l) (record { inputs = s .inputs; outputs = s .outputs; stated = s .stated; lines = s .lines + 1; rows = s .rows + rows; kept = s .kept + 1 }) words' (set marks (s .kept) mask)
   stands-kept {words'} {cube} rows mask e f a b c k p =
       let m = more (λ z. f (e ∙ z)) in
       record {
@@ -92,7 +92,7 @@ module _ {t : table.State} {s : State} {words marks : List ℕ} (h : Stands t s 
 
 -- ---- what the reading of a cube line says
 
-told-none : (o : Option CubeLine) → none ≡ toldOf o → o ≡ none
+told-none : (o : Option CubeLine) → none ≡ entryOf o → o ≡ none
 told-none none e = refl
 told-none (some l) e = let z : _≡_ {A = ℕ} 0 1 = cc in absurd (omega arith)
 
@@ -104,13 +104,13 @@ pub record Behind (o : Option CubeLine) (k : List ℕ) (m r : ℕ) : Type 0 wher
   pub mask : m ≡ packed (line .marks)
   pub rows : r ≡ rowsIn line
 
-told-some : (o : Option CubeLine) (k : List ℕ) (m r : ℕ) → some (record { cube = k; marks = m; rows = r }) ≡ toldOf o → Behind o k m r
+told-some : (o : Option CubeLine) (k : List ℕ) (m r : ℕ) → some (record { cube = k; marks = m; rows = r }) ≡ entryOf o → Behind o k m r
 told-some none k m r e = let z : _≡_ {A = ℕ} 0 1 = cc in absurd (omega arith)
 told-some (some l) k m r e =
-    let q : _≡_ {A = Told} (record { cube = k; marks = m; rows = r }) (record { cube = cubeOf l; marks = packed (l .marks); rows = rowsIn l }) = cc in
-    record { line = l; is = refl; cube = ap (λ (x : Told). x .cube) q; mask = ap (λ (x : Told). x .marks) q; rows = ap (λ (x : Told). x .rows) q }
+    let q : _≡_ {A = Entry} (record { cube = k; marks = m; rows = r }) (record { cube = cubeOf l; marks = packed (l .marks); rows = rowsIn l }) = cc in
+    record { line = l; is = refl; cube = ap (λ (x : Entry). x .cube) q; mask = ap (λ (x : Entry). x .marks) q; rows = ap (λ (x : Entry). x .rows) q }
 
-module _ {t : table.State} {s : State} {words marks : List ℕ} (g : Good t) (h : Stands t s words marks) (c : List ℕ) where
+module _ {t : table.State} {s : State} {words marks : List ℕ} (g : Bounded t) (h : Stands t s words marks) (c : List ℕ) where
   abbrev result : table.Step
   result = table.cubeLine (t .wide) (t .tall) c t
 
@@ -128,7 +128,7 @@ module _ {t : table.State} {s : State} {words marks : List ℕ} (g : Good t) (h 
     cube-there : result ≡ table.addLine (cubeLineOf (s .inputs) (s .outputs) c) t
     cube-there = ap₂ (λ (a b : Option ℕ). table.cubeLine a b c t) (wide-some g h i) (tall-some g h o)
 
-    parsing-there : parsing (s .inputs) (s .outputs) c ≡ toldOf (cubeLineOf (s .inputs) (s .outputs) c)
+    parsing-there : parsing (s .inputs) (s .outputs) c ≡ entryOf (cubeLineOf (s .inputs) (s .outputs) c)
     unfolding parsing
     parsing-there = rw (le-leb (s .inputs) 32 (wide-most g h), le-leb (s .outputs) 32 (tall-most g h))
 
@@ -146,5 +146,5 @@ module _ {t : table.State} {s : State} {words marks : List ℕ} (g : Good t) (h 
       pub cube-over : 1024 - s .rows < r → result ≡ table.refuse 6
       cube-over l = added ∙ rw (lt-leb (total rowsIn (t .lines) + rowsIn (b .line)) 1024 (omega (arith, h .rows, b .rows)))
 
-      pub cube-within : r ≤ 1024 - s .rows → s .rows ≤ 1024 → result ≡ table.next (withLine t (b .line))
+      pub cube-within : r ≤ 1024 - s .rows → s .rows ≤ 1024 → result ≡ table.next (table.withLine t (b .line))
       cube-within l w = added ∙ rw (le-leb (total rowsIn (t .lines) + rowsIn (b .line)) 1024 (omega (arith, h .rows, b .rows)))

@@ -2,8 +2,8 @@
 use Prim.Native.Nat.{ℕ, _+_, _<_}
 use mathlib.Core.Path.{_≡_, refl, sym, ap, ap₂, _∙_, subst}
 use mathlib.Core.Logic.{_⊎_, inl, inr, _↔_}
-use mathlib.Core.Bool.{Bool, true, false, cond}
-use mathlib.Core.List.{List, [], _∷_}
+use mathlib.Core.Bool.{Bool, true, false, cond, _&&_, and-false}
+use mathlib.Core.List.{List}
 use mathlib.Core.Option.{Option, none, some}
 use native.Mathlib.Omega.{arith}
 use lib.Dec.{leb}
@@ -11,38 +11,24 @@ use lib.ListN.{length}
 use borrow.Author.Tests.{leb-false, le-leb, lt-leb, eqb-false, ne-eqb}
 use Rattle.sets.specs.Lists.{total, isNil}
 use Rattle.sets.specs.Sets.{mem}
-use Rattle.sets.proofs.Truth.{clash}
+use Rattle.sets.proofs.Truth.{both, clash}
 use Rattle.network.specs.Held.{mostInputs, mostOutputs, upTo}
 use Rattle.text.specs.Text.{content}
 use Rattle.text.specs.Lines.{CubeLine, cubeLineOf, rowsIn, kindOf}
 use Rattle.text.specs.declared.Kind.{Kind}
 use Rattle.text.specs.declared.Kind.the-variants.{Empty, Inputs, Outputs, Products, End, Other}
-use Rattle.table.specs.Table.{State, Step, next, done, refuse, inTime, missing, agrees, setWide, setTall, setStated, finish, addLine, cubeLine, byKind, readLine, mostProducts, mostRows}
+use Rattle.table.specs.Table.{State, Step, next, done, refuse, inTime, missing, rightCount, withLine, numberLine, setWide, setTall, setStated, finish, addLine, cubeLine, byKind, readLine, mostProducts, mostRows}
 use Rattle.table.specs.Meaning.{isLine, Late, Early, Closes, Refuses, lateInputs, lateOutputs, lateProducts, earlyEnd, earlyCube, noKind, outInputs, outOutputs, outProducts, differs, over}
-use Rattle.table.specs.Parts.{withLine}
 
 -- ---- in time or late, in range or out of it
 
-late-out : (o : Option ℕ) (l : List CubeLine) → inTime o l ≡ false → Late o l
-late-out none [] h = clash refl h
-late-out none (c ∷ l) h = inr refl
-late-out (some n) l h = inl refl
+late-out : (a b : Bool) → (a && b) ≡ false → (a ≡ false) ⊎ (b ≡ false)
+late-out false b h = inl refl
+late-out true b h = inr h
 
-late-in : (o : Option ℕ) (l : List CubeLine) → Late o l → inTime o l ≡ false
-late-in none [] (inl h) = clash refl h
-late-in none [] (inr h) = clash refl h
-late-in none (c ∷ l) h = refl
-late-in (some n) l h = refl
-
-time-out : (o : Option ℕ) (l : List CubeLine) → inTime o l ≡ true → (missing o ≡ true) × (isNil l ≡ true)
-time-out none [] h = (refl, refl)
-time-out none (c ∷ l) h = clash h refl
-time-out (some n) l h = clash h refl
-
-time-in : (o : Option ℕ) (l : List CubeLine) → missing o ≡ true → isNil l ≡ true → inTime o l ≡ true
-time-in none [] a b = refl
-time-in none (c ∷ l) a b = clash b refl
-time-in (some n) l a b = clash a refl
+late-in : (a b : Bool) → (a ≡ false) ⊎ (b ≡ false) → (a && b) ≡ false
+late-in a b (inl h) = rw h
+late-in a b (inr h) = rw h (and-false a)
 
 range-out : (most n : ℕ) → upTo most n ≡ false → (n ≡ 0) ⊎ (most < n)
 range-out most n h = go (leb 1 n) (leb n most) refl refl
@@ -59,26 +45,26 @@ range-in most n (inr h) = rw (le-leb 1 n (omega arith), lt-leb n most h)
 -- ---- the step of each kind of line
 
 -- a number: 2 where it is late, 3 where it is out of range
-set-out : (a b : Bool) (t : State) (r : ℕ) → cond a (cond b (next t) (refuse 3)) (refuse 2) ≡ refuse r → ((a ≡ false) × (r ≡ 2)) ⊎ ((a ≡ true) × (b ≡ false) × (r ≡ 3))
+set-out : (a b : Bool) (t : State) (r : ℕ) → numberLine a b t ≡ refuse r → ((a ≡ false) × (r ≡ 2)) ⊎ ((a ≡ true) × (b ≡ false) × (r ≡ 3))
 set-out true true t r e = let z : _≡_ {A = ℕ} 0 1 = cc in absurd (omega arith)
 set-out true false t r e = let z : 3 ≡ r = cc in inr (refl, refl, sym z)
 set-out false b t r e = let z : 2 ≡ r = cc in inl (refl, sym z)
 
-set-going : (a b : Bool) (t u : State) → cond a (cond b (next t) (refuse 3)) (refuse 2) ≡ done u → ⊥
+set-going : (a b : Bool) (t u : State) → numberLine a b t ≡ done u → ⊥
 set-going true true t u e = let z : _≡_ {A = ℕ} 0 1 = cc in omega arith
 set-going true false t u e = let z : _≡_ {A = ℕ} 0 1 = cc in omega arith
 set-going false b t u e = let z : _≡_ {A = ℕ} 0 1 = cc in omega arith
 
-differ-out : (o : Option ℕ) (l : List CubeLine) → agrees o l ≡ false → (p : ℕ) × (o ≡ some p) × (p ≡ length l → ⊥)
+differ-out : (o : Option ℕ) (l : List CubeLine) → rightCount o l ≡ false → (p : ℕ) × (o ≡ some p) × (p ≡ length l → ⊥)
 differ-out none l h = clash refl h
 differ-out (some p) l h = (p, refl, eqb-false p (length l) h)
 
 module _ (s : State) (c : List ℕ) where
   finish-out : kindOf c ≡ End → (r : ℕ) → finish s ≡ refuse r → Refuses s c r
   unfolding finish
-  finish-out k r e = go (missing (s .wide)) (missing (s .tall)) (agrees (s .stated) (s .lines)) refl refl refl e
+  finish-out k r e = go (missing (s .wide)) (missing (s .tall)) (rightCount (s .stated) (s .lines)) refl refl refl e
     where
-      go : (a b d : Bool) → missing (s .wide) ≡ a → missing (s .tall) ≡ b → agrees (s .stated) (s .lines) ≡ d → cond a (refuse 2) (cond b (refuse 2) (cond d (done s) (refuse 4))) ≡ refuse r → Refuses s c r
+      go : (a b d : Bool) → missing (s .wide) ≡ a → missing (s .tall) ≡ b → rightCount (s .stated) (s .lines) ≡ d → cond a (refuse 2) (cond b (refuse 2) (cond d (done s) (refuse 4))) ≡ refuse r → Refuses s c r
       go true b d p q x y = let z : 2 ≡ r = cc in subst (Refuses s c) z (earlyEnd k (inl p))
       go false true d p q x y = let z : 2 ≡ r = cc in subst (Refuses s c) z (earlyEnd k (inr q))
       go false false true p q x y = let z : _≡_ {A = ℕ} 0 1 = cc in absurd (omega arith)
@@ -86,9 +72,9 @@ module _ (s : State) (c : List ℕ) where
 
   finish-done : kindOf c ≡ End → (t : State) → finish s ≡ done t → (t ≡ s) × Closes s c
   unfolding finish
-  finish-done k t e = go (missing (s .wide)) (missing (s .tall)) (agrees (s .stated) (s .lines)) refl refl refl e
+  finish-done k t e = go (missing (s .wide)) (missing (s .tall)) (rightCount (s .stated) (s .lines)) refl refl refl e
     where
-      go : (a b d : Bool) → missing (s .wide) ≡ a → missing (s .tall) ≡ b → agrees (s .stated) (s .lines) ≡ d → cond a (refuse 2) (cond b (refuse 2) (cond d (done s) (refuse 4))) ≡ done t → (t ≡ s) × Closes s c
+      go : (a b d : Bool) → missing (s .wide) ≡ a → missing (s .tall) ≡ b → rightCount (s .stated) (s .lines) ≡ d → cond a (refuse 2) (cond b (refuse 2) (cond d (done s) (refuse 4))) ≡ done t → (t ≡ s) × Closes s c
       go true b d p q x y = let z : _≡_ {A = ℕ} 0 1 = cc in absurd (omega arith)
       go false true d p q x y = let z : _≡_ {A = ℕ} 0 1 = cc in absurd (omega arith)
       go false false true p q x y = let z : s ≡ t = cc in (sym z, record { kind = k; wide = p; tall = q; stated = x })
@@ -125,8 +111,8 @@ module _ (s : State) (c : List ℕ) where
 
   late-or : (o : Option ℕ) (b : Bool) (r : ℕ) → ((inTime o (s .lines) ≡ false) × (r ≡ 2)) ⊎ ((inTime o (s .lines) ≡ true) × (b ≡ false) × (r ≡ 3))
       → (Late o (s .lines) → Refuses s c 2) → (missing o ≡ true → isNil (s .lines) ≡ true → b ≡ false → Refuses s c 3) → Refuses s c r
-  late-or o b r (inl (h, e)) f g = subst (Refuses s c) (sym e) (f (late-out o (s .lines) h))
-  late-or o b r (inr (h, k, e)) f g = let t = time-out o (s .lines) h in subst (Refuses s c) (sym e) (g (t .0) (t .1) k)
+  late-or o b r (inl (h, e)) f g = subst (Refuses s c) (sym e) (f (late-out (missing o) (isNil (s .lines)) h))
+  late-or o b r (inr (h, k, e)) f g = let t = both (missing o) (isNil (s .lines)) h in subst (Refuses s c) (sym e) (g (t .0) (t .1) k)
 
   kind-out : (k : Kind) → kindOf c ≡ k → (r : ℕ) → byKind k c s ≡ refuse r → Refuses s c r
   unfolding setWide setTall setStated
@@ -156,7 +142,7 @@ module _ (s : State) (c : List ℕ) where
   early (inl h) = rw h
   early (inr h) = go (missing (s .wide))
     where
-      go : (b : Bool) → cond b (refuse 2) (cond (missing (s .tall)) (refuse 2) (cond (agrees (s .stated) (s .lines)) (done s) (refuse 4))) ≡ refuse 2
+      go : (b : Bool) → cond b (refuse 2) (cond (missing (s .tall)) (refuse 2) (cond (rightCount (s .stated) (s .lines)) (done s) (refuse 4))) ≡ refuse 2
       go true = refl
       go false = rw h
 
@@ -177,15 +163,15 @@ module _ (s : State) (c : List ℕ) where
 
   kind-back : {r : ℕ} → Refuses s c r → byKind (kindOf c) c s ≡ refuse r
   unfolding setWide setTall setStated finish
-  kind-back (lateInputs n k h) = of-kind k (rw (late-in (s .wide) (s .lines) h))
-  kind-back (lateOutputs n k h) = of-kind k (rw (late-in (s .tall) (s .lines) h))
-  kind-back (lateProducts n k h) = of-kind k (rw (late-in (s .stated) (s .lines) h))
+  kind-back (lateInputs n k h) = of-kind k (rw (late-in (missing (s .wide)) (isNil (s .lines)) h))
+  kind-back (lateOutputs n k h) = of-kind k (rw (late-in (missing (s .tall)) (isNil (s .lines)) h))
+  kind-back (lateProducts n k h) = of-kind k (rw (late-in (missing (s .stated)) (isNil (s .lines)) h))
   kind-back (earlyEnd k h) = of-kind k (early h)
   kind-back (earlyCube k h) = of-kind k (early-cube h)
   kind-back (noKind n m k p q x) = of-kind k (cube-at n m none p q x)
-  kind-back (outInputs n k h) = of-kind k (rw (time-in (s .wide) (s .lines) (h .new) (h .first), range-in mostInputs n (h .range)))
-  kind-back (outOutputs n k h) = of-kind k (rw (time-in (s .tall) (s .lines) (h .new) (h .first), range-in mostOutputs n (h .range)))
-  kind-back (outProducts n k a b h) = of-kind k (rw (time-in (s .stated) (s .lines) a b, lt-leb n mostProducts h))
+  kind-back (outInputs n k h) = of-kind k (rw (h .new, h .first, range-in mostInputs n (h .range)))
+  kind-back (outOutputs n k h) = of-kind k (rw (h .new, h .first, range-in mostOutputs n (h .range)))
+  kind-back (outProducts n k a b h) = of-kind k (rw (a, b, lt-leb n mostProducts h))
   kind-back (differs p k a b e f) = of-kind k (rw (a, b, e, ne-eqb p (length (s .lines)) f))
   kind-back (over n m l k p q x h) = of-kind k (cube-at n m (some l) p q x ∙ rw (lt-leb (total rowsIn (s .lines) + rowsIn l) mostRows h))
 

@@ -14,7 +14,7 @@ use Rattle.sets.proofs.Truth.{both, clash}
 use Rattle.network.specs.Held.{mostInputs, mostOutputs}
 use Rattle.text.specs.Text.{linesOf, content}
 use Rattle.table.specs.Table.{State, start, Step, next, done, refuse, missing, readLine, Outcome, accepted, refused, readLines, readText, orZero, mostBytes}
-use Rattle.table.specs.Meaning.{Shaped, within, Good, Sound, isLine, Complete, Read, nothing, line, Closes, Ended, whole, stopped, short}
+use Rattle.table.specs.Meaning.{Shaped, within, Bounded, SoundStep, isLine, Complete, Read, nothing, line, Closes, Ended, whole, stopped, short}
 use Rattle.table.proofs.Turns.{line-turn}
 use Rattle.table.proofs.Reasons.{done-iff, refuse-iff, refuses-line}
 
@@ -73,13 +73,13 @@ ended-lines k (stopped a l b {t = t} {r = q} r d) = reads-on k a (l ∷ b) r ∙
 ended-lines k {s = s} (short a {t = t} r) = ap (λ (z : List (List ℕ)). readLines k z s) (sym (append-nil a)) ∙ reads-on k a [] r ∙ lines-end (k + length a) t
 
 -- what holds after each line holds after them all
-read-good : {s t : State} {ls : List (List ℕ)} → Read s ls t → Good s → Good t
+read-good : {s t : State} {ls : List (List ℕ)} → Read s ls t → Bounded s → Bounded t
 read-good nothing g = g
-read-good (line {s = s} {l = l} e r) g = read-good r (subst (Sound s) e (line-turn s g l) .0)
+read-good (line {s = s} {l = l} e r) g = read-good r (subst (SoundStep s) e (line-turn s g l) .0)
 
 -- ---- a whole text
 
-pub start-good : Good start
+pub start-good : Bounded start
 start-good = record { wide = refl; tall = refl; rows = omega arith; shaped = λ l m. absurd (List·Memᴰ·not-nil m) }
 
 pub text-long : (t : List ℕ) → mostBytes < length t → readText t ≡ refused 1 0
@@ -100,7 +100,7 @@ there most none e h = clash refl e
 there most (some n) e h = let q = both (leb 1 n) (leb n most) h in (n, refl, leb-true 1 n (q .0), leb-true n most (q .1))
 
 -- the last line finds nothing missing
-done-complete : (c : List ℕ) (s : State) → Good s → Closes s c → (n : ℕ) × (m : ℕ) × Complete s n m
+done-complete : (c : List ℕ) (s : State) → Bounded s → Closes s c → (n : ℕ) × (m : ℕ) × Complete s n m
 done-complete c s g d =
     let w = there mostInputs (s .wide) (d .wide) (g .wide) in
     let u = there mostOutputs (s .tall) (d .tall) (g .tall) in (
@@ -117,7 +117,7 @@ done-complete c s g d =
       },
     )
 
-ended-complete : {k : ℕ} {s : State} {ls : List (List ℕ)} {o : Outcome} → Good s → Ended k s ls o → (t : State) → o ≡ accepted t → (n : ℕ) × (m : ℕ) × Complete t n m
+ended-complete : {k : ℕ} {s : State} {ls : List (List ℕ)} {o : Outcome} → Bounded s → Ended k s ls o → (t : State) → o ≡ accepted t → (n : ℕ) × (m : ℕ) × Complete t n m
 ended-complete g (whole a l b {t = u} r d) t e = let q : u ≡ t = cc in subst (λ (z : State). (n : ℕ) × (m : ℕ) × Complete z n m) q (done-complete (content l) u (read-good r g) d)
 ended-complete g (stopped a l b r d) t e = let z : _≡_ {A = ℕ} 0 1 = cc in absurd (omega arith)
 ended-complete g (short a r) t e = let z : _≡_ {A = ℕ} 0 1 = cc in absurd (omega arith)

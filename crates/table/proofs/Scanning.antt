@@ -16,8 +16,8 @@ use Rattle.text.specs.Lines.{kindOf}
 use Rattle.text.proofs.Lining.{line-take, line-le, lines-next, lines-last}
 use Rattle.table.specs.Table as table
 use Rattle.table.specs.Table.{start, byKind, readLine, readLines, readText}
-use Rattle.table.specs.Meaning.{Good, Sound}
-use Rattle.table.specs.Parts.{Stands, Stepped, Leaves, Roomy, linesFrom, stoppedAt, Scans}
+use Rattle.table.specs.Meaning.{Bounded, SoundStep}
+use Rattle.table.specs.Parts.{Stands, LineStepped, Leaves, Roomy, linesFrom, stoppedAt, Scans}
 use Rattle.table.specs.declared.State.{State}
 use Rattle.table.specs.declared.Step.{Step}
 use Rattle.table.specs.declared.Step.the-variants.{Next, Done, Refused}
@@ -72,7 +72,7 @@ from-first text = ap (λ (b : Bool). cond b (linesOf text) []) (le-leb 0 (length
 
 pub record Reading (text words marks : List ℕ) (s : State) (line at : ℕ) : Type 0 where
   pub now : table.State
-  pub good : Good now
+  pub good : Bounded now
   pub stands : Stands now s words marks
   pub few : length (now .lines) ≤ at
   pub left : readLines line (linesFrom text at) now ≡ readLines 1 (linesOf text) start
@@ -108,17 +108,17 @@ module _ {text words marks : List ℕ} {s : State} {line at : ℕ} (r : Reading 
   -- the next line
   module _ {c : List ℕ} (words' marks' : List ℕ) {e : ℕ} (p : Step) (h : at ≤ length text) (q : e ≡ at + length (lineOf (drop at text))) (k : c ≡ content (take (e - at) (drop at text)))
       (f : Leaves (byKind (kindOf c) c) s p words marks words' marks') where
-    turn : Stepped (readLine here (r .now)) p words' marks'
+    turn : LineStepped (readLine here (r .now)) p words' marks'
     unfolding readLine
-    turn = subst (λ (l : List ℕ). Stepped (byKind (kindOf l) l (r .now)) p words' marks') (k ∙ ap content (line-part text at h e q)) (f (r .now) (r .good) (r .stands))
+    turn = subst (λ (l : List ℕ). LineStepped (byKind (kindOf l) l (r .now)) p words' marks') (k ∙ ap content (line-part text at h e q)) (f (r .now) (r .good) (r .stands))
 
     whole : readLines line (here ∷ linesFrom text (e + 1)) (r .now) ≡ readLines 1 (linesOf text) start
     whole = ap (λ (l : List (List ℕ)). readLines line l (r .now)) (sym (from-next text at e q h)) ∙ r .left
 
     pub reading-next : (s' : State) → p ≡ Next s' → Reading text words' marks' s' (line + 1) (e + 1)
-    reading-next s' i = go (readLine here (r .now)) refl (subst (λ (z : Step). Stepped (readLine here (r .now)) z words' marks') i turn) (line-turn (r .now) (r .good) here)
+    reading-next s' i = go (readLine here (r .now)) refl (subst (λ (z : Step). LineStepped (readLine here (r .now)) z words' marks') i turn) (line-turn (r .now) (r .good) here)
       where
-        go : (x : table.Step) → readLine here (r .now) ≡ x → Stepped x (Next s') words' marks' → Sound (r .now) x → Reading text words' marks' s' (line + 1) (e + 1)
+        go : (x : table.Step) → readLine here (r .now) ≡ x → LineStepped x (Next s') words' marks' → SoundStep (r .now) x → Reading text words' marks' s' (line + 1) (e + 1)
         go (table.next t) y z w = record {
           now = t;
           good = w .0;
@@ -130,18 +130,18 @@ module _ {text words marks : List ℕ} {s : State} {line at : ℕ} (r : Reading 
         go (table.refuse n) y z w = absurd z
 
     reading-done : (s' : State) → p ≡ Done s' → Scans (readLines 1 (linesOf text) start) (record { answer = answer.Read; state = s' }) words' marks'
-    reading-done s' i = go (readLine here (r .now)) refl (subst (λ (z : Step). Stepped (readLine here (r .now)) z words' marks') i turn)
+    reading-done s' i = go (readLine here (r .now)) refl (subst (λ (z : Step). LineStepped (readLine here (r .now)) z words' marks') i turn)
       where
-        go : (x : table.Step) → readLine here (r .now) ≡ x → Stepped x (Done s') words' marks' → Scans (readLines 1 (linesOf text) start) (record { answer = answer.Read; state = s' }) words' marks'
+        go : (x : table.Step) → readLine here (r .now) ≡ x → LineStepped x (Done s') words' marks' → Scans (readLines 1 (linesOf text) start) (record { answer = answer.Read; state = s' }) words' marks'
         go (table.next t) y z = absurd z
         go (table.done t) y z =
             subst (λ (o : table.Outcome). Scans o (record { answer = answer.Read; state = s' }) words' marks') (sym (lines-done line here (linesFrom text (e + 1)) (r .now) y) ∙ whole) (refl, z)
         go (table.refuse n) y z = absurd z
 
     reading-refuse : (n : ℕ) → p ≡ Refused n → Scans (readLines 1 (linesOf text) start) (record { answer = answer.Refused n line; state = s }) words' marks'
-    reading-refuse n i = go (readLine here (r .now)) refl (subst (λ (z : Step). Stepped (readLine here (r .now)) z words' marks') i turn)
+    reading-refuse n i = go (readLine here (r .now)) refl (subst (λ (z : Step). LineStepped (readLine here (r .now)) z words' marks') i turn)
       where
-        go : (x : table.Step) → readLine here (r .now) ≡ x → Stepped x (Refused n) words' marks' → Scans (readLines 1 (linesOf text) start) (record { answer = answer.Refused n line; state = s }) words' marks'
+        go : (x : table.Step) → readLine here (r .now) ≡ x → LineStepped x (Refused n) words' marks' → Scans (readLines 1 (linesOf text) start) (record { answer = answer.Refused n line; state = s }) words' marks'
         go (table.next t) y z = absurd z
         go (table.done t) y z = absurd z
         go (table.refuse m) y z =

@@ -1,11 +1,7 @@
 -- What reading a table answers.
-use Prim.Native.Nat.{ℕ}
 use mathlib.Core.Path.{_≡_}
-use mathlib.Core.List.{List}
-use Rattle.network.specs.declared.Network.{Network}
 use Rattle.network.specs.Handed.{Holds, Blank}
-use Rattle.table.specs.Table.{Outcome, accepted, refused, readText, tableNet}
-use Rattle.table.specs.declared.Answer.{Answer}
+use Rattle.table.specs.Table.{Outcome, accepted, refused, tableNet}
 use Rattle.table.specs.declared.Answer.the-variants.{Read, Refused}
 use Rattle.table.specs.declared.Table.{Table}
 

@@ -12,7 +12,7 @@ use Rattle.network.specs.Held.{mostInputs, mostOutputs, upTo}
 use Rattle.text.specs.Text.{content}
 use Rattle.text.specs.Lines.{kindOf, CubeLine, isPlace, cubeLineOf, rowsIn}
 use Rattle.text.specs.declared.Kind.the-variants.{Inputs, Outputs, Products, End, Other}
-use Rattle.table.specs.Table.{State, Step, next, done, refuse, readLine, missing, agrees, Outcome, accepted, refused, orZero, mostProducts, mostRows}
+use Rattle.table.specs.Table.{State, Step, next, done, refuse, readLine, missing, rightCount, Outcome, accepted, refused, orZero, mostProducts, mostRows}
 
 -- n places, each one of `0 1 -`, and m marks
 pub record Shaped (n m : ℕ) (l : CubeLine) : Type 0 where
@@ -26,7 +26,7 @@ within most none = true
 within most (some n) = upTo most n
 
 -- what holds after each line
-pub record Good (s : State) : Type 0 where
+pub record Bounded (s : State) : Type 0 where
   pub wide : within mostInputs (s .wide) ≡ true
   pub tall : within mostOutputs (s .tall) ≡ true
   pub rows : total rowsIn (s .lines) ≤ mostRows
@@ -37,10 +37,10 @@ abbrev pub isLine : ℕ → Bool
 isLine k = mem k (2 ∷ 3 ∷ 4 ∷ 6 ∷ [])
 
 -- a line adds one cube line at most; the last leaves what was read, in which nothing is missing; or it has the number of a refusal
-abbrev pub Sound : State → Step → Type 0
-Sound s (next t) = Good t × (length (t .lines) ≤ length (s .lines) + 1)
-Sound s (done t) = (t ≡ s) × (missing (s .wide) ≡ false) × (missing (s .tall) ≡ false) × (agrees (s .stated) (s .lines) ≡ true)
-Sound s (refuse k) = isLine k ≡ true
+abbrev pub SoundStep : State → Step → Type 0
+SoundStep s (next t) = Bounded t × (length (t .lines) ≤ length (s .lines) + 1)
+SoundStep s (done t) = (t ≡ s) × (missing (s .wide) ≡ false) × (missing (s .tall) ≡ false) × (rightCount (s .stated) (s .lines) ≡ true)
+SoundStep s (refuse k) = isLine k ≡ true
 
 -- a table that is accepted: n inputs, m outputs, at most 1,024 rows, every cube line of n places and m marks, and `.p`, if it is there, says how many
 pub record Complete (s : State) (n m : ℕ) : Type 0 where
@@ -48,7 +48,7 @@ pub record Complete (s : State) (n m : ℕ) : Type 0 where
   pub inputs : (1 ≤ n) × (n ≤ mostInputs)
   pub tall : s .tall ≡ some m
   pub outputs : (1 ≤ m) × (m ≤ mostOutputs)
-  pub stated : agrees (s .stated) (s .lines) ≡ true
+  pub stated : rightCount (s .stated) (s .lines) ≡ true
   pub rows : total rowsIn (s .lines) ≤ mostRows
   pub shaped : (l : CubeLine) → List·Memᴰ l (s .lines) → Shaped n m l
 
@@ -78,7 +78,7 @@ pub record Closes (s : State) (c : List ℕ) : Type 0 where
   pub kind : kindOf c ≡ End
   pub wide : missing (s .wide) ≡ false
   pub tall : missing (s .tall) ≡ false
-  pub stated : agrees (s .stated) (s .lines) ≡ true
+  pub stated : rightCount (s .stated) (s .lines) ≡ true
 
 -- the numbers of the refusals of what is left of a line
 pub data Refuses (s : State) (c : List ℕ) : ℕ → Type 0 where

@@ -1,9 +1,9 @@
 -- What the private parts of reading and building hold and leave.
 use Prim.Native.Nat.{ℕ, _+_, _-_, _<_, _≤_}
 use mathlib.Core.Option.{Option, none, some}
-use lib.Dec.{leb, ltb}
+use lib.Dec.{leb, ltb, eqb}
 use mathlib.Core.Path.{_≡_}
-use mathlib.Core.Bool.{cond}
+use mathlib.Core.Bool.{Bool, cond}
 use mathlib.Core.List.{List, [], _∷_, _++_, map}
 use lib.ListN.{length, take, drop, replicate}
 use Rattle.sets.specs.Lists.{keep, total, from}
@@ -14,7 +14,7 @@ use Rattle.network.specs.Net.{Net}
 use Rattle.text.specs.Text.{linesOf}
 use Rattle.text.specs.Lines.{CubeLine, rowsIn, cubeOf}
 use Rattle.table.specs.Table as table
-use Rattle.table.specs.Meaning.{Good}
+use Rattle.table.specs.Meaning.{Bounded}
 use Rattle.table.specs.declared.Answer.the-variants as Answer
 use Rattle.table.specs.declared.Scanned.{Scanned}
 use Rattle.table.specs.declared.State.{State}
@@ -44,20 +44,24 @@ pub record Stands (t : table.State) (s : State) (words marks : List ℕ) : Type 
   pub masks : take (s .kept) marks ≡ map (λ (c : CubeLine). packed (c .marks)) (marked (t .lines))
 
 -- a line goes on, ends the table or is refused
-abbrev pub Stepped : table.Step → Step → List ℕ → List ℕ → Type 0
-Stepped (table.next t) (Next s) words marks = Stands t s words marks
-Stepped (table.next t) (Done s) words marks = ⊥
-Stepped (table.next t) (Refused k) words marks = ⊥
-Stepped (table.done t) (Next s) words marks = ⊥
-Stepped (table.done t) (Done s) words marks = Stands t s words marks
-Stepped (table.done t) (Refused k) words marks = ⊥
-Stepped (table.refuse r) (Next s) words marks = ⊥
-Stepped (table.refuse r) (Done s) words marks = ⊥
-Stepped (table.refuse r) (Refused k) words marks = k ≡ r
+abbrev pub LineStepped : table.Step → Step → List ℕ → List ℕ → Type 0
+LineStepped (table.next t) (Next s) words marks = Stands t s words marks
+LineStepped (table.next t) (Done s) words marks = ⊥
+LineStepped (table.next t) (Refused k) words marks = ⊥
+LineStepped (table.done t) (Next s) words marks = ⊥
+LineStepped (table.done t) (Done s) words marks = Stands t s words marks
+LineStepped (table.done t) (Refused k) words marks = ⊥
+LineStepped (table.refuse r) (Next s) words marks = ⊥
+LineStepped (table.refuse r) (Done s) words marks = ⊥
+LineStepped (table.refuse r) (Refused k) words marks = k ≡ r
 
 -- of whatever was read and now stands so, the answer is what the line does to it, and the words and marks stay
 abbrev pub Answers : (table.State → table.Step) → State → Step → Type 0
-Answers f s r = (t : table.State) (words marks : List ℕ) → Good t → Stands t s words marks → Stepped (f t) r words marks
+Answers f s r = (t : table.State) (words marks : List ℕ) → Bounded t → Stands t s words marks → LineStepped (f t) r words marks
+
+-- of a number that is missing while 0 is held: the answer is what its line does, s being what stands with the number
+abbrev pub Numbers : ℕ → Bool → State → Step → Type 0
+Numbers held fits s r = (o : Option ℕ) (t : table.State) (words marks : List ℕ) → table.missing o ≡ eqb held 0 → Stands t s words marks → LineStepped (table.numberLine (table.inTime o (t .lines)) fits t) r words marks
 
 -- there are 1,024 places for cubes and for masks, and the numbers leave room in them
 pub record Roomy (s : State) (words marks : List ℕ) : Type 0 where
@@ -69,16 +73,12 @@ pub record Roomy (s : State) (words marks : List ℕ) : Type 0 where
 
 -- the same where the words and marks may have changed
 abbrev pub Leaves : (table.State → table.Step) → State → Step → List ℕ → List ℕ → List ℕ → List ℕ → Type 0
-Leaves f s r words marks words' marks' = (t : table.State) → Good t → Stands t s words marks → Stepped (f t) r words' marks'
-
--- one more cube line
-abbrev pub withLine : table.State → CubeLine → table.State
-withLine t l = record { wide = t .wide; tall = t .tall; stated = t .stated; lines = t .lines ++ (l ∷ []) }
+Leaves f s r words marks words' marks' = (t : table.State) → Bounded t → Stands t s words marks → LineStepped (f t) r words' marks'
 
 -- of a cube line with this cube, mask and number of rows the answer stands for one more
 abbrev pub Keeps : State → List ℕ → ℕ → ℕ → State → List ℕ → List ℕ → List ℕ → List ℕ → Type 0
 Keeps s cube mask rows r words marks words' marks' =
-    (t : table.State) (l : CubeLine) → Stands t s words marks → cube ≡ cubeOf l → mask ≡ packed (l .marks) → rows ≡ rowsIn l → Stands (withLine t l) r words' marks'
+    (t : table.State) (l : CubeLine) → Stands t s words marks → cube ≡ cubeOf l → mask ≡ packed (l .marks) → rows ≡ rowsIn l → Stands (table.withLine t l) r words' marks'
 
 -- the lines from a byte on; none past the end
 abbrev pub linesFrom : List ℕ → ℕ → List (List ℕ)

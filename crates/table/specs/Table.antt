@@ -1,11 +1,11 @@
 -- The table that a text holds, or why it is refused; its network.
-use Prim.Native.Nat.{ℕ, zero, suc, _+_}
+use Prim.Native.Nat.{ℕ, suc, _+_}
 use mathlib.Core.Bool.{Bool, true, false, cond, _&&_}
 use mathlib.Core.List.{List, [], _∷_, _++_, map}
 use mathlib.Core.Option.{Option, none, some}
 use lib.Dec.{leb, ltb, eqb}
 use lib.ListN.{length, getD}
-use Rattle.sets.specs.Lists.{keep, total, from}
+use Rattle.sets.specs.Lists.{keep, total, isNil, from}
 use Rattle.expression.specs.Expression.{sort, absorbed}
 use Rattle.network.specs.Net.{Net}
 use Rattle.network.specs.Held.{mostInputs, mostOutputs, upTo}
@@ -39,38 +39,53 @@ missing (some n) = false
 
 -- not yet there, and no cube line before it
 abbrev pub inTime : Option ℕ → List CubeLine → Bool
-inTime none [] = true
-inTime none (c ∷ l) = false
-inTime (some n) l = false
+inTime o l = missing o && isNil l
 
 pub data Step : Type 0 where
   next : State → Step
   done : State → Step
   refuse : ℕ → Step
 
--- `.i N`, `.o N`, `.p N`: 2 where it is repeated or too late, 3 where the number is out of range
+-- what has been read, with a number or a cube line more
+abbrev pub withWide : State → ℕ → State
+withWide s n = record { wide = some n; tall = s .tall; stated = s .stated; lines = s .lines }
+
+abbrev pub withTall : State → ℕ → State
+withTall s n = record { wide = s .wide; tall = some n; stated = s .stated; lines = s .lines }
+
+abbrev pub withStated : State → ℕ → State
+withStated s n = record { wide = s .wide; tall = s .tall; stated = some n; lines = s .lines }
+
+abbrev pub withLine : State → CubeLine → State
+withLine s l = record { wide = s .wide; tall = s .tall; stated = s .stated; lines = s .lines ++ (l ∷ []) }
+
+-- a number's line: 2 where it is repeated or too late, 3 where the number is out of range
+abbrev pub numberLine : Bool → Bool → State → Step
+numberLine timely fits s = cond timely (cond fits (next s) (refuse 3)) (refuse 2)
+
+-- `.i N`, `.o N`, `.p N`
 unfoldable pub setWide : ℕ → State → Step
-setWide n s = cond (inTime (s .wide) (s .lines)) (cond (upTo mostInputs n) (next (record { wide = some n; tall = s .tall; stated = s .stated; lines = s .lines })) (refuse 3)) (refuse 2)
+setWide n s = numberLine (inTime (s .wide) (s .lines)) (upTo mostInputs n) (withWide s n)
 
 unfoldable pub setTall : ℕ → State → Step
-setTall n s = cond (inTime (s .tall) (s .lines)) (cond (upTo mostOutputs n) (next (record { wide = s .wide; tall = some n; stated = s .stated; lines = s .lines })) (refuse 3)) (refuse 2)
+setTall n s = numberLine (inTime (s .tall) (s .lines)) (upTo mostOutputs n) (withTall s n)
 
 unfoldable pub setStated : ℕ → State → Step
-setStated n s = cond (inTime (s .stated) (s .lines)) (cond (leb n mostProducts) (next (record { wide = s .wide; tall = s .tall; stated = some n; lines = s .lines })) (refuse 3)) (refuse 2)
+setStated n s = numberLine (inTime (s .stated) (s .lines)) (leb n mostProducts) (withStated s n)
 
 -- `.p` is the number of cube lines read, where it is there
-abbrev pub agrees : Option ℕ → List CubeLine → Bool
-agrees none l = true
-agrees (some p) l = eqb p (length l)
+abbrev pub rightCount : Option ℕ → List CubeLine → Bool
+rightCount none l = true
+rightCount (some p) l = eqb p (length l)
 
 -- `.e`: 2 while `.i` or `.o` is missing, 4 where `.p` differs
 unfoldable pub finish : State → Step
-finish s = cond (missing (s .wide)) (refuse 2) (cond (missing (s .tall)) (refuse 2) (cond (agrees (s .stated) (s .lines)) (done s) (refuse 4)))
+finish s = cond (missing (s .wide)) (refuse 2) (cond (missing (s .tall)) (refuse 2) (cond (rightCount (s .stated) (s .lines)) (done s) (refuse 4)))
 
 -- a cube line more: 6 where its rows pass 1,024, before any is dropped
 abbrev pub addLine : Option CubeLine → State → Step
 addLine none s = refuse 2
-addLine (some l) s = cond (leb (total rowsIn (s .lines) + rowsIn l) mostRows) (next (record { wide = s .wide; tall = s .tall; stated = s .stated; lines = s .lines ++ (l ∷ []) })) (refuse 6)
+addLine (some l) s = cond (leb (total rowsIn (s .lines) + rowsIn l) mostRows) (next (withLine s l)) (refuse 6)
 
 -- a cube line: 2 while `.i` or `.o` is missing, or where it is none
 abbrev pub cubeLine : Option ℕ → Option ℕ → List ℕ → State → Step

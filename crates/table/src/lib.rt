@@ -4,8 +4,10 @@ use network::Network;
 use text::Kind;
 use text::Parsed;
 ghost use mathlib.Core.Path.{_≡_};
+ghost use mathlib.Core.Bool.{_&&_};
 ghost use mathlib.Core.List.{[]};
 ghost use Prim.Native.Nat.{_+_, _-_, _<_, _≤_};
+ghost use lib.Dec.{leb};
 ghost use lib.ListN.{length, replicate};
 ghost use Rattle.sets.specs.Masks.{bit};
 ghost use Rattle.cube.specs.Cube.{lits};
@@ -16,14 +18,14 @@ ghost use Rattle.text.specs.Lines.{kindOf};
 ghost use Rattle.table.specs.Table as table;
 ghost use Rattle.table.specs.Table.{start, readLines, readText, cubeLine, byKind, setWide, setTall, setStated, finish};
 ghost use Rattle.table.specs.Answers.{Told};
-ghost use Rattle.table.specs.Parts.{Answers, Roomy, Keeps, Leaves, Ready, stoppedAt, Scans, pick, Room, Taken, Vacant, Filled, formed, Buildable, netFrom};
+ghost use Rattle.table.specs.Parts.{Numbers, Answers, Roomy, Keeps, Leaves, Ready, stoppedAt, Scans, pick, Room, Taken, Vacant, Filled, formed, Buildable, netFrom};
 
 // The limits of a table.
 const BYTES: usize = 65536;
 
-const INPUTS: u32 = 32;
+const INPUTS: u32 = network::INPUTS as u32;
 
-const OUTPUTS: u32 = 32;
+const OUTPUTS: u32 = network::OUTPUTS as u32;
 
 const PRODUCTS: u32 = 32768;
 
@@ -59,64 +61,51 @@ enum Step {
     Refused(u32),
 }
 
-// `.i N`.
-fn set_inputs(s: State, n: u32) -> Step
-    ensures { λ r. ⌜ Answers (setWide n) s r ⌝ }
+// The line of a number that is missing while `held` is 0, where s is what stands with it: 2 where it is repeated or too late, 3
+// where it is out of range.
+fn number_line(s: State, held: usize, least: u32, n: u32, most: u32) -> Step
+    ensures { λ r. ⌜ Numbers held (leb least n && leb n most) s r ⌝ }
 {
-    if s.inputs != 0 {
+    if held != 0 {
         return Step::Refused(2);
     }
     if s.lines != 0 {
         return Step::Refused(2);
     }
-    if n == 0 {
+    if n < least {
         return Step::Refused(3);
     }
-    if n > INPUTS {
+    if n > most {
         return Step::Refused(3);
     }
+    Step::Next(s)
+}
+
+// `.i N`.
+fn set_inputs(s: State, n: u32) -> Step
+    ensures { λ r. ⌜ Answers (setWide n) s r ⌝ }
+{
     let mut t = s;
     t.inputs = n as usize;
-    Step::Next(t)
+    number_line(t, s.inputs, 1, n, INPUTS)
 }
 
 // `.o N`.
 fn set_outputs(s: State, n: u32) -> Step
     ensures { λ r. ⌜ Answers (setTall n) s r ⌝ }
 {
-    if s.outputs != 0 {
-        return Step::Refused(2);
-    }
-    if s.lines != 0 {
-        return Step::Refused(2);
-    }
-    if n == 0 {
-        return Step::Refused(3);
-    }
-    if n > OUTPUTS {
-        return Step::Refused(3);
-    }
     let mut t = s;
     t.outputs = n as usize;
-    Step::Next(t)
+    number_line(t, s.outputs, 1, n, OUTPUTS)
 }
 
 // `.p N`.
 fn set_stated(s: State, n: u32) -> Step
     ensures { λ r. ⌜ Answers (setStated n) s r ⌝ }
 {
-    if s.stated != 0 {
-        return Step::Refused(2);
-    }
-    if s.lines != 0 {
-        return Step::Refused(2);
-    }
-    if n > PRODUCTS {
-        return Step::Refused(3);
-    }
     let mut t = s;
     t.stated = n as usize + 1;
-    Step::Next(t)
+    number_line(t, s.stated, 0, n, PRODUCTS)
 }
 
 // `.e`.
@@ -319,8 +308,8 @@ fn build(inputs: usize, outputs: usize, words: &[u64], marks: &[u64], kept: usiz
     requires { ⌜ Buildable (now words) (now marks) kept outputs ⌝ }
     ensures { λ r. ⌜ Holds r (netFrom inputs outputs (now (words .entry)) (now (marks .entry)) kept) ⌝ }
 {
-    let mut counts = [0usize; 96];
-    let mut out = [0u64; 2176];
+    let mut counts = [0usize; network::NODES];
+    let mut out = [0u64; network::WORDS];
     let mut at = 0;
     let mut j = 0;
     while j < outputs {
@@ -355,8 +344,8 @@ pub fn read(text: &[u8]) -> Table
     if text.len() > BYTES {
         return refused(Answer::Refused(1, 0));
     }
-    let mut words = [0u64; 2048];
-    let mut marks = [0u64; 1024];
+    let mut words = [0u64; 2 * ROWS as usize];
+    let mut marks = [0u64; ROWS as usize];
     let scanned = scan(text, &mut words, &mut marks);
     let answer = scanned.answer;
     let Answer::Read = answer else {

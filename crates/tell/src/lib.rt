@@ -1,14 +1,9 @@
-// Requests on lent expressions whose room is bytes. As in wire, safety and an end are all that is promised here.
+// Requests on a lent expression whose room is bytes. As in wire, safety and an end are all that is promised here.
 use factor::Wrote;
-use wire::Groups;
-use wire::Taken;
 
 fn put_wrote(a: Wrote, out: &mut [u8]) -> usize {
     match a {
-        Wrote::Bytes(n) => {
-            let at = wire::put_text(out, 0, b"ok");
-            wire::put_number(out, at, n as u64)
-        }
+        Wrote::Bytes(n) => wire::put_ok(out, n as u64),
         Wrote::Refused(k) => wire::put_refused(out, k, 0),
     }
 }
@@ -20,27 +15,13 @@ fn wrote(f: &[u64], room: &mut [u8], out: &mut [u8]) -> usize {
     wire::put_bytes(out, at, room)
 }
 
-fn write_into(pool: &[u64], f: usize, room: &mut [u8], r: usize, out: &mut [u8]) -> usize {
-    if f > pool.len() {
-        return wire::put_none(out);
-    }
-    if r > room.len() {
-        return wire::put_none(out);
-    }
-    wrote(&pool[0..f], &mut room[0..r], out)
-}
-
 // `factored ; EXPR ; ROOM`, the room in bytes
-pub fn on_factored(line: &[u8], g: Groups, out: &mut [u8]) -> usize {
-    let mut pool = [0u64; 131072];
+pub fn on_factored(f: &[u64], lent: &[u8], out: &mut [u8]) -> usize {
     let mut room = [0u8; 131072];
-    let first = wire::numbers(line, g.from[1], g.to[1], &mut pool);
-    let Taken::All(f) = first else {
+    let got = wire::bytes(lent, &mut room);
+    if !got.ok {
         return wire::put_none(out);
-    };
-    let second = wire::bytes(line, g.from[2], g.to[2], &mut room);
-    let Taken::All(r) = second else {
-        return wire::put_none(out);
-    };
-    write_into(&pool, f, &mut room, r, out)
+    }
+    let r = got.count;
+    wrote(f, &mut room[0..r], out)
 }

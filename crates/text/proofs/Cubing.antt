@@ -21,7 +21,7 @@ use Rattle.sets.proofs.Places.{drop-next}
 use Rattle.cube.specs.Cube.{joined}
 use Rattle.text.specs.Text.{isBlank, trimFront}
 use Rattle.text.specs.Lines.{isPlace, isMark, CubeLine, startsBlank, cubeLineOf, cubeFrom}
-use Rattle.text.specs.Answers.{toldOf, parsing}
+use Rattle.text.specs.Answers.{entryOf, parsing}
 use Rattle.text.specs.Parts.{among, placed}
 use Rattle.text.proofs.Covering.{from-bounds}
 use Rattle.sets.proofs.Packing.{packed-lt, packed-ones}
@@ -139,7 +139,7 @@ module _ (n m : ℕ) (c : List ℕ) where
   -- no cube line
   missed : cubeLineOf n m c ≡ none → none ≡ parsing n m c
   unfolding parsing
-  missed e = rw e (elim (leb n 32 && leb m 32) as (λ b. none ≡ cond b (toldOf none) none) [ true ↦ refl | false ↦ refl ])
+  missed e = rw e (elim (leb n 32 && leb m 32) as (λ b. none ≡ cond b (entryOf none) none) [ true ↦ refl | false ↦ refl ])
 
   pub parsing-short : length c ≤ n → none ≡ parsing n m c
   unfolding cubeLineOf

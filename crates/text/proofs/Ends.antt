@@ -11,7 +11,7 @@ use borrow.Author.Tests.{eqb-true, eq-eqb, ne-eqb}
 use Rattle.sets.specs.Lists.{all, isNil}
 use Rattle.sets.proofs.Places.{drop-next}
 use Rattle.text.specs.Text.{isBlank, lineOf, uncommented, trimFront, trimEnd}
-use Rattle.text.specs.Parts.{upTo}
+use Rattle.text.specs.Parts.{untilByte}
 
 -- what is left from a place on
 pub rest-whole : (a : ℕ) (l : List ℕ) → take (length l - a) (drop a l) ≡ drop a l
@@ -19,63 +19,63 @@ rest-whole a l = take-all (length l - a) (drop a l) (simp length-drop (omega ari
 
 -- ---- up to the first b
 
-pub line-upto : (t : List ℕ) → lineOf t ≡ upTo 10 t
-unfolding lineOf upTo
+pub line-upto : (t : List ℕ) → lineOf t ≡ untilByte 10 t
+unfolding lineOf untilByte
 line-upto [] = refl
 line-upto (x ∷ t) = rw (line-upto t)
 
-pub uncommented-upto : (t : List ℕ) → uncommented t ≡ upTo 35 t
-unfolding uncommented upTo
+pub uncommented-upto : (t : List ℕ) → uncommented t ≡ untilByte 35 t
+unfolding uncommented untilByte
 uncommented-upto [] = refl
 uncommented-upto (x ∷ t) = rw (uncommented-upto t)
 
 -- it is what stands at the front
-pub upto-take : (b : ℕ) (t : List ℕ) → take (length (upTo b t)) t ≡ upTo b t
-unfolding upTo
+pub upto-take : (b : ℕ) (t : List ℕ) → take (length (untilByte b t)) t ≡ untilByte b t
+unfolding untilByte
 upto-take b [] = refl
-upto-take b (x ∷ t) = elim (eqb x b) as (λ e. take (length (cond e [] (x ∷ upTo b t))) (x ∷ t) ≡ cond e [] (x ∷ upTo b t))
+upto-take b (x ∷ t) = elim (eqb x b) as (λ e. take (length (cond e [] (x ∷ untilByte b t))) (x ∷ t) ≡ cond e [] (x ∷ untilByte b t))
     [ true ↦ refl | false ↦ ap (λ l. x ∷ l) (upto-take b t) ]
 
-pub upto-le : (b : ℕ) (t : List ℕ) → length (upTo b t) ≤ length t
-unfolding upTo
+pub upto-le : (b : ℕ) (t : List ℕ) → length (untilByte b t) ≤ length t
+unfolding untilByte
 upto-le b [] = omega arith
-upto-le b (x ∷ t) = elim (eqb x b) as (λ e. length (cond e [] (x ∷ upTo b t)) ≤ suc (length t)) [ true ↦ omega arith | false ↦ omega (arith, upto-le b t) ]
+upto-le b (x ∷ t) = elim (eqb x b) as (λ e. length (cond e [] (x ∷ untilByte b t)) ≤ suc (length t)) [ true ↦ omega arith | false ↦ omega (arith, upto-le b t) ]
 
 -- b is not in it
-pub upto-clear : (b : ℕ) (t : List ℕ) → all (λ x. not (eqb x b)) (upTo b t) ≡ true
-unfolding upTo
+pub upto-clear : (b : ℕ) (t : List ℕ) → all (λ x. not (eqb x b)) (untilByte b t) ≡ true
+unfolding untilByte
 upto-clear b [] = refl
 upto-clear b (x ∷ t) = go (eqb x b) refl (upto-clear b t)
   where
-    go : (e : Bool) → eqb x b ≡ e → all (λ y. not (eqb y b)) (upTo b t) ≡ true → all (λ y. not (eqb y b)) (cond e [] (x ∷ upTo b t)) ≡ true
+    go : (e : Bool) → eqb x b ≡ e → all (λ y. not (eqb y b)) (untilByte b t) ≡ true → all (λ y. not (eqb y b)) (cond e [] (x ∷ untilByte b t)) ≡ true
     go true q k = refl
     go false q k = rw (q, k)
 
 -- b stands where it ends before the list does
-pub upto-ended : (b : ℕ) (t : List ℕ) → length (upTo b t) < length t → getD t (length (upTo b t)) 0 ≡ b
-unfolding upTo
+pub upto-ended : (b : ℕ) (t : List ℕ) → length (untilByte b t) < length t → getD t (length (untilByte b t)) 0 ≡ b
+unfolding untilByte
 upto-ended b [] h = absurd (omega arith)
 upto-ended b (x ∷ t) h = go (eqb x b) refl h (upto-ended b t)
   where
-    go : (e : Bool) → eqb x b ≡ e → length (cond e [] (x ∷ upTo b t)) < suc (length t)
-        → (length (upTo b t) < length t → getD t (length (upTo b t)) 0 ≡ b) → getD (x ∷ t) (length (cond e [] (x ∷ upTo b t))) 0 ≡ b
+    go : (e : Bool) → eqb x b ≡ e → length (cond e [] (x ∷ untilByte b t)) < suc (length t)
+        → (length (untilByte b t) < length t → getD t (length (untilByte b t)) 0 ≡ b) → getD (x ∷ t) (length (cond e [] (x ∷ untilByte b t))) 0 ≡ b
     go true q k f = eqb-true x b q
     go false q k f = f (omega arith)
 
 module _ (b : ℕ) (t : List ℕ) (i : ℕ) where
   -- b stands at i
-  pub upto-stop : i < length t → getD t i 0 ≡ b → i ≡ i + length (upTo b (drop i t))
-  unfolding upTo
+  pub upto-stop : i < length t → getD t i 0 ≡ b → i ≡ i + length (untilByte b (drop i t))
+  unfolding untilByte
   upto-stop h e = rw (drop-next t i 0 h, eq-eqb (getD t i 0) b e) (omega arith)
 
   -- another byte stands at i
-  pub upto-on : i < length t → (getD t i 0 ≡ b → ⊥) → i + length (upTo b (drop i t)) ≡ (i + 1) + length (upTo b (drop (i + 1) t))
-  unfolding upTo
+  pub upto-on : i < length t → (getD t i 0 ≡ b → ⊥) → i + length (untilByte b (drop i t)) ≡ (i + 1) + length (untilByte b (drop (i + 1) t))
+  unfolding untilByte
   upto-on h e = rw (drop-next t i 0 h, ne-eqb (getD t i 0) b e) (omega arith)
 
   -- nothing stands at i
-  pub upto-done : length t ≤ i → i ≡ i + length (upTo b (drop i t))
-  unfolding upTo
+  pub upto-done : length t ≤ i → i ≡ i + length (untilByte b (drop i t))
+  unfolding untilByte
   upto-done h = rw (drop-of-length-le t h) (omega arith)
 
 -- ---- without the blanks at the front
@@ -128,5 +128,5 @@ end-done l zero h = refl
 end-done l (suc e) h = absurd (omega arith)
 
 -- what stands before the comment, whose place is found
-pub uncommented-take : (l : List ℕ) (e : ℕ) → e ≡ 0 + length (upTo 35 l) → take e l ≡ uncommented l
-uncommented-take l e h = let q : e ≡ length (upTo 35 l) = omega arith in rw q (upto-take 35 l ∙ sym (uncommented-upto l))
+pub uncommented-take : (l : List ℕ) (e : ℕ) → e ≡ 0 + length (untilByte 35 l) → take e l ≡ uncommented l
+uncommented-take l e h = let q : e ≡ length (untilByte 35 l) = omega arith in rw q (upto-take 35 l ∙ sym (uncommented-upto l))

@@ -15,7 +15,8 @@ use Rattle.sets.specs.Sets.{mem, same}
 use Rattle.sets.proofs.Truth.{refuted}
 use Rattle.sets.proofs.Sets.{same-eq}
 use Rattle.sets.proofs.Places.{drop-next}
-use Rattle.text.specs.Text.{isBlank, isDigit, trimFront, written, valueOf}
+use Rattle.letters.specs.Meaning.{readBack, isDigit}
+use Rattle.text.specs.Text.{isBlank, trimFront, numberOf}
 use Rattle.text.specs.Lines.{argument, withNumber, named, kindOf}
 use Rattle.text.specs.declared.Kind.the-variants.{Empty, Inputs, Outputs, Products, End, Other}
 
@@ -55,29 +56,29 @@ module _ (b : ℕ) (s : List ℕ) (i : ℕ) where
 -- ---- decimal numbers
 
 module _ (t : List ℕ) where
-  pub value-short : length t ≡ 0 → none ≡ valueOf t
-  unfolding valueOf
+  pub value-short : length t ≡ 0 → none ≡ numberOf t
+  unfolding numberOf
   value-short h = rw (lt-leb 1 (length t) (omega arith))
 
-  pub value-long : 5 < length t → none ≡ valueOf t
-  unfolding valueOf
+  pub value-long : 5 < length t → none ≡ numberOf t
+  unfolding numberOf
   value-long h = rw (lt-leb (length t) 5 h, and-false (leb 1 (length t)))
 
-  pub value-stray : all isDigit t ≡ false → none ≡ valueOf t
-  unfolding valueOf
+  pub value-stray : all isDigit t ≡ false → none ≡ numberOf t
+  unfolding numberOf
   value-stray h = rw (h, and-false (leb (length t) 5), and-false (leb 1 (length t)))
 
-  pub value-read : 0 < length t → length t ≤ 5 → all isDigit t ≡ true → some (written 0 t) ≡ valueOf t
-  unfolding valueOf
+  pub value-read : 0 < length t → length t ≤ 5 → all isDigit t ≡ true → some (readBack 0 t) ≡ numberOf t
+  unfolding numberOf
   value-read h k e = rw (le-leb 1 (length t) (omega arith), le-leb (length t) 5 k, e)
 
-  pub written-on : (n i : ℕ) → i < length t → written n (drop i t) ≡ written (10 * n + (getD t i 0 - 48)) (drop (i + 1) t)
-  unfolding written
-  written-on n i h = rw (drop-next t i 0 h)
+  pub read-on : (n i : ℕ) → i < length t → readBack n (drop i t) ≡ readBack (10 * n + (getD t i 0 - 48)) (drop (i + 1) t)
+  unfolding readBack
+  read-on n i h = rw (drop-next t i 0 h)
 
-  pub written-done : (n i : ℕ) → length t ≤ i → written n (drop i t) ≡ n
-  unfolding written
-  written-done n i h = rw (drop-of-length-le t h)
+  pub read-done : (n i : ℕ) → length t ≤ i → readBack n (drop i t) ≡ n
+  unfolding readBack
+  read-done n i h = rw (drop-of-length-le t h)
 
 pub digit-low : (b : ℕ) → b < 48 → isDigit b ≡ false
 digit-low b h = rw (lt-leb 48 b h)
@@ -111,7 +112,7 @@ unfolding argument
 argument-solid [] h e = refl
 argument-solid (b ∷ t) h e = rw e
 
-pub argument-read : (t : List ℕ) → (length t ≡ 0 → ⊥) → isBlank (getD t 0 0) ≡ true → argument t ≡ valueOf (trimFront (drop 1 t))
+pub argument-read : (t : List ℕ) → (length t ≡ 0 → ⊥) → isBlank (getD t 0 0) ≡ true → argument t ≡ numberOf (trimFront (drop 1 t))
 unfolding argument
 argument-read [] h e = absurd (h refl)
 argument-read (b ∷ t) h e = rw e

@@ -9,12 +9,12 @@ use Rattle.sets.specs.Lists.{all, keep}
 use Rattle.sets.specs.Sets.{same}
 use Rattle.text.specs.declared.Kind.{Kind}
 use Rattle.text.specs.declared.Kind.the-variants.{Empty, Inputs, Outputs, Products, End, Other}
-use Rattle.text.specs.Text.{isBlank, trimFront, valueOf}
+use Rattle.text.specs.Text.{isBlank, trimFront, numberOf}
 
 -- blanks, then a number of one to five digits and nothing else
 unfoldable pub argument : List ℕ → Option ℕ
 argument [] = none
-argument (b ∷ t) = cond (isBlank b) (valueOf (trimFront t)) none
+argument (b ∷ t) = cond (isBlank b) (numberOf (trimFront t)) none
 
 abbrev pub withNumber : (ℕ → Kind) → Option ℕ → Kind
 withNumber k none = Other

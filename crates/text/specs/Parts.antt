@@ -10,9 +10,9 @@ use Rattle.text.specs.declared.Number.{Number}
 use Rattle.text.specs.declared.Number.the-variants.{Of, Missing}
 
 -- up to the first b
-unfoldable pub upTo : ℕ → List ℕ → List ℕ
-upTo b [] = []
-upTo b (x ∷ t) = cond (eqb x b) [] (x ∷ upTo b t)
+unfoldable pub untilByte : ℕ → List ℕ → List ℕ
+untilByte b [] = []
+untilByte b (x ∷ t) = cond (eqb x b) [] (x ∷ untilByte b t)
 
 -- one of the bytes s
 abbrev pub among : List ℕ → ℕ → Bool

@@ -1,18 +1,16 @@
 -- The text of a table as bytes: lines, comments, blanks, numbers.
-use Prim.Native.Nat.{ℕ, _+_, _-_, _*_}
+use Prim.Native.Nat.{ℕ}
 use mathlib.Core.Bool.{Bool, true, false, cond, _&&_, _||_}
 use mathlib.Core.List.{List, [], _∷_}
 use mathlib.Core.Option.{Option, none, some}
 use lib.Dec.{leb, eqb}
 use lib.ListN.{length}
 use Rattle.sets.specs.Lists.{all, isNil}
+use Rattle.letters.specs.Meaning.{readBack, isDigit}
 
 -- space, tab and CR
 abbrev pub isBlank : ℕ → Bool
 isBlank b = eqb b 32 || (eqb b 9 || eqb b 13)
-
-abbrev pub isDigit : ℕ → Bool
-isDigit b = leb 48 b && leb b 57
 
 -- the first line
 unfoldable pub lineOf : List ℕ → List ℕ
@@ -48,11 +46,6 @@ trimEnd (b ∷ t) = cond (isBlank b && isNil (trimEnd t)) [] (b ∷ trimEnd t)
 abbrev pub content : List ℕ → List ℕ
 content l = trimEnd (trimFront (uncommented l))
 
--- the number that digits write, after those that wrote n
-unfoldable pub written : ℕ → List ℕ → ℕ
-written n [] = n
-written n (b ∷ t) = written (10 * n + (b - 48)) t
-
 -- one to five digits
-unfoldable pub valueOf : List ℕ → Option ℕ
-valueOf t = cond (leb 1 (length t) && (leb (length t) 5 && all isDigit t)) (some (written 0 t)) none
+unfoldable pub numberOf : List ℕ → Option ℕ
+numberOf t = cond (leb 1 (length t) && (leb (length t) 5 && all isDigit t)) (some (readBack 0 t)) none

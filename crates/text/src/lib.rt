@@ -10,10 +10,10 @@ ghost use Rattle.sets.specs.Lists.{all};
 ghost use Rattle.sets.specs.Sets.{mem, same};
 ghost use Rattle.sets.specs.Masks.{packed};
 ghost use Rattle.cube.specs.Cube.{lits};
-ghost use Rattle.text.specs.Text.{isBlank, lineOf, uncommented, trimFront, trimEnd, content, valueOf};
+ghost use Rattle.text.specs.Text.{isBlank, lineOf, uncommented, trimFront, trimEnd, content, numberOf};
 ghost use Rattle.text.specs.Lines.{argument, named, kindOf, cubeFrom};
 ghost use Rattle.text.specs.Answers.{parsedOf, parsing};
-ghost use Rattle.text.specs.Parts.{upTo, among, numberIn, placed};
+ghost use Rattle.text.specs.Parts.{untilByte, among, numberIn, placed};
 
 // The most inputs, and the most outputs, of a table.
 const MOST: usize = 32;
@@ -56,7 +56,7 @@ fn is_blank(b: u8) -> bool
 
 // The first place from `at` on where b stands, or the end.
 fn find(t: &[u8], at: usize, b: u8) -> usize
-    ensures { λ r. ⌜ r ≡ at + length (upTo b (drop at (now (t .entry)))) ⌝ }
+    ensures { λ r. ⌜ r ≡ at + length (untilByte b (drop at (now (t .entry)))) ⌝ }
 {
     let mut i = at;
     while i < t.len() {
@@ -82,7 +82,8 @@ fn uncomment(l: &[u8]) -> &[u8]
     &l[..e]
 }
 
-fn trim_front(l: &[u8]) -> &[u8]
+// Without the blanks at the front.
+pub fn trim_front(l: &[u8]) -> &[u8]
     ensures { λ r. ⌜ now r ≡ trimFront (now (l .entry)) ⌝ }
 {
     let mut a = 0;
@@ -95,7 +96,8 @@ fn trim_front(l: &[u8]) -> &[u8]
     &l[a..]
 }
 
-fn trim_end(l: &[u8]) -> &[u8]
+// Without the blanks at the end.
+pub fn trim_end(l: &[u8]) -> &[u8]
     ensures { λ r. ⌜ now r ≡ trimEnd (now (l .entry)) ⌝ }
 {
     let mut e = l.len();
@@ -141,7 +143,7 @@ fn digit(b: u8) -> u32
 
 // The number of one to five digits and nothing else.
 fn decimal_of(t: &[u8]) -> Number
-    ensures { λ r. ⌜ numberIn r ≡ valueOf (now (t .entry)) ⌝ }
+    ensures { λ r. ⌜ numberIn r ≡ numberOf (now (t .entry)) ⌝ }
 {
     if t.len() == 0 || t.len() > DIGITS {
         return Number::Missing;

@@ -11,13 +11,14 @@ use Rattle.sets.proofs.Lists.{total-map, total-const, total-append}
 use Rattle.expression.specs.Words.{cubesOf, Placed}
 use Rattle.expression.specs.Expression.{sort}
 use Rattle.expression.proofs.Sorting.{sort-length}
+use Rattle.expression.proofs.Words.{cubes-length}
 use Rattle.network.specs.Held.{cut}
 use Rattle.network.specs.Handed.{flat}
-use Rattle.network.specs.Parts.{nodesOf}
+use Rattle.network.specs.Parts.{nodesOf, Sized}
 use Rattle.network.proofs.Holding.{cut-length, cut-node, cut-lengths}
 use Rattle.network.proofs.Handing.{flat-length, flat-last}
 use Rattle.network.proofs.Parts.{cut-take, start-next}
-use Rattle.tidy.specs.Parts.{Sorts}
+use Rattle.tidy.specs.Parts.{Sortable, Sorts}
 
 -- ---- a front part, and zeros after it
 
@@ -33,6 +34,10 @@ module _ {A : Type 0} (n : ℕ) (z : A) (l : List A) where
 
 -- ---- nodes in cube order
 
+-- within the limits all cubes are there
+pub sized-sortable : {n m k : ℕ} {words counts : List ℕ} → Sized n m k words counts → length words ≡ 2176 → Sortable (m + k) counts words
+sized-sortable {words = words} z p = record { counted = z .lent .counted; there = omega (arith, z .cubes, cubes-length words) }
+
 module _ (counts words : List ℕ) where
   abbrev sorted : ℕ → List (List (List ℕ))
   sorted i = map sort (nodesOf i counts words)
@@ -41,15 +46,16 @@ module _ (counts words : List ℕ) where
   front i = total (λ c. c) (take i counts)
 
   -- the cubes of one node are among those of all
-  pub front-fits : (i e : ℕ) → i < e → i < length counts → front i + getD counts i 0 ≤ front e
-  front-fits i e h k =
+  pub node-fits : {i e at : ℕ} → Sortable e counts words → i < e → at ≡ front i → at + getD counts i 0 ≤ length (cubesOf words)
+  node-fits {i} {e} s h q =
       let r : (i + 1) + (e - (i + 1)) ≡ e = omega arith in
       omega (
         arith,
+        s .there,
         ap (λ (x : ℕ). front x) r,
         ap (total (λ c. c)) (take-add (i + 1) (e - (i + 1)) counts),
         total-append (λ c. c) (take (i + 1) counts) (take (e - (i + 1)) (drop (i + 1) counts)),
-        start-next counts i (front i) k refl,
+        start-next counts i (front i) (omega (arith, s .counted)) refl,
       )
 
   -- as many cubes as the counts say

@@ -10,23 +10,24 @@ use Rattle.sets.specs.Lists.{total}
 use Rattle.expression.specs.Words.{cubesOf}
 use Rattle.expression.specs.Expression.{sort}
 use Rattle.expression.proofs.Sorting.{sort-length}
-use Rattle.expression.proofs.Words.{fit, cubes-length, cubes-take, cubes-append, spare-take, zeros}
+use Rattle.expression.proofs.Words.{fit, cubes-take, cubes-append, spare-take, zeros}
 use Rattle.network.specs.Net.{nodes, cubeCount}
 use Rattle.network.specs.Held.{cut, used, netOf, rules}
 use Rattle.network.specs.Handed.{flat, Holds, Blank}
-use Rattle.network.specs.Parts.{heldIn}
+use Rattle.network.specs.Parts.{heldIn, Sized}
 use Rattle.network.specs.Answers.{judged}
 use Rattle.network.specs.declared.Network.{Network}
 use Rattle.network.specs.declared.Judged.{Judged}
 use Rattle.network.specs.declared.Judged.the-variants.{Accepted, Refused}
-use Rattle.network.proofs.Holding.{cut-length, nodes-held, rules-outputs, rules-divisors, rules-iff}
+use Rattle.network.proofs.Holding.{cut-length, nodes-held, rules-outputs, rules-divisors}
+use Rattle.network.proofs.Limits.{rules-sized}
 use Rattle.network.proofs.Handing.{flat-length, holds-one, blank-one}
 use Rattle.extraction.specs.Run.{inOrder}
 use Rattle.extraction.proofs.Arranging.{in-order-nodes, in-order-inputs, in-order-outputs, in-order-divisors}
 use Rattle.tidy.specs.Tidy.{tidied, Tidied}
 use Rattle.tidy.specs.Parts.{Sorts}
 use Rattle.tidy.specs.declared.Tidy.{Tidy}
-use Rattle.tidy.proofs.Sorted.{sorted-length}
+use Rattle.tidy.proofs.Sorted.{sized-sortable, sorted-length}
 
 -- nodes in another order of cubes have the counts that they were cut by
 sorted-counts : (ns : List ℕ) (f : List (List ℕ)) → total (λ c. c) ns ≤ length f → map length (map sort (cut ns f)) ≡ ns
@@ -48,17 +49,17 @@ module _ (n : Network) (slots : length (n .counts) ≡ 96) (places : length (n .
   abbrev gs : List (List (List ℕ))
   gs = map sort (cut (used n) (cubesOf (n .words)))
 
-  few : (e ≤ 96) × (total (λ c. c) (used n) ≤ 1088)
-  few = let w = rules-iff n slots .0 h in (omega (arith, w .outputs, w .variables, w .inputs), w .cubes)
+  within : Sized (n .inputs) (n .outputs) (n .divisors) (n .words) (n .counts)
+  within = rules-sized n slots places h
 
-  pub rules-there : total (λ c. c) (used n) ≤ length (cubesOf (n .words))
-  rules-there = omega (arith, cubes-length (n .words), few .1)
+  there : total (λ c. c) (used n) ≤ length (cubesOf (n .words))
+  there = sized-sortable within places .there
 
   nodes-are : nodes (inOrder (netOf n)) ≡ gs
   nodes-are = in-order-nodes (netOf n) ∙ ap (map sort) (nodes-held n)
 
   size : length (nodes (inOrder (netOf n))) ≡ e
-  size = ap length nodes-are ∙ length-map (cut (used n) (cubesOf (n .words))) sort ∙ cut-length (used n) (cubesOf (n .words)) ∙ length-take-le e (n .counts) (omega (arith, few .0))
+  size = ap length nodes-are ∙ length-map (cut (used n) (cubesOf (n .words))) sort ∙ cut-length (used n) (cubesOf (n .words)) ∙ length-take-le e (n .counts) (within .lent .counted)
 
   -- the struct holds the network in cube order
   pub sorts-holds : (new : List ℕ) (t : ℕ) → length new ≡ 2176 → Sorts e (n .counts) (n .words) new t
@@ -67,13 +68,13 @@ module _ (n : Network) (slots : length (n .counts) ≡ 96) (places : length (n .
     inputs = sym (in-order-inputs (netOf n));
     outputs = sym (in-order-outputs (netOf n) ∙ rules-outputs n slots h);
     divisors = sym (in-order-divisors (netOf n) ∙ rules-divisors n slots h);
-    counts = ap₂ (λ (a : List ℕ) (k : ℕ). a ++ replicate (96 - k) 0) (sym (ap (map length) nodes-are ∙ sorted-counts (used n) (cubesOf (n .words)) rules-there)) (sym size);
-    cubes = front-cubes new t l (omega (arith, s .number, few .1))
+    counts = ap₂ (λ (a : List ℕ) (k : ℕ). a ++ replicate (96 - k) 0) (sym (ap (map length) nodes-are ∙ sorted-counts (used n) (cubesOf (n .words)) there)) (sym size);
+    cubes = front-cubes new t l (omega (arith, s .number, within .cubes))
         ∙ ap₂ (λ (a : List (List ℕ)) (k : ℕ). a ++ replicate (1088 - k) []) front (s .number ∙ sym count);
   }
     where
       whole : length (flat gs) ≡ total (λ c. c) (used n)
-      whole = sorted-length (n .counts) (n .words) e rules-there
+      whole = sorted-length (n .counts) (n .words) e there
 
       front : take t (cubesOf new) ≡ flat (nodes (inOrder (netOf n)))
       front = ap (take t) (s .cubes) ∙ take-at (flat gs) _ t (whole ∙ sym (s .number)) ∙ ap flat (sym nodes-are)

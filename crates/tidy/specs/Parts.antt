@@ -1,20 +1,13 @@
 -- Words for the contracts of the private functions: nodes that stand in cube order, and nodes put so.
 use Prim.Native.Nat.{ℕ, _≤_}
 use mathlib.Core.Path.{_≡_}
-use mathlib.Core.Bool.{Bool, _&&_}
 use mathlib.Core.List.{List, _++_, map}
-use lib.Dec.{leb}
 use lib.ListN.{length, take, drop}
-use Rattle.sets.specs.Lists.{all, total}
+use Rattle.sets.specs.Lists.{total}
 use Rattle.expression.specs.Words.{cubesOf}
-use Rattle.expression.specs.Expression.{ordered, sort}
-use Rattle.network.specs.Held.{mostCubes}
+use Rattle.expression.specs.Expression.{sort}
 use Rattle.network.specs.Handed.{flat}
 use Rattle.network.specs.Parts.{nodesOf}
-
--- the first e nodes have few enough cubes, and each stands in cube order
-abbrev pub arrangedIn : ℕ → List ℕ → List ℕ → Bool
-arrangedIn e counts words = leb (total (λ c. c) (take e counts)) mostCubes && all ordered (nodesOf e counts words)
 
 -- there are e counts, and all their cubes
 pub record Sortable (e : ℕ) (counts words : List ℕ) : Type 0 where

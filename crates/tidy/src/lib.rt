@@ -6,35 +6,17 @@ ghost use mathlib.Core.Path.{_≡_};
 ghost use mathlib.Core.List.{_++_};
 ghost use Prim.Native.Nat.{_-_, _≤_};
 ghost use lib.ListN.{length, take, replicate};
+ghost use Rattle.sets.specs.Lists.{all};
 ghost use Rattle.expression.specs.Words.{cubesOf};
 ghost use Rattle.expression.specs.Expression.{ordered};
-ghost use Rattle.network.specs.Held.{upTo};
+ghost use Rattle.network.specs.Parts.{nodesOf};
 ghost use Rattle.tidy.specs.Tidy.{arranged, Tidied};
-ghost use Rattle.tidy.specs.Parts.{arrangedIn, Sortable, Sorts};
-
-// The limits.
-const INPUTS: usize = 32;
-
-const OUTPUTS: usize = 32;
-
-const VARIABLES: usize = 64;
-
-const CUBES: usize = 1088;
+ghost use Rattle.tidy.specs.Parts.{Sortable, Sorts};
 
 // A refusal carries a network of zeros.
 pub struct Tidy {
     pub answer: Judged,
     pub network: Network,
-}
-
-// Whether x is from 1 to the most.
-fn up_to(most: usize, x: usize) -> bool
-    ensures { λ r. ⌜ r ≡ upTo most x ⌝ }
-{
-    if x < 1 {
-        return false;
-    }
-    x <= most
 }
 
 // Whether the cubes stand in cube order: each comes before the next.
@@ -52,18 +34,15 @@ fn is_ordered(f: &[u64]) -> bool
     true
 }
 
-// Whether the first e nodes have no more cubes than the limit, and each stands in cube order.
+// Whether each of the first e nodes stands in cube order.
 fn all_ordered(words: &[u64], counts: &[usize], e: usize) -> bool
-    requires { ⌜ e ≤ length (now counts) ⌝ }
-    ensures { λ r. ⌜ r ≡ arrangedIn e (now (counts .entry)) (now (words .entry)) ⌝ }
+    requires { ⌜ Sortable e (now counts) (now words) ⌝ }
+    ensures { λ r. ⌜ r ≡ all ordered (nodesOf e (now (counts .entry)) (now (words .entry))) ⌝ }
 {
     let mut at = 0;
     let mut i = 0;
     while i < e {
         let k = counts[i];
-        if k > CUBES - at {
-            return false;
-        }
         if !is_ordered(expression::part(words, at, at + k)) {
             return false;
         }
@@ -77,17 +56,11 @@ fn all_ordered(words: &[u64], counts: &[usize], e: usize) -> bool
 pub fn is_arranged(n: Network) -> bool
     ensures { λ r. ⌜ r ≡ arranged n ⌝ }
 {
+    if !network::is_sized(n) {
+        return false;
+    }
     let words = n.words;
     let counts = n.counts;
-    if !up_to(INPUTS, n.inputs) {
-        return false;
-    }
-    if !up_to(OUTPUTS, n.outputs) {
-        return false;
-    }
-    if n.divisors > VARIABLES - n.inputs {
-        return false;
-    }
     all_ordered(&words, &counts, n.outputs + n.divisors)
 }
 
@@ -108,11 +81,11 @@ fn sort_nodes(words: &mut [u64], counts: &[usize], e: usize) -> usize
 }
 
 // The first n words, and zeros after them.
-fn front_words(words: &[u64], n: usize) -> [u64; 2176]
+fn front_words(words: &[u64], n: usize) -> [u64; network::WORDS]
     requires { ⌜ (length (now words) ≡ 2176) × (n ≤ 2176) ⌝ }
     ensures { λ r. ⌜ r ≡ take n (now (words .entry)) ++ replicate (2176 - n) 0 ⌝ }
 {
-    let mut out = [0u64; 2176];
+    let mut out = [0u64; network::WORDS];
     let mut i = 0;
     while i < n {
         out[i] = words[i];
@@ -122,11 +95,11 @@ fn front_words(words: &[u64], n: usize) -> [u64; 2176]
 }
 
 // The first n counts, and zeros after them.
-fn front_counts(counts: &[usize], n: usize) -> [usize; 96]
+fn front_counts(counts: &[usize], n: usize) -> [usize; network::NODES]
     requires { ⌜ (length (now counts) ≡ 96) × (n ≤ 96) ⌝ }
     ensures { λ r. ⌜ r ≡ take n (now (counts .entry)) ++ replicate (96 - n) 0 ⌝ }
 {
-    let mut out = [0usize; 96];
+    let mut out = [0usize; network::NODES];
     let mut i = 0;
     while i < n {
         out[i] = counts[i];

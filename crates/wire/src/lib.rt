@@ -1,5 +1,6 @@
 // Lines of the protocol: a request line taken apart into groups of words, numbers and bytes, and an answer line put together.
 // Safety and an end are all that is promised here; what is answered is held to the second implementation.
+use bytes::scan;
 use libc::STDOUT_FILENO;
 ghost use Prim.Native.Nat.{_≤_};
 ghost use lib.ListN.{length};
@@ -11,35 +12,16 @@ pub struct Groups {
     pub to: [usize; 8],
 }
 
-// How many numbers or bytes were taken from a group.
-pub enum Taken {
-    All(usize),
-    Bad,
+// Whether all of a text was numbers or bytes that its room held, and how many there are.
+pub struct Taken {
+    pub ok: bool,
+    pub count: usize,
 }
 
 // A 64-bit number, if the word is one.
 pub enum Word {
     Is(u64),
     Bad,
-}
-
-// Where the word that begins at `at` ends.
-fn word_end(line: &[u8], at: usize) -> usize
-    requires { ⌜ at ≤ length (now line) ⌝ }
-    ensures { λ r. ⌜ (at ≤ r) × (r ≤ length (now (line .entry))) ⌝ }
-{
-    let mut i = at;
-    while i < line.len() && line[i] != b' ' {
-        i += 1;
-    }
-    i
-}
-
-// Where the first word ends.
-pub fn first_word(line: &[u8]) -> usize
-    ensures { λ r. ⌜ r ≤ length (now (line .entry)) ⌝ }
-{
-    word_end(line, 0)
 }
 
 fn nothing() -> Groups {
@@ -50,23 +32,12 @@ fn nothing() -> Groups {
     }
 }
 
-// Whether the word at a..e is a lone `;`.
-fn is_part(line: &[u8], a: usize, e: usize) -> bool {
-    if e <= a {
-        return false;
-    }
-    if e - a != 1 {
-        return false;
-    }
-    if a < line.len() {
-        return line[a] == b';';
-    }
-    false
-}
-
 // One group more, empty and at the end of what is there.
 fn parted(g: Groups, e: usize) -> Groups {
     let last = g.count;
+    if last == 0 {
+        return nothing();
+    }
     if last >= 8 {
         return nothing();
     }
@@ -96,11 +67,8 @@ fn grown(g: Groups, a: usize, e: usize) -> Groups {
 }
 
 // A word at a..e joins the last group, or parts two groups.
-fn joined(line: &[u8], g: Groups, a: usize, e: usize) -> Groups {
-    if g.count == 0 {
-        return g;
-    }
-    if is_part(line, a, e) {
+fn joined(g: Groups, a: usize, e: usize, is_part: bool) -> Groups {
+    if is_part {
         return parted(g, e);
     }
     grown(g, a, e)
@@ -115,17 +83,45 @@ pub fn split(line: &[u8]) -> Groups {
     };
     let mut at = 0;
     while at < line.len() {
-        let e = word_end(line, at);
+        let e = scan::find(line, at, line.len(), b' ');
         if e == at {
             return nothing();
         }
-        g = joined(line, g, at, e);
+        g = joined(g, at, e, check::same(&line[at..e], b";"));
         if e + 1 == line.len() {
             return nothing();
         }
         at = e + 1;
     }
     g
+}
+
+// The text of group k; nothing where there is none.
+pub fn group(line: &[u8], g: Groups, k: usize) -> &[u8] {
+    if k >= 8 {
+        return &line[0..0];
+    }
+    let from = g.from[k];
+    let to = g.to[k];
+    if from > to || to > line.len() {
+        return &line[0..0];
+    }
+    &line[from..to]
+}
+
+// The first word of a text.
+pub fn first(text: &[u8]) -> &[u8] {
+    let e = scan::find(text, 0, text.len(), b' ');
+    &text[0..e]
+}
+
+// What stands after it; nothing where it is the only one.
+pub fn rest(text: &[u8]) -> &[u8] {
+    let e = scan::find(text, 0, text.len(), b' ');
+    if e < text.len() {
+        return &text[e + 1..];
+    }
+    &text[e..]
 }
 
 // 16 for a byte that is no lower-case hex digit.
@@ -143,26 +139,12 @@ fn wide(b: u8) -> u64 {
     b as u64
 }
 
-// The number of the word at a..e: at most 16 digits, no leading zero.
-pub fn number(line: &[u8], a: usize, e: usize) -> Word {
-    if e > line.len() {
-        return Word::Bad;
-    }
-    if e <= a {
-        return Word::Bad;
-    }
-    if e - a > 16 {
-        return Word::Bad;
-    }
-    if e - a > 1 {
-        if line[a] == b'0' {
-            return Word::Bad;
-        }
-    }
+// The last 64 bits of a number in hex.
+fn hex(word: &[u8]) -> Word {
     let mut value: u64 = 0;
-    let mut i = a;
-    while i < e {
-        let d = digit(line[i]);
+    let mut i = 0;
+    while i < word.len() {
+        let d = digit(word[i]);
         if d > 15 {
             return Word::Bad;
         }
@@ -172,100 +154,71 @@ pub fn number(line: &[u8], a: usize, e: usize) -> Word {
     Word::Is(value)
 }
 
-// The numbers of the text at a..e, one blank apart, to the front of the pool.
-pub fn numbers(line: &[u8], a: usize, e: usize, pool: &mut [u64]) -> Taken {
-    if e > line.len() {
-        return Taken::Bad;
+// The number of a word: at most 16 digits, no leading zero.
+pub fn number(word: &[u8]) -> Word {
+    if word.len() == 0 || word.len() > 16 {
+        return Word::Bad;
     }
-    let mut at = a;
+    if word.len() > 1 && word[0] == b'0' {
+        return Word::Bad;
+    }
+    hex(word)
+}
+
+fn bad() -> Taken
+    ensures { λ r. ⌜ r .count ≤ 0 ⌝ }
+{
+    Taken {
+        ok: false,
+        count: 0,
+    }
+}
+
+// The numbers of a text, one blank apart, to the front of the pool.
+pub fn numbers(text: &[u8], pool: &mut [u64]) -> Taken
+    ensures { λ r. ⌜ r .count ≤ length (now (pool .entry)) ⌝ }
+{
+    let mut at = 0;
     let mut n = 0;
-    while at < e {
-        let w = word_end(line, at);
-        let x = number(line, at, w);
+    while at < text.len() {
+        let e = scan::find(text, at, text.len(), b' ');
+        let x = number(&text[at..e]);
         let Word::Is(v) = x else {
-            return Taken::Bad;
+            return bad();
         };
         if n >= pool.len() {
-            return Taken::Bad;
+            return bad();
         }
         pool[n] = v;
         n += 1;
-        at = w + 1;
+        at = e + 1;
     }
-    Taken::All(n)
+    Taken { ok: true, count: n }
 }
 
-// The byte of two hex digits.
-fn pair(line: &[u8], i: usize) -> Word {
-    if i >= line.len() {
-        return Word::Bad;
+// The bytes of a word, two hex digits each, or `-` for none, to the front of the room.
+pub fn bytes(word: &[u8], room: &mut [u8]) -> Taken
+    ensures { λ r. ⌜ r .count ≤ length (now (room .entry)) ⌝ }
+{
+    if check::same(word, b"-") {
+        return Taken { ok: true, count: 0 };
     }
-    if line.len() - i < 2 {
-        return Word::Bad;
+    if word.len() == 0 || word.len() % 2 != 0 {
+        return bad();
     }
-    let high = digit(line[i]);
-    let low = digit(line[i + 1]);
-    if high > 15 {
-        return Word::Bad;
-    }
-    if low > 15 {
-        return Word::Bad;
-    }
-    Word::Is(wide(high) % 16 * 16 + wide(low) % 16)
-}
-
-// The bytes of the word at a..e, two hex digits each, or `-` for none, to the front of the room.
-pub fn bytes(line: &[u8], a: usize, e: usize, room: &mut [u8]) -> Taken {
-    if e > line.len() {
-        return Taken::Bad;
-    }
-    if e <= a {
-        return Taken::Bad;
-    }
-    if e - a == 1 {
-        if line[a] == b'-' {
-            return Taken::All(0);
-        }
-    }
-    if (e - a) % 2 != 0 {
-        return Taken::Bad;
-    }
-    let mut i = a;
     let mut n = 0;
-    while i < e {
-        let x = pair(line, i);
+    while n < word.len() / 2 {
+        let x = hex(&word[2 * n..2 * n + 2]);
         let Word::Is(v) = x else {
-            return Taken::Bad;
+            return bad();
         };
         if n >= room.len() {
-            return Taken::Bad;
+            return bad();
         }
         room[n] = (v % 256) as u8;
         n += 1;
-        i += 2;
     }
-    Taken::All(n)
-}
-
-// Whether the word at a..e is the name.
-pub fn is_word(line: &[u8], a: usize, e: usize, name: &[u8]) -> bool {
-    if e > line.len() {
-        return false;
-    }
-    if a > e {
-        return false;
-    }
-    if e - a != name.len() {
-        return false;
-    }
-    let mut i = 0;
-    while i < name.len() {
-        if line[a + i] != name[i] {
-            return false;
-        }
-        i += 1;
-    }
-    true
+    Taken { ok: true, count: n }
 }
 
 // ---- answers
@@ -294,41 +247,17 @@ pub fn put_text(out: &mut [u8], n: usize, s: &[u8]) -> usize {
     at
 }
 
-fn glyph(d: u64) -> u8 {
-    let k = (d % 16) as u8;
-    if k < 10 { b'0' + k } else { b'a' + (k - 10) }
-}
-
-// Whether a digit is written: it is not zero, or one was written before it.
-fn shown(begun: bool, d: u64) -> bool {
-    if d != 0 { true } else { begun }
-}
-
-fn put_digit(out: &mut [u8], n: usize, d: u64, is_shown: bool) -> usize {
-    if is_shown {
-        return put(out, n, glyph(d));
-    }
-    n
-}
-
-// The number in hex.
-pub fn put_hex(out: &mut [u8], n: usize, x: u64) -> usize {
-    let mut at = n;
-    let mut k: u32 = 15;
-    let mut begun = false;
-    while k > 0 {
-        let d = (x >> (4 * k)) % 16;
-        begun = shown(begun, d);
-        at = put_digit(out, at, d, begun);
-        k -= 1;
-    }
-    put(out, at, glyph(x))
+// The number in hex, of so many digits at least.
+pub fn put_hex(out: &mut [u8], n: usize, x: u64, digits: usize) -> usize {
+    let mut room = [0u8; 16];
+    let k = io::hex(x, digits, &mut room);
+    put_text(out, n, &room[..k])
 }
 
 // A blank and the number.
 pub fn put_number(out: &mut [u8], n: usize, x: u64) -> usize {
     let at = put(out, n, b' ');
-    put_hex(out, at, x)
+    put_hex(out, at, x, 1)
 }
 
 pub fn put_numbers(out: &mut [u8], n: usize, s: &[u64]) -> usize {
@@ -349,9 +278,7 @@ pub fn put_bytes(out: &mut [u8], n: usize, s: &[u8]) -> usize {
     }
     let mut i = 0;
     while i < s.len() {
-        let b = wide(s[i]);
-        at = put(out, at, glyph(b / 16));
-        at = put(out, at, glyph(b));
+        at = put_hex(out, at, wide(s[i]), 2);
         i += 1;
     }
     at
@@ -363,6 +290,11 @@ pub fn put_part(out: &mut [u8], n: usize) -> usize {
 
 pub fn put_none(out: &mut [u8]) -> usize {
     put_text(out, 0, b"no request")
+}
+
+pub fn put_ok(out: &mut [u8], x: u64) -> usize {
+    let at = put_text(out, 0, b"ok");
+    put_number(out, at, x)
 }
 
 pub fn put_refused(out: &mut [u8], number: u32, line: u32) -> usize {

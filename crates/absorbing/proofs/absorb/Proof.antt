@@ -1,4 +1,4 @@
--- `expression::absorb` meets its contract. The outer loop's invariant: what stands after i cubes are passed; the inner loop's: none of the first j cubes drops cube i. Assumes nothing.
+-- `absorbing::absorb` meets its contract. The outer loop's invariant: what stands after i cubes are passed; the inner loop's: none of the first j cubes drops cube i. Assumes nothing.
 use mathlib.Core.Path.{_≡_, refl, sym, _∙_}
 use mathlib.Core.Bool.{false, not, _&&_, _||_}
 use mathlib.Core.List.{[]}

@@ -1,4 +1,4 @@
--- `expression::absorb_part` meets its contract: the part is absorbed and put back. Assumes nothing.
+-- `absorbing::absorb_part` meets its contract: the part is absorbed and put back. Assumes nothing.
 use mathlib.Core.Path.{_∙_, ap}
 use lib.ListN.{length}
 use Rattle.expression.specs.Expression.{absorbed}

@@ -1,4 +1,4 @@
--- `expression::absorbs` meets its contract. Assumes nothing.
+-- `absorbing::absorbs` meets its contract. Assumes nothing.
 use mathlib.Core.Path.{sym, _∙_}
 use borrow.Author.Tests.{not-true, not-false}
 use borrow.Author.Needs.{needs}

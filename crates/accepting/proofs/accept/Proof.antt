@@ -1,13 +1,10 @@
--- `expression::accept` meets its contract: each refusal by what the tests before it say. Assumes nothing.
+-- `accepting::accept` meets its contract: each refusal by what the tests before it say. Assumes nothing.
 use mathlib.Core.Path.{sym, _∙_}
 use borrow.Author.Tests.{not-true, not-false}
 use Rattle.expression.proofs.Accepting.{refused-many, refused-spare, refused-else}
 use borrow.Author.Needs.{needs}
 use Rattle.accepting.proofs.accept.Statement.{statement}
 use Rattle.accepting.proofs.accept.Tie as tie
-
-mul-if1 : tie.Need-mul-if1
-mul-if1 c = search needs
 
 returns : tie.Need-returns
 returns c = sym (refused-many _ (c .if1 .taken))
@@ -44,7 +41,6 @@ pub accept-spec : {M : Type 1} → statement M
 accept-spec =
     tie.close
     (tie.spec
-    mul-if1
     returns
     returns-2
     all-proper-requires

@@ -1,4 +1,4 @@
--- `expression::all_loose` meets its contract. The loop's invariant: the test of the cubes from i on is the test of all. Assumes nothing.
+-- `accepting::all_loose` meets its contract. The loop's invariant: the test of the cubes from i on is the test of all. Assumes nothing.
 use mathlib.Core.Path.{_≡_, sym, _∙_}
 use mathlib.Core.List.{[]}
 use Prim.Native.Nat.{_≤_, _-_}

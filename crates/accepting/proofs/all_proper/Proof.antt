@@ -1,4 +1,4 @@
--- `expression::all_proper` meets its contract. The loop's invariant: the test of the cubes from i on is the test of all. Assumes nothing.
+-- `accepting::all_proper` meets its contract. The loop's invariant: the test of the cubes from i on is the test of all. Assumes nothing.
 use mathlib.Core.Path.{_≡_, sym, _∙_, ap}
 use Prim.Native.Nat.{_≤_, _-_}
 use native.Mathlib.Omega.{arith}

@@ -1,4 +1,4 @@
--- `expression::is_expression` meets its contract: what words hold is ascending. Assumes nothing.
+-- `accepting::is_expression` meets its contract: what words hold is ascending. Assumes nothing.
 use mathlib.Core.Path.{sym, _∙_}
 use borrow.Author.Needs.{needs}
 use borrow.Author.Tests.{not-true, not-false}

@@ -1,4 +1,4 @@
--- `expression::is_loose` meets its contract. Assumes nothing.
+-- `accepting::is_loose` meets its contract. Assumes nothing.
 use mathlib.Core.Path.{sym, _∙_}
 use Rattle.expression.specs.Expression.{loose}
 use borrow.Author.Needs.{needs}

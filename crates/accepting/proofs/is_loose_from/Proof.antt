@@ -1,4 +1,4 @@
--- `expression::is_loose_from` meets its contract. The loop's invariant: the test of the cubes from j on is the test of those after cube i. Assumes nothing.
+-- `accepting::is_loose_from` meets its contract. The loop's invariant: the test of the cubes from j on is the test of those after cube i. Assumes nothing.
 use mathlib.Core.Path.{_≡_, sym, _∙_, ap}
 use Prim.Native.Nat.{ℕ, _≤_, _-_, _+_}
 use native.Mathlib.Omega.{arith}

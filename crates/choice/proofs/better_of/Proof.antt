@@ -4,8 +4,8 @@ use mathlib.Core.Bool.{Bool, true, false, cond}
 use lib.IntN.{pos}
 use lib.Signed.{ltZ}
 use borrow.Author.Tests.{not-true, not-false}
+use Rattle.divisor.specs.declared.Step.{Step}
 use Rattle.choice.specs.Parts.{taken}
-use Rattle.choice.specs.declared.Step.{Step}
 use Rattle.choice.proofs.Judging.{taken-low, taken-more, taken-less, taken-tie}
 use borrow.Author.Needs.{needs}
 use Rattle.choice.proofs.better_of.Statement.{statement}

@@ -11,6 +11,7 @@ use lib.ListN.{length, getD}
 use Rattle.sets.specs.Sets.{without}
 use Rattle.cube.specs.Cube.{lits}
 use Rattle.expression.specs.Words.{cubesOf}
+use Rattle.divisor.proofs.Using.{found-use}
 use Rattle.choice.proofs.Counting.{Counting, counting-none, counting-on, counting-off, counting-all}
 use Rattle.choice.proofs.count_in.Statement.{statement}
 use Rattle.choice.proofs.count_in.Tie as tie
@@ -24,7 +25,7 @@ abbrev μ-loop : tie.MeasureT-loop
 -- what the test says of the cube at place i
 tested : (c : tie.After-is-use Inv-loop μ-loop)
     → useOf (lits (c .before .before .before .before .before .before .args .a)) (lits (c .before .before .before .before .before .before .args .b)) (cubesOf (c .before .before .before .before .before .before .args .s .now)) (getD (cubesOf (c .before .before .before .before .before .before .args .s .now)) (c .before .before .before .before .loop .i) []) ≡ c .is-use .result
-tested c = ap (useOf (lits (c .before .before .before .before .before .before .args .a)) (lits (c .before .before .before .before .before .before .args .b)) (cubesOf (c .before .before .before .before .before .before .args .s .now))) (sym (c .before .cube-at .ensures)) ∙ sym (c .is-use .ensures)
+tested c = sym (c .is-use .ensures ∙ found-use _ _ _ _ (c .before .before .before .before .before .before .pre .1) ∙ ap (useOf _ _ _) (c .before .cube-at .ensures))
 
 -- no cube has more than 128 literals
 at-most : (c : tie.After-without Inv-loop μ-loop) → length (lits (c .without .result)) ≤ 128

@@ -2,8 +2,8 @@
 use mathlib.Core.Path.{sym, _∙_, ap₂}
 use mathlib.Core.Bool.{Bool}
 use Rattle.extraction.specs.Extract.{sooner}
-use Rattle.choice.specs.Choice.{divisorOf}
-use Rattle.choice.specs.declared.Divisor.{Divisor}
+use Rattle.divisor.specs.Divisor.{divisorOf}
+use Rattle.divisor.specs.declared.Divisor.{Divisor}
 use borrow.Author.Needs.{needs}
 use Rattle.choice.proofs.is_sooner.Statement.{statement}
 use Rattle.choice.proofs.is_sooner.Tie as tie

@@ -2,7 +2,7 @@
 use mathlib.Core.Path.{_≡_, sym, _∙_, ap}
 use mathlib.Core.Option.{none}
 use native.Mathlib.Omega.{arith}
-use Rattle.expression.specs.Answers.{refusal, refusedBy}
+use Rattle.expression.specs.Answers.{refusal, refusalOf}
 use Rattle.expression.proofs.Words.{cubes-length}
 use Rattle.cokernel.proofs.Telling.{told-refused, told-short, told-all}
 use borrow.Author.Needs.{needs}
@@ -16,7 +16,7 @@ enum-known-v : tie.Need-enum-known-v
 enum-known-v c = search needs
 
 returns : tie.Need-returns
-returns c = told-refused _ _ _ (sym (c .before .before .before .accept .ensures) ∙ ap refusedBy (c .before .v .given .1))
+returns c = told-refused _ _ _ (sym (c .before .before .before .accept .ensures) ∙ ap refusalOf (c .before .v .given .1))
 
 enum-told : tie.Need-enum-told
 enum-told c = search needs
@@ -33,7 +33,7 @@ count-all-requires : tie.Need-count-all-requires
 count-all-requires c κs = search needs
 
 accepted : (c : tie.After-enum-told) → refusal (c .before .before .before .before .before .args .f .now) ≡ none
-accepted c = sym (c .before .before .accept .ensures) ∙ ap refusedBy (c .enum-told .given .1)
+accepted c = sym (c .before .before .accept .ensures) ∙ ap refusalOf (c .enum-told .given .1)
 
 same-length : tie.Need-same-length
 same-length c = search needs

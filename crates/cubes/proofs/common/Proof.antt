@@ -1,4 +1,4 @@
--- `cube::common` meets its contract. Assumes nothing.
+-- `cubes::common` meets its contract. Assumes nothing.
 use Rattle.sets.proofs.Literals.{literals-meet}
 use Rattle.cubes.proofs.common.Statement.{statement}
 use Rattle.cubes.proofs.common.Tie as tie

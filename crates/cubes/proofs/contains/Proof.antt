@@ -1,4 +1,4 @@
--- `cube::contains` meets its contract. Assumes nothing.
+-- `cubes::contains` meets its contract. Assumes nothing.
 use Rattle.sets.specs.Lists.{isNil}
 use mathlib.Core.Path.{sym, _∙_, ap}
 use Rattle.sets.proofs.Sets.{without-none}

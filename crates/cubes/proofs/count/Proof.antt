@@ -1,4 +1,4 @@
--- `cube::count` meets its contract. Assumes nothing.
+-- `cubes::count` meets its contract. Assumes nothing.
 use borrow.Author.Needs.{needs}
 use mathlib.Core.Path.{sym, _∙_, ap}
 use native.Mathlib.Omega.{arith}

@@ -1,4 +1,4 @@
--- `cube::is_empty` meets its contract. Assumes nothing.
+-- `cubes::is_empty` meets its contract. Assumes nothing.
 use borrow.Author.Needs.{needs}
 use Rattle.sets.proofs.Literals.{nil-literals}
 use Rattle.cubes.proofs.is_empty.Statement.{statement}

@@ -1,4 +1,4 @@
--- `cube::is_proper` meets its contract. Assumes nothing.
+-- `cubes::is_proper` meets its contract. Assumes nothing.
 use borrow.Author.Needs.{needs}
 use Rattle.sets.proofs.Literals.{proper-literals}
 use Rattle.cubes.proofs.is_proper.Statement.{statement}

@@ -1,4 +1,4 @@
--- `cube::same` meets its contract. Assumes nothing.
+-- `cubes::same` meets its contract. Assumes nothing.
 use borrow.Author.Needs.{needs}
 use Rattle.sets.proofs.Literals.{equal-masks, other-masks}
 use Rattle.cubes.proofs.same.Statement.{statement}

@@ -1,4 +1,4 @@
--- `cube::union` meets its contract. Assumes nothing.
+-- `cubes::union` meets its contract. Assumes nothing.
 use Rattle.sets.proofs.Literals.{literals-union}
 use Rattle.cubes.proofs.union.Statement.{statement}
 use Rattle.cubes.proofs.union.Tie as tie

@@ -1,4 +1,4 @@
--- `cube::without` meets its contract. Assumes nothing.
+-- `cubes::without` meets its contract. Assumes nothing.
 use borrow.Author.Needs.{needs}
 use Rattle.sets.proofs.Literals.{literals-without}
 use Rattle.cubes.proofs.without.Statement.{statement}

@@ -1,23 +1,19 @@
 -- `division::list_quotient` meets its contract. The loop's invariant: what the first i cubes give is written. Assumes nothing.
-use Prim.Native.Nat.{_<_, _≤_, _-_}
-use mathlib.Core.Path.{_≡_, refl, sym, _∙_, ap}
-use mathlib.Core.List.{[]}
+use Prim.Native.Nat.{_-_}
+use mathlib.Core.Path.{_≡_, refl, sym, _∙_}
 use native.Mathlib.Omega.{arith}
-use lib.ListN.{length, drop, drop-of-length-le}
 use borrow.Author.Needs.{needs}
 use borrow.Author.Tests.{not-true, not-false}
 use Rattle.sets.specs.Sets.{sub}
 use Rattle.cube.specs.Cube.{lits}
 use Rattle.expression.specs.Words.{cubesOf}
-use Rattle.division.proofs.Listing.{Going, going-first, going-step, going-next, going-end}
-use Rattle.division.proofs.Making.{given, given-length, given-lacks, given-none, given-one}
+use Rattle.division.proofs.Listing.{Walk, walk-first, walk-skip, walk-put, walk-end}
+use Rattle.division.proofs.Making.{given, given-length}
 use Rattle.division.proofs.list_quotient.Statement.{statement}
 use Rattle.division.proofs.list_quotient.Tie as tie
 
 abbrev Inv-loop : tie.InvT-loop
-Inv-loop f d to₀ first n kept₀ i₀ to kept i =
-    (n ≡ length (cubesOf f)) × (i ≤ n) × (kept ≤ i)
-    × Going to₀ to kept (given (cubesOf f) (cubesOf d) (lits first) (drop i (cubesOf f))) (given (cubesOf f) (cubesOf d) (lits first) (cubesOf f)) × (length to ≡ length to₀)
+Inv-loop f d to₀ first n kept₀ i₀ to kept i = Walk (given (cubesOf f) (cubesOf d) (lits first)) (cubesOf f) to₀ to n kept i
 
 abbrev μ-loop : tie.MeasureT-loop
 μ-loop f d to₀ first n kept₀ i₀ to kept i = n - i
@@ -36,7 +32,10 @@ lacking : (c : tie.After-contains Inv-loop μ-loop) → sub (lits (c .before .be
 lacking c = sym (c .contains .ensures)
 
 loop-holds : tie.Need-loop-holds Inv-loop μ-loop
-loop-holds c = (c .number .ensures, omega arith, omega arith, going-first _ _ (omega (arith, given-length (cubesOf (start c .args .f .now)) (cubesOf (start c .args .d .now)) (lits (c .before .cube-at .result)) (cubesOf (start c .args .f .now)), start c .pre .room)), refl)
+loop-holds c =
+    let s = start c in
+    walk-first (given (cubesOf (s .args .f .now)) (cubesOf (s .args .d .now)) (lits (c .before .cube-at .result))) _ _ _ (c .number .ensures)
+    (omega (arith, given-length (cubesOf (s .args .f .now)) (cubesOf (s .args .d .now)) (lits (c .before .cube-at .result)) (cubesOf (s .args .f .now)), s .pre .room))
 
 cube-at-requires-2 : tie.Need-cube-at-requires-2 Inv-loop μ-loop
 cube-at-requires-2 c κs = search needs
@@ -51,16 +50,7 @@ loop-less : tie.Need-loop-less Inv-loop μ-loop
 loop-less c = search needs
 
 loop-again : tie.Need-loop-again Inv-loop μ-loop
-loop-again c =
-    let l = c .before .before .before .before in
-    let s = start (l .before) in
-    let inside : l .loop .i < length (cubesOf (s .args .f .now)) = omega arith in (
-      l .loop .inv .0,
-      omega arith,
-      omega arith,
-      going-step (l .loop .inv .3) (given-lacks _ (cubesOf (s .args .d .now)) _ (cubesOf (s .args .f .now)) (l .loop .i) inside _ (c .before .before .cube-at2 .ensures) (lacking (c .before) ∙ not-true _ (c .if1 .taken))),
-      l .loop .inv .4,
-    )
+loop-again c = walk-skip (c .before .before .before .before .loop .inv) (omega arith) (c .before .before .cube-at2 .ensures) (λ l. rw (lacking (c .before) ∙ not-true _ (c .if1 .taken)))
 
 without-requires : tie.Need-without-requires Inv-loop μ-loop
 without-requires c κs = search needs
@@ -74,16 +64,8 @@ loop-less-2 c = search needs
 loop-again-2 : tie.Need-loop-again-2 Inv-loop μ-loop
 loop-again-2 c =
     let e = c .before .before .before in
-    let l = e .before .before .before .before in
-    let s = start (l .before) in
-    let inside : l .loop .i < length (cubesOf (s .args .f .now)) = omega arith in (
-      l .loop .inv .0,
-      omega arith,
-      omega arith,
-      going-step (l .loop .inv .3) (given-none _ (cubesOf (s .args .d .now)) _ (cubesOf (s .args .f .now)) (l .loop .i) inside _ (e .before .before .cube-at2 .ensures) (lacking (e .before) ∙ not-false _ (e .if1 .left))
-          _ (c .before .before .without .ensures) (sym (c .before .fits-all .ensures) ∙ not-true _ (c .if2 .taken))),
-      l .loop .inv .4,
-    )
+    walk-skip (e .before .before .before .before .loop .inv) (omega arith) (e .before .before .cube-at2 .ensures)
+    (λ l. rw (lacking (e .before) ∙ not-false _ (e .if1 .left), ← (c .before .before .without .ensures), sym (c .before .fits-all .ensures) ∙ not-true _ (c .if2 .taken)))
 
 put-cube-requires : tie.Need-put-cube-requires Inv-loop μ-loop
 put-cube-requires c κs = search needs
@@ -99,27 +81,17 @@ loop-again-3 c =
     let p = c .before .before in
     let k = p .before .before in
     let e = k .before .before .before in
-    let l = e .before .before .before .before in
-    let s = start (l .before) in
-    let inside : l .loop .i < length (cubesOf (s .args .f .now)) = omega arith in (
-      l .loop .inv .0,
-      omega arith,
-      omega arith,
-      going-next (going-step (l .loop .inv .3) (given-one _ (cubesOf (s .args .d .now)) _ (cubesOf (s .args .f .now)) (l .loop .i) inside _ (e .before .before .cube-at2 .ensures) (lacking (e .before) ∙ not-false _ (e .if1 .left))
-          _ (k .before .before .without .ensures) (sym (k .before .fits-all .ensures) ∙ not-false _ (k .if2 .left)))) (p .put-cube .ensures),
-      p .put-cube .kept .0 ∙ l .loop .inv .4,
-    )
+    walk-put (e .before .before .before .before .loop .inv) (omega arith) (e .before .before .cube-at2 .ensures)
+    (p .put-cube .ensures) (p .put-cube .kept .0)
+    (λ l. rw (lacking (e .before) ∙ not-false _ (e .if1 .left), ← (k .before .before .without .ensures), sym (k .before .fits-all .ensures) ∙ not-false _ (k .if2 .left)))
 
 same-length : tie.Need-same-length Inv-loop μ-loop
-same-length c = c .before .loop .inv .4
+same-length c = c .before .loop .inv .same
 
 returns : tie.Need-returns Inv-loop μ-loop
 returns c =
     let l = c .before in
-    let f = cubesOf (start (l .before) .args .f .now) in
-    let d = cubesOf (start (l .before) .args .d .now) in
-    let none : drop (l .loop .i) f ≡ [] = drop-of-length-le f {i = l .loop .i} (omega arith) in
-    rw (← (l .before .before .cube-at .ensures)) (going-end (l .loop .inv .3) (ap (given f d (lits (l .before .before .cube-at .result))) none))
+    rw (← (l .before .before .cube-at .ensures)) (walk-end (l .loop .inv) (omega arith) refl)
 
 pub list-quotient-spec : {M : Type 1} → statement M
 list-quotient-spec =

@@ -8,10 +8,10 @@ use lib.ListN.{length}
 use Rattle.sets.specs.Lists.{isNil}
 use Rattle.expression.specs.Words.{cubesOf}
 use Rattle.expression.specs.Expression.{literalsOf}
-use Rattle.factor.specs.Form.{uses, mostUsed}
+use Rattle.factor.specs.Form.{usedIn, mostUsed}
 use Rattle.letters.specs.Letters.{literalText}
 use Rattle.factor.specs.Text.{sumText}
-use Rattle.factor.specs.Parts.{part, Outside, sumOf, productOf}
+use Rattle.factor.specs.Parts.{cubesFrom, Elsewhere, writtenSum, productOf}
 use Rattle.letters.proofs.Laying.{Due, due-all, due-as, due-next, due-done, due-last, due-countable, due-rest}
 use Rattle.factor.proofs.Choosing.{mostUsed-inside}
 use Rattle.factor.proofs.Parting.{cubes-kept, part-after, part-some, slice-none, outside-none, outside-join}
@@ -35,10 +35,10 @@ use Rattle.factor.proofs.+product+sum.{statement}
 use Rattle.factor.proofs.+product+sum.Tie.{close}
 
 abbrev μ-product : Measures 3 product-kinds.ps ℕ
-μ-product κs a = suc (literalsOf (part (a .1 .1 .1 .0) (a .1 .1 .1 .1 .0) (a .1 .0 .now)))
+μ-product κs a = suc (literalsOf (cubesFrom (a .1 .1 .1 .0) (a .1 .1 .1 .1 .0) (a .1 .0 .now)))
 
 abbrev μ-sum : Measures 3 sum-kinds.ps ℕ
-μ-sum κs a = literalsOf (part (a .1 .1 .0) (a .1 .1 .1 .0) (a .0 .now))
+μ-sum κs a = literalsOf (cubesFrom (a .1 .1 .0) (a .1 .1 .1 .0) (a .0 .now))
 
 -- what `product` is given at the measure t, and what a call of it asks below t
 abbrev product-at : ℕ → In 3 product-kinds.ps
@@ -58,7 +58,7 @@ sum-below t = and 3 sum-kinds.ps (falls 3 sum-kinds.ps _<_ μ-sum t) sum.Pre
 
 -- the cubes of the part, and what is due of the product's text
 abbrev factors : (t : ℕ) → product-lts.Start (put-literal-reads.Asked, put-literal-reads.Learnt, put-reads.Asked, put-reads.Learnt, sum-below t, sum.Post) (product-at t) product.Post → List (List ℕ)
-factors t s = part (s .args .a) (s .args .e) (s .args .w .now)
+factors t s = cubesFrom (s .args .a) (s .args .e) (s .args .w .now)
 
 abbrev Owed : (t : ℕ) → product-lts.Start (put-literal-reads.Asked, put-literal-reads.Learnt, put-reads.Asked, put-reads.Learnt, sum-below t, sum.Post) (product-at t) product.Post → List ℕ → ℕ → List ℕ → Type 0
 Owed t s o at u = Due (s .args .o .now) (s .args .at) (productOf (s .args .l .0) (factors t s)) o at u
@@ -69,25 +69,25 @@ product-put-literal-requires t c κs =
     due-countable (literalText (s .args .l .0)) _ (due-all (s .args .o .now) (s .args .at) (product-start (s .args .l .0) _)) (s .pre .1 .1)
 
 -- after the literal `*` is due, then `(`, the sum and `)`
-star-due : (t : ℕ) (c : product-lts.After-put-literal (put-literal-reads.Asked, put-literal-reads.Learnt, put-reads.Asked, put-reads.Learnt, sum-below t, sum.Post) (product-at t) product.Post) → Owed t (c .before .before .before .before .before) (c .put-literal .last .0) (c .put-literal .result) (42 ∷ 40 ∷ (sumOf (factors t (c .before .before .before .before .before)) ++ (41 ∷ [])))
+star-due : (t : ℕ) (c : product-lts.After-put-literal (put-literal-reads.Asked, put-literal-reads.Learnt, put-reads.Asked, put-reads.Learnt, sum-below t, sum.Post) (product-at t) product.Post) → Owed t (c .before .before .before .before .before) (c .put-literal .last .0) (c .put-literal .result) (42 ∷ 40 ∷ (writtenSum (factors t (c .before .before .before .before .before)) ++ (41 ∷ [])))
 star-due t c = due-next (due-all _ _ (product-start (c .before .before .before .before .before .args .l .0) _)) (c .put-literal .ensures)
 
 product-put-requires : (t : ℕ) → product-lts.Need-put-requires (put-literal-reads.Asked, put-literal-reads.Learnt, put-reads.Asked, put-reads.Learnt, sum-below t, sum.Post) (product-at t) product.Post
 product-put-requires t c κs = due-countable (_ ∷ []) _ (star-due t (c .before .before .before)) (c .before .before .before .before .before .before .before .before .pre .1 .1)
 
-open-due : (t : ℕ) (c : product-lts.After-put (put-literal-reads.Asked, put-literal-reads.Learnt, put-reads.Asked, put-reads.Learnt, sum-below t, sum.Post) (product-at t) product.Post) → Owed t (c .before .before .before .before .before .before .before .before .before) (c .put .last .0) (c .put .result) (40 ∷ (sumOf (factors t (c .before .before .before .before .before .before .before .before .before)) ++ (41 ∷ [])))
+open-due : (t : ℕ) (c : product-lts.After-put (put-literal-reads.Asked, put-literal-reads.Learnt, put-reads.Asked, put-reads.Learnt, sum-below t, sum.Post) (product-at t) product.Post) → Owed t (c .before .before .before .before .before .before .before .before .before) (c .put .last .0) (c .put .result) (40 ∷ (writtenSum (factors t (c .before .before .before .before .before .before .before .before .before)) ++ (41 ∷ [])))
 open-due t c = due-next (star-due t (c .before .before .before .before)) (c .put .ensures)
 
 product-put-requires-2 : (t : ℕ) → product-lts.Need-put-requires-2 (put-literal-reads.Asked, put-literal-reads.Learnt, put-reads.Asked, put-reads.Learnt, sum-below t, sum.Post) (product-at t) product.Post
 product-put-requires-2 t c κs = due-countable (_ ∷ []) _ (open-due t (c .before .before .before)) (c .before .before .before .before .before .before .before .before .before .before .before .before .pre .1 .1)
 
-inner-due : (t : ℕ) (c : product-lts.After-put2 (put-literal-reads.Asked, put-literal-reads.Learnt, put-reads.Asked, put-reads.Learnt, sum-below t, sum.Post) (product-at t) product.Post) → Owed t (c .before .before .before .before .before .before .before .before .before .before .before .before .before) (c .put2 .last .0) (c .put2 .result) (sumOf (factors t (c .before .before .before .before .before .before .before .before .before .before .before .before .before)) ++ (41 ∷ []))
+inner-due : (t : ℕ) (c : product-lts.After-put2 (put-literal-reads.Asked, put-literal-reads.Learnt, put-reads.Asked, put-reads.Learnt, sum-below t, sum.Post) (product-at t) product.Post) → Owed t (c .before .before .before .before .before .before .before .before .before .before .before .before .before) (c .put2 .last .0) (c .put2 .result) (writtenSum (factors t (c .before .before .before .before .before .before .before .before .before .before .before .before .before)) ++ (41 ∷ []))
 inner-due t c = due-next (open-due t (c .before .before .before .before)) (c .put2 .ensures)
 
 product-sum-requires : (t : ℕ) → product-lts.Need-sum-requires (put-literal-reads.Asked, put-literal-reads.Learnt, put-reads.Asked, put-reads.Learnt, sum-below t, sum.Post) (product-at t) product.Post
 product-sum-requires t c κs =
     let s = c .before .before .before .before .before .before .before .before .before .before .before .before .before .before .before .before .before .before in
-    (omega (arith, s .pre .0), (s .pre .1 .0, due-countable (sumOf (factors t s)) (41 ∷ []) (inner-due t (c .before .before .before .before .before)) (s .pre .1 .1)))
+    (omega (arith, s .pre .0), (s .pre .1 .0, due-countable (writtenSum (factors t s)) (41 ∷ []) (inner-due t (c .before .before .before .before .before)) (s .pre .1 .1)))
 
 close-due : (t : ℕ) (c : product-lts.After-sum (put-literal-reads.Asked, put-literal-reads.Learnt, put-reads.Asked, put-reads.Learnt, sum-below t, sum.Post) (product-at t) product.Post) → Owed t (c .before .before .before .before .before .before .before .before .before .before .before .before .before .before .before .before .before .before .before) (c .sum .last .1 .1 .1 .1 .0) (c .sum .result) (41 ∷ [])
 close-due t c = due-next (inner-due t (c .before .before .before .before .before .before)) (c .sum .ensures .laid)
@@ -111,10 +111,10 @@ product-returns t c = record { laid = due-last (close-due t (c .before .before .
 
 -- the cubes of the part, and what is due of the sum's text
 abbrev terms : (t : ℕ) → sum-lts.Start (most-used-reads.Asked, most-used-reads.Learnt, uses-reads.Asked, uses-reads.Learnt, put-cubes-reads.Asked, put-cubes-reads.Learnt, split-reads.Asked, split-reads.Learnt, product-below t, product.Post, put-reads.Asked, put-reads.Learnt, sum-below t, sum.Post) (sum-at t) sum.Post → List (List ℕ)
-terms t s = part (s .args .a) (s .args .e) (s .args .w .now)
+terms t s = cubesFrom (s .args .a) (s .args .e) (s .args .w .now)
 
 abbrev Due-of : (t : ℕ) → sum-lts.Start (most-used-reads.Asked, most-used-reads.Learnt, uses-reads.Asked, uses-reads.Learnt, put-cubes-reads.Asked, put-cubes-reads.Learnt, split-reads.Asked, split-reads.Learnt, product-below t, product.Post, put-reads.Asked, put-reads.Learnt, sum-below t, sum.Post) (sum-at t) sum.Post → List ℕ → ℕ → List ℕ → Type 0
-Due-of t s o at u = Due (s .args .o .now) (s .args .at) (sumOf (terms t s)) o at u
+Due-of t s o at u = Due (s .args .o .now) (s .args .at) (writtenSum (terms t s)) o at u
 
 sum-most-used-requires : (t : ℕ) → sum-lts.Need-most-used-requires (most-used-reads.Asked, most-used-reads.Learnt, uses-reads.Asked, uses-reads.Learnt, put-cubes-reads.Asked, put-cubes-reads.Learnt, split-reads.Asked, split-reads.Learnt, product-below t, product.Post, put-reads.Asked, put-reads.Learnt, sum-below t, sum.Post) (sum-at t) sum.Post
 sum-most-used-requires t c κs = c .before .before .before .before .pre .1 .0 .held
@@ -126,7 +126,7 @@ sum-uses-requires t c κs = c .before .before .before .before .before .before .p
 plain-due : (t : ℕ) (c : sum-lts.Then1 (most-used-reads.Asked, most-used-reads.Learnt, uses-reads.Asked, uses-reads.Learnt, put-cubes-reads.Asked, put-cubes-reads.Learnt, split-reads.Asked, split-reads.Learnt, product-below t, product.Post, put-reads.Asked, put-reads.Learnt, sum-below t, sum.Post) (sum-at t) sum.Post) → Due-of t (c .before .before .before .before .before .before .before .before) (c .before .before .before .before .before .before .before .before .args .o .now) (c .before .before .before .before .before .before .before .before .args .at) (sumText (terms t (c .before .before .before .before .before .before .before .before)))
 plain-due t c =
     let f = terms t (c .before .before .before .before .before .before .before .before) in
-    let n : c .before .uses .result ≡ uses (mostUsed f) f = c .before .uses .ensures ∙ ap (λ l. uses l f) (c .before .before .before .most-used .ensures) in
+    let n : c .before .uses .result ≡ usedIn (mostUsed f) f = c .before .uses .ensures ∙ ap (λ l. usedIn l f) (c .before .before .before .most-used .ensures) in
     due-all _ _ (sum-plain f (omega (arith, n, c .if1 .taken)))
 
 sum-put-cubes-requires : (t : ℕ) → sum-lts.Need-put-cubes-requires (most-used-reads.Asked, most-used-reads.Learnt, uses-reads.Asked, uses-reads.Learnt, put-cubes-reads.Asked, put-cubes-reads.Learnt, split-reads.Asked, split-reads.Learnt, product-below t, product.Post, put-reads.Asked, put-reads.Learnt, sum-below t, sum.Post) (sum-at t) sum.Post
@@ -153,12 +153,12 @@ abbrev chosen : (t : ℕ) → sum-lts.After-split (most-used-reads.Asked, most-u
 chosen t c = c .before .before .before .before .before .before .most-used .result .0
 
 abbrev quotient : (t : ℕ) → sum-lts.After-split (most-used-reads.Asked, most-used-reads.Learnt, uses-reads.Asked, uses-reads.Learnt, put-cubes-reads.Asked, put-cubes-reads.Learnt, split-reads.Asked, split-reads.Learnt, product-below t, product.Post, put-reads.Asked, put-reads.Learnt, sum-below t, sum.Post) (sum-at t) sum.Post → List (List ℕ)
-quotient t c = part (c .before .before .before .before .before .before .before .before .before .before .before .args .a) (c .split .result) (c .split .last .0)
+quotient t c = cubesFrom (c .before .before .before .before .before .before .before .before .before .before .before .args .a) (c .split .result) (c .split .last .0)
 
 abbrev others : (t : ℕ) → sum-lts.After-split (most-used-reads.Asked, most-used-reads.Learnt, uses-reads.Asked, uses-reads.Learnt, put-cubes-reads.Asked, put-cubes-reads.Learnt, split-reads.Asked, split-reads.Learnt, product-below t, product.Post, put-reads.Asked, put-reads.Learnt, sum-below t, sum.Post) (sum-at t) sum.Post → List ℕ → List (List ℕ)
-others t c ws = part (c .split .result) (c .before .before .before .before .before .before .before .before .before .before .before .args .e) ws
+others t c ws = cubesFrom (c .split .result) (c .before .before .before .before .before .before .before .before .before .before .before .args .e) ws
 
-many : (t : ℕ) (c : sum-lts.After-split (most-used-reads.Asked, most-used-reads.Learnt, uses-reads.Asked, uses-reads.Learnt, put-cubes-reads.Asked, put-cubes-reads.Learnt, split-reads.Asked, split-reads.Learnt, product-below t, product.Post, put-reads.Asked, put-reads.Learnt, sum-below t, sum.Post) (sum-at t) sum.Post) → 2 ≤ uses (chosen t c) (terms t (c .before .before .before .before .before .before .before .before .before .before .before))
+many : (t : ℕ) (c : sum-lts.After-split (most-used-reads.Asked, most-used-reads.Learnt, uses-reads.Asked, uses-reads.Learnt, put-cubes-reads.Asked, put-cubes-reads.Learnt, split-reads.Asked, split-reads.Learnt, product-below t, product.Post, put-reads.Asked, put-reads.Learnt, sum-below t, sum.Post) (sum-at t) sum.Post) → 2 ≤ usedIn (chosen t c) (terms t (c .before .before .before .before .before .before .before .before .before .before .before))
 many t c = omega (arith, c .before .before .before .before .uses .ensures, c .before .before .before .if1 .left)
 
 -- the product is due, then the rest
@@ -187,7 +187,7 @@ rest-due : (t : ℕ) (c : sum-lts.After-product (most-used-reads.Asked, most-use
 rest-due t c = due-next (parted-due t (c .before .before .before .before .before .before .before .before)) (c .product .ensures .laid)
 
 -- what the product leaves
-left : (t : ℕ) (c : sum-lts.After-product (most-used-reads.Asked, most-used-reads.Learnt, uses-reads.Asked, uses-reads.Learnt, put-cubes-reads.Asked, put-cubes-reads.Learnt, split-reads.Asked, split-reads.Learnt, product-below t, product.Post, put-reads.Asked, put-reads.Learnt, sum-below t, sum.Post) (sum-at t) sum.Post) → Outside (c .before .before .before .before .before .before .before .before .before .before .before .before .before .before .before .before .before .before .before .args .w .now) (c .product .last .1 .0) (c .before .before .before .before .before .before .before .before .before .before .before .before .before .before .before .before .before .before .before .args .a) (c .before .before .before .before .before .before .before .before .before .before .before .before .before .before .before .before .before .before .before .args .e)
+left : (t : ℕ) (c : sum-lts.After-product (most-used-reads.Asked, most-used-reads.Learnt, uses-reads.Asked, uses-reads.Learnt, put-cubes-reads.Asked, put-cubes-reads.Learnt, split-reads.Asked, split-reads.Learnt, product-below t, product.Post, put-reads.Asked, put-reads.Learnt, sum-below t, sum.Post) (sum-at t) sum.Post) → Elsewhere (c .before .before .before .before .before .before .before .before .before .before .before .before .before .before .before .before .before .before .before .args .w .now) (c .product .last .1 .0) (c .before .before .before .before .before .before .before .before .before .before .before .before .before .before .before .before .before .before .before .args .a) (c .before .before .before .before .before .before .before .before .before .before .before .before .before .before .before .before .before .before .before .args .e)
 left t c = outside-join (c .before .before .before .before .before .before .before .before .split .ensures .outside) (c .product .ensures .outside) (omega arith) (c .before .before .before .before .before .before .before .before .split .ensures .most)
 
 sum-same-length-3 : (t : ℕ) → sum-lts.Need-same-length-3 (most-used-reads.Asked, most-used-reads.Learnt, uses-reads.Asked, uses-reads.Learnt, put-cubes-reads.Asked, put-cubes-reads.Learnt, split-reads.Asked, split-reads.Learnt, product-below t, product.Post, put-reads.Asked, put-reads.Learnt, sum-below t, sum.Post) (sum-at t) sum.Post
@@ -209,11 +209,11 @@ kept : (t : ℕ) (c : sum-lts.After-product (most-used-reads.Asked, most-used-re
 kept t c = part-after (c .product .ensures .outside) (c .before .before .before .before .before .before .before .before .before .before .before .before .before .before .before .before .before .before .before .args .e) (c .before .before .before .before .before .before .before .before .split .ensures .most)
 
 -- `+` and the sum of the rest are due
-plus-due : (t : ℕ) (c : sum-lts.Else2 (most-used-reads.Asked, most-used-reads.Learnt, uses-reads.Asked, uses-reads.Learnt, put-cubes-reads.Asked, put-cubes-reads.Learnt, split-reads.Asked, split-reads.Learnt, product-below t, product.Post, put-reads.Asked, put-reads.Learnt, sum-below t, sum.Post) (sum-at t) sum.Post) → Due-of t (c .before .before .before .before .before .before .before .before .before .before .before .before .before .before .before .before .before .before .before .before .before .before .before .before .before .before) (c .before .before .before .before .before .before .before .product .last .1 .1 .1 .1 .1 .0) (c .before .before .before .before .before .before .before .product .result) (43 ∷ sumOf (others t (c .before .before .before .before .before .before .before .before .before .before .before .before .before .before .before) (c .before .before .before .before .before .before .before .product .last .1 .0)))
+plus-due : (t : ℕ) (c : sum-lts.Else2 (most-used-reads.Asked, most-used-reads.Learnt, uses-reads.Asked, uses-reads.Learnt, put-cubes-reads.Asked, put-cubes-reads.Learnt, split-reads.Asked, split-reads.Learnt, product-below t, product.Post, put-reads.Asked, put-reads.Learnt, sum-below t, sum.Post) (sum-at t) sum.Post) → Due-of t (c .before .before .before .before .before .before .before .before .before .before .before .before .before .before .before .before .before .before .before .before .before .before .before .before .before .before) (c .before .before .before .before .before .before .before .product .last .1 .1 .1 .1 .1 .0) (c .before .before .before .before .before .before .before .product .result) (43 ∷ writtenSum (others t (c .before .before .before .before .before .before .before .before .before .before .before .before .before .before .before) (c .before .before .before .before .before .before .before .product .last .1 .0)))
 plus-due t c =
     let d = c .before .before .before .before .before .before .before .before .before .before .before .before .before .before .before in
     let some = part-some (d .split .last .0) (d .split .result) (c .before .before .before .before .before .before .before .before .before .before .before .before .before .before .before .before .before .before .before .before .before .before .before .before .before .before .args .e) (omega (arith, d .split .ensures .most, c .if2 .left)) (held t d) in
-    due-as (rest-due t (c .before .before .before .before .before .before .before)) (after-some _ some ∙ ap (λ g. 43 ∷ sumOf g) (sym (kept t (c .before .before .before .before .before .before .before))))
+    due-as (rest-due t (c .before .before .before .before .before .before .before)) (after-some _ some ∙ ap (λ g. 43 ∷ writtenSum g) (sym (kept t (c .before .before .before .before .before .before .before))))
 
 sum-put-requires : (t : ℕ) → sum-lts.Need-put-requires (most-used-reads.Asked, most-used-reads.Learnt, uses-reads.Asked, uses-reads.Learnt, put-cubes-reads.Asked, put-cubes-reads.Learnt, split-reads.Asked, split-reads.Learnt, product-below t, product.Post, put-reads.Asked, put-reads.Learnt, sum-below t, sum.Post) (sum-at t) sum.Post
 sum-put-requires t c κs = due-countable (_ ∷ []) _ (plus-due t (c .before)) (c .before .before .before .before .before .before .before .before .before .before .before .before .before .before .before .before .before .before .before .before .before .before .before .before .before .before .before .pre .1 .1)

@@ -6,8 +6,7 @@ use Prim.Native.Nat.{_≤_}
 use native.Mathlib.Omega.{arith}
 use borrow.Author.Needs.{needs}
 use lib.ListN.{length}
-use Rattle.expression.specs.Answers.{refusal}
-use Rattle.expression.specs.Answers as answers
+use Rattle.expression.specs.Answers.{refusal, refusalOf}
 use Rattle.expression.proofs.Accepting.{accepted-iff}
 use Rattle.factor.specs.Text.{textOf}
 use Rattle.letters.specs.Laid.{Laid}
@@ -23,7 +22,7 @@ enum-known-v : tie.Need-enum-known-v
 enum-known-v c = search needs
 
 returns : tie.Need-returns
-returns c = told-refused _ _ _ (sym (c .before .before .before .accept .ensures) ∙ ap answers.refusedBy (c .before .v .given .1))
+returns c = told-refused _ _ _ (sym (c .before .before .before .accept .ensures) ∙ ap refusalOf (c .before .v .given .1))
 
 enum-told : tie.Need-enum-told
 enum-told c = search needs
@@ -46,7 +45,7 @@ slice-aggregate-text c = search needs
 
 -- an expression of at most 1,024 cubes
 accepted : (c : tie.After-enum-told) → refusal (c .before .before .before .before .before .args .f .now) ≡ none
-accepted c = sym (c .before .before .accept .ensures) ∙ ap answers.refusedBy (c .enum-told .given .1)
+accepted c = sym (c .before .before .accept .ensures) ∙ ap refusalOf (c .enum-told .given .1)
 
 few : (c : tie.After-enum-told) → length (c .before .before .before .before .before .args .f .now) ≤ 2048
 few c = accepted-iff (c .before .before .before .before .before .args .f .now) .0 (accepted c) .0

@@ -10,7 +10,7 @@ use Rattle.expression.specs.Words.{cubesOf}
 use Rattle.expression.proofs.Words.{cubes-length}
 use Rattle.letters.specs.Letters.{cubeText}
 use Rattle.factor.specs.Text.{sumText}
-use Rattle.factor.specs.Parts.{part}
+use Rattle.factor.specs.Parts.{cubesFrom}
 use Rattle.letters.proofs.Texts.{marked-nil, marked-cons}
 use Rattle.letters.proofs.Laying.{Due, due-all, due-as, due-next, due-done, due-last, due-trans, due-countable, due-rest}
 use Rattle.factor.proofs.Texts.{plussed, sum-first, sum-none}
@@ -19,14 +19,14 @@ use Rattle.factor.proofs.put_cubes.Statement.{statement}
 use Rattle.factor.proofs.put_cubes.Tie as tie
 
 abbrev Inv-loop : tie.InvT-loop
-Inv-loop o₀ at w a e p₀ i₀ o p i = (i ≤ e) × Due o₀ p₀ (plussed (part i₀ e w)) o p (plussed (part i e w)) × (length o ≡ length o₀)
+Inv-loop o₀ at w a e p₀ i₀ o p i = (i ≤ e) × Due o₀ p₀ (plussed (cubesFrom i₀ e w)) o p (plussed (cubesFrom i e w)) × (length o ≡ length o₀)
 
 abbrev μ-loop : tie.MeasureT-loop
 μ-loop o₀ at w a e p₀ i₀ o p i = e - i
 
 -- the cubes from one on, and their text with `+` before each
 abbrev from : tie.Start Inv-loop μ-loop → ℕ → List (List ℕ)
-from s i = part i (s .args .e) (s .args .w .now)
+from s i = cubesFrom i (s .args .e) (s .args .w .now)
 
 abbrev others : tie.Start Inv-loop μ-loop → ℕ → List ℕ
 others s i = plussed (from s i)

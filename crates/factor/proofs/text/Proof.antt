@@ -8,7 +8,7 @@ use lib.ListN.{length, replicate}
 use Rattle.expression.specs.Words.{cubesOf}
 use Rattle.expression.proofs.Words.{cubes-length}
 use Rattle.factor.specs.Text.{textOf}
-use Rattle.factor.specs.Parts.{part, sumOf}
+use Rattle.factor.specs.Parts.{cubesFrom, writtenSum}
 use Rattle.letters.proofs.Laying.{Due, due-all, due-last, due-rest}
 use Rattle.factor.proofs.Parting.{cubes-kept}
 use Rattle.factor.proofs.Answering.{sorted-front, text-sum, text-countable}
@@ -50,8 +50,8 @@ slice-aggregate-sum-2 c = search needs
 abbrev Owed : tie.Start → List ℕ → Type 0
 Owed s t = Due (s .args .o .now) 0 (textOf (s .args .f .now)) (s .args .o .now) 0 t
 
-whole : (c : tie.After-sort-part) → Owed (c .before .before .before .before .before .before .before .before) (sumOf (part 0 (c .before .before .before .before .before .number .result) (c .sort-part .last .0)))
-whole c = due-all _ _ (sym (ap sumOf (sorted-front (c .before .before .before .before .before .number .ensures) (c .before .before .before .copy .ensures) (c .sort-part .ensures)) ∙ text-sum (c .before .before .before .before .before .before .before .before .args .f .now)))
+whole : (c : tie.After-sort-part) → Owed (c .before .before .before .before .before .before .before .before) (writtenSum (cubesFrom 0 (c .before .before .before .before .before .number .result) (c .sort-part .last .0)))
+whole c = due-all _ _ (sym (ap writtenSum (sorted-front (c .before .before .before .before .before .number .ensures) (c .before .before .before .copy .ensures) (c .sort-part .ensures)) ∙ text-sum (c .before .before .before .before .before .before .before .before .args .f .now)))
 
 sum-requires : tie.Need-sum-requires
 sum-requires c κs =

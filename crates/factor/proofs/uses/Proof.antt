@@ -9,25 +9,25 @@ use mathlib.Core.Logic.{inl, inr}
 use Rattle.sets.specs.Sets.{mem}
 use Rattle.expression.specs.Words.{cubesOf}
 use Rattle.expression.proofs.Words.{cubes-length}
-use Rattle.factor.specs.Form.{uses}
-use Rattle.factor.specs.Parts.{part}
+use Rattle.factor.specs.Form.{usedIn}
+use Rattle.factor.specs.Parts.{cubesFrom}
 use Rattle.factor.proofs.Choosing.{uses-yes, uses-no}
 use Rattle.factor.proofs.Parting.{slice-next, slice-none}
 use Rattle.factor.proofs.uses.Statement.{statement}
 use Rattle.factor.proofs.uses.Tie as tie
 
 abbrev Inv-loop : tie.InvT-loop
-Inv-loop w a e l n₀ i₀ n i = (i ≤ e) × (n ≤ i) × (n + uses (l .0) (part i e w) ≡ uses (l .0) (part a e w))
+Inv-loop w a e l n₀ i₀ n i = (i ≤ e) × (n ≤ i) × (n + usedIn (l .0) (cubesFrom i e w) ≡ usedIn (l .0) (cubesFrom a e w))
 
 abbrev μ-loop : tie.MeasureT-loop
 μ-loop w a e l n₀ i₀ n i = e - i
 
 -- the cubes from a place on, and how many of them have the literal
 abbrev from : tie.Start Inv-loop μ-loop → ℕ → List (List ℕ)
-from s i = part i (s .args .e) (s .args .w .now)
+from s i = cubesFrom i (s .args .e) (s .args .w .now)
 
 abbrev among : tie.Start Inv-loop μ-loop → List (List ℕ) → ℕ
-among s f = uses (s .args .l .0) f
+among s f = usedIn (s .args .l .0) f
 
 -- the cube at the place that the loop has come to
 abbrev present : tie.At-loop Inv-loop μ-loop → List ℕ
@@ -46,7 +46,7 @@ has-requires c κs = search needs
 next : (c : tie.In-loop Inv-loop μ-loop) → among (c .before .before .before) (from (c .before .before .before) (c .before .loop .i)) ≡ among (c .before .before .before) (present (c .before) ∷ from (c .before .before .before) (c .before .loop .i + 1))
 next c =
     let s = c .before .before .before in
-    ap (uses (s .args .l .0)) (slice-next (cubesOf (s .args .w .now)) (c .before .loop .i) (s .args .e) [] (c .loop-test .taken) (s .pre .inside))
+    ap (usedIn (s .args .l .0)) (slice-next (cubesOf (s .args .w .now)) (c .before .loop .i) (s .args .e) [] (c .loop-test .taken) (s .pre .inside))
 
 tested : (c : tie.After-has Inv-loop μ-loop) → c .has .result ≡ mem (c .before .before .before .before .before .args .l .0) (present (c .before .before .before))
 tested c = c .has .ensures ∙ ap (mem (c .before .before .before .before .before .args .l .0)) (c .before .cube-at .ensures)
@@ -77,7 +77,7 @@ returns c =
     let s = c .before .before .before in
     let h = c .before in
     let done = slice-none (cubesOf (s .args .w .now)) (h .loop .i) (s .args .e) (omega arith) in
-    omega (arith, h .loop .inv .2, ap (uses (s .args .l .0)) done)
+    omega (arith, h .loop .inv .2, ap (usedIn (s .args .l .0)) done)
 
 pub uses-spec : {M : Type 1} → statement M
 uses-spec = tie.close (tie.spec Inv-loop μ-loop loop-holds cube-at-requires has-requires add-n add-i loop-less loop-again returns)

@@ -4,13 +4,13 @@ use Prim.Native.Nat.{_+_, _-_, _≤_}
 use native.Mathlib.Omega.{arith}
 use borrow.Author.Needs.{needs}
 use Rattle.network.proofs.Parts.{start-next}
-use Rattle.hangs.specs.Parts.{before}
+use Rattle.hangs.specs.Parts.{countBefore}
 use Rattle.hangs.proofs.Finding.{sum-le}
 use Rattle.hangs.proofs.start.Statement.{statement}
 use Rattle.hangs.proofs.start.Tie as tie
 
 abbrev Inv-loop : tie.InvT-loop
-Inv-loop counts i sum₀ j₀ sum j = (j ≤ i) × (sum ≡ before j counts)
+Inv-loop counts i sum₀ j₀ sum j = (j ≤ i) × (sum ≡ countBefore j counts)
 
 abbrev μ-loop : tie.MeasureT-loop
 μ-loop counts i sum₀ j₀ sum j = i - j
@@ -45,7 +45,7 @@ returns : tie.Need-returns Inv-loop μ-loop
 returns c =
     let l = c .before in
     let e : l .loop .j ≡ l .before .args .i = omega arith in
-    l .loop .inv .1 ∙ ap (λ x. before x (l .before .args .counts .now)) e
+    l .loop .inv .1 ∙ ap (λ x. countBefore x (l .before .args .counts .now)) e
 
 pub start-spec : {M : Type 1} → statement M
 start-spec =

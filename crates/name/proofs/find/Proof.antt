@@ -6,37 +6,52 @@ use Rattle.name.proofs.find.Statement.{statement}
 use Rattle.name.proofs.find.Tie as tie
 
 abbrev Inv-loop : tie.InvT-loop
-Inv-loop text i at₀ at = at ≤ length text + 1
+Inv-loop table i at₀ at = at ≤ length table + 1
 
 abbrev μ-loop : tie.MeasureT-loop
-μ-loop text i at₀ at = length text + 1 - at
+μ-loop table i at₀ at = length table + 1 - at
 
 loop-holds : tie.Need-loop-holds Inv-loop μ-loop
 loop-holds c = search needs
 
-line-end-requires : tie.Need-line-end-requires Inv-loop μ-loop
-line-end-requires c κs = search needs
+find-requires : tie.Need-find-requires Inv-loop μ-loop
+find-requires c κs = search needs
 
-sub-line-of : tie.Need-sub-line-of Inv-loop μ-loop
-sub-line-of c = search needs
+sub-named : tie.Need-sub-named Inv-loop μ-loop
+sub-named c = search needs
 
-part-line-of-start : tie.Need-part-line-of-start Inv-loop μ-loop
-part-line-of-start c = search needs
+part-named-start : tie.Need-part-named-start Inv-loop μ-loop
+part-named-start c = search needs
 
-part-line-of-end : tie.Need-part-line-of-end Inv-loop μ-loop
-part-line-of-end c = search needs
+part-named-end : tie.Need-part-named-end Inv-loop μ-loop
+part-named-end c = search needs
 
-line-of-requires : tie.Need-line-of-requires Inv-loop μ-loop
-line-of-requires c κs = search needs
-
-enum-told : tie.Need-enum-told Inv-loop μ-loop
-enum-told c = search needs
+named-requires : tie.Need-named-requires Inv-loop μ-loop
+named-requires c κs = search needs
 
 returns : tie.Need-returns Inv-loop μ-loop
 returns c = search needs
 
-enum-told-2 : tie.Need-enum-told-2 Inv-loop μ-loop
-enum-told-2 c = search needs
+sub-is-cube : tie.Need-sub-is-cube Inv-loop μ-loop
+sub-is-cube c = search needs
+
+part-is-cube-start : tie.Need-part-is-cube-start Inv-loop μ-loop
+part-is-cube-start c = search needs
+
+part-is-cube-end : tie.Need-part-is-cube-end Inv-loop μ-loop
+part-is-cube-end c = search needs
+
+is-cube-requires : tie.Need-is-cube-requires Inv-loop μ-loop
+is-cube-requires c κs = search needs
+
+sub-result : tie.Need-sub-result Inv-loop μ-loop
+sub-result c = search needs
+
+part-result-start : tie.Need-part-result-start Inv-loop μ-loop
+part-result-start c = search needs
+
+part-result-end : tie.Need-part-result-end Inv-loop μ-loop
+part-result-end c = search needs
 
 returns-2 : tie.Need-returns-2 Inv-loop μ-loop
 returns-2 c = search needs
@@ -50,6 +65,15 @@ loop-less c = search needs
 loop-again : tie.Need-loop-again Inv-loop μ-loop
 loop-again c = search needs
 
+sub-result-2 : tie.Need-sub-result-2 Inv-loop μ-loop
+sub-result-2 c = search needs
+
+part-result-start-2 : tie.Need-part-result-start-2 Inv-loop μ-loop
+part-result-start-2 c = search needs
+
+part-result-end-2 : tie.Need-part-result-end-2 Inv-loop μ-loop
+part-result-end-2 c = search needs
+
 returns-3 : tie.Need-returns-3 Inv-loop μ-loop
 returns-3 c = search needs
 
@@ -60,16 +84,24 @@ find-spec =
     Inv-loop
     μ-loop
     loop-holds
-    line-end-requires
-    sub-line-of
-    part-line-of-start
-    part-line-of-end
-    line-of-requires
-    enum-told
+    find-requires
+    sub-named
+    part-named-start
+    part-named-end
+    named-requires
     returns
-    enum-told-2
+    sub-is-cube
+    part-is-cube-start
+    part-is-cube-end
+    is-cube-requires
+    sub-result
+    part-result-start
+    part-result-end
     returns-2
     add-at
     loop-less
     loop-again
+    sub-result-2
+    part-result-start-2
+    part-result-end-2
     returns-3)

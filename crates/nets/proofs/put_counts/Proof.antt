@@ -1,19 +1,28 @@
 -- `nets::put_counts` is safe and ends. Assumes nothing.
 use mathlib.Core.Path.{_≡_}
-use Prim.Native.Nat.{_+_, _-_, _<_, _≤_}
+use Prim.Native.Nat.{_-_, _≤_}
 use lib.ListN.{length}
 use borrow.Author.Needs.{needs}
 use Rattle.nets.proofs.put_counts.Statement.{statement}
 use Rattle.nets.proofs.put_counts.Tie as tie
 
 abbrev Inv-loop : tie.InvT-loop
-Inv-loop out₀ n counts used at₀ i₀ out at i = (i ≤ used) × (length out ≡ length out₀)
+Inv-loop out₀ n used counts at₀ cubes₀ i₀ out at cubes i = (cubes ≤ 1088) × (length out ≡ length out₀)
 
 abbrev μ-loop : tie.MeasureT-loop
-μ-loop out₀ n counts used at₀ i₀ out at i = used - i
+μ-loop out₀ n used counts at₀ cubes₀ i₀ out at cubes i = used - i
 
 loop-holds : tie.Need-loop-holds Inv-loop μ-loop
 loop-holds c = search needs
+
+mul-if1 : tie.Need-mul-if1 Inv-loop μ-loop
+mul-if1 c = search needs
+
+array-read-if1 : tie.Need-array-read-if1 Inv-loop μ-loop
+array-read-if1 c = search needs
+
+sub-if1 : tie.Need-sub-if1 Inv-loop μ-loop
+sub-if1 c = search needs
 
 same-length : tie.Need-same-length Inv-loop μ-loop
 same-length c = search needs
@@ -24,11 +33,20 @@ returns c = search needs
 mul-put-number : tie.Need-mul-put-number Inv-loop μ-loop
 mul-put-number c = search needs
 
-shared-slice-read-put-number : tie.Need-shared-slice-read-put-number Inv-loop μ-loop
-shared-slice-read-put-number c = search needs
+array-read-put-number : tie.Need-array-read-put-number Inv-loop μ-loop
+array-read-put-number c = search needs
 
 put-number-requires : tie.Need-put-number-requires Inv-loop μ-loop
 put-number-requires c κs = search needs
+
+mul-cubes : tie.Need-mul-cubes Inv-loop μ-loop
+mul-cubes c = search needs
+
+array-read-cubes : tie.Need-array-read-cubes Inv-loop μ-loop
+array-read-cubes c = search needs
+
+add-cubes : tie.Need-add-cubes Inv-loop μ-loop
+add-cubes c = search needs
 
 add-i : tie.Need-add-i Inv-loop μ-loop
 add-i c = search needs
@@ -52,11 +70,17 @@ put-counts-spec =
     Inv-loop
     μ-loop
     loop-holds
+    mul-if1
+    array-read-if1
+    sub-if1
     same-length
     returns
     mul-put-number
-    shared-slice-read-put-number
+    array-read-put-number
     put-number-requires
+    mul-cubes
+    array-read-cubes
+    add-cubes
     add-i
     loop-less
     loop-again

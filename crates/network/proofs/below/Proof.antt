@@ -5,13 +5,13 @@ use Prim.Native.Nat.{_≤_, _-_}
 use native.Mathlib.Omega.{arith}
 use borrow.Author.Needs.{needs}
 use Rattle.cube.specs.Cube.{lits}
-use Rattle.network.specs.Parts.{Spans}
+use Rattle.network.specs.Parts.{BothWays}
 use Rattle.network.proofs.Knowing.{spans-none, spans-input}
 use Rattle.network.proofs.below.Statement.{statement}
 use Rattle.network.proofs.below.Tie as tie
 
 abbrev Inv-loop : tie.InvT-loop
-Inv-loop n c₀ v₀ c v = (v ≤ n) × Spans v [] (lits c) × (n ≤ 64)
+Inv-loop n c₀ v₀ c v = (v ≤ n) × BothWays v [] (lits c) × (n ≤ 64)
 
 abbrev μ-loop : tie.MeasureT-loop
 μ-loop n c₀ v₀ c v = n - v
@@ -40,7 +40,7 @@ loop-again c =
     (omega arith, spans-input (l .loop .v) _ _ _ (c .before .valued .ensures) (c .valued2 .ensures) (l .loop .inv .1), omega arith)
 
 returns : tie.Need-returns Inv-loop μ-loop
-returns c = let l = c .before in subst (λ x. Spans x [] (lits (l .loop .c))) (omega arith) (l .loop .inv .1)
+returns c = let l = c .before in subst (λ x. BothWays x [] (lits (l .loop .c))) (omega arith) (l .loop .inv .1)
 
 pub below-spec : {M : Type 1} → statement M
 below-spec =

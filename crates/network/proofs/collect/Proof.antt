@@ -7,14 +7,14 @@ use native.Mathlib.Omega.{arith}
 use borrow.Author.Needs.{needs}
 use lib.ListN.{length, getD}
 use Rattle.cube.specs.Cube.{lits}
-use Rattle.network.specs.Parts.{nodesOf, holds}
+use Rattle.network.specs.Parts.{nodesOf, someWithin}
 use Rattle.network.proofs.Parts.{nodes-length, nodes-at}
 use Rattle.network.proofs.Settling.{Collected, collected-none, collected-small, collected-more, collected-all}
 use Rattle.network.proofs.collect.Statement.{statement}
 use Rattle.network.proofs.collect.Tie as tie
 
 abbrev Inv-loop : tie.InvT-loop
-Inv-loop words counts m t r₀ j₀ r j = (j ≤ m) × Collected (holds (lits t)) (nodesOf m counts words) j r
+Inv-loop words counts m t r₀ j₀ r j = (j ≤ m) × Collected (someWithin (lits t)) (nodesOf m counts words) j r
 
 abbrev μ-loop : tie.MeasureT-loop
 μ-loop words counts m t r₀ j₀ r j = j
@@ -32,11 +32,11 @@ small : (l : tie.At-loop Inv-loop μ-loop) → l .loop .r < 4294967296
 small l = collected-small _ _ (l .loop .j) (l .loop .r) (l .loop .inv .1) (omega (arith, many (start l), start l .pre .1))
 
 -- what the test says of output i
-tested : (c : tie.After-any-in Inv-loop μ-loop) → holds (lits (start (c .before .before .before) .args .t)) (getD (held (c .before .before .before)) (c .before .before .before .loop .j - 1) []) ≡ c .any-in .result
+tested : (c : tie.After-within Inv-loop μ-loop) → someWithin (lits (start (c .before .before .before) .args .t)) (getD (held (c .before .before .before)) (c .before .before .before .loop .j - 1) []) ≡ c .within .result
 tested c =
     let l = c .before .before .before in
-    ap (holds (lits (start l .args .t))) (nodes-at (start l .args .counts .now) (start l .args .words .now) (start l .args .m) (l .loop .j - 1) (omega arith) ∙ sym (c .before .node .ensures))
-    ∙ sym (c .any-in .ensures)
+    ap (someWithin (lits (start l .args .t))) (nodes-at (start l .args .counts .now) (start l .args .words .now) (start l .args .m) (l .loop .j - 1) (omega arith) ∙ sym (c .before .node .ensures))
+    ∙ sym (c .within .ensures)
 
 loop-holds : tie.Need-loop-holds Inv-loop μ-loop
 loop-holds c = (omega arith, collected-none _ _ _ (omega (arith, many (c .before .before))))
@@ -47,8 +47,8 @@ sub-i c = omega arith
 node-requires : tie.Need-node-requires Inv-loop μ-loop
 node-requires c κs = record { counted = omega (arith, start (c .before) .pre .0 .counted); few = start (c .before) .pre .0 .few }
 
-any-in-requires : tie.Need-any-in-requires Inv-loop μ-loop
-any-in-requires c κs = search needs
+within-requires : tie.Need-within-requires Inv-loop μ-loop
+within-requires c κs = search needs
 
 mul-r : tie.Need-mul-r Inv-loop μ-loop
 mul-r c = omega (arith, small (c .before .before .before .before))
@@ -76,7 +76,7 @@ loop-again-2 c =
     (omega arith, collected-more _ (held l) [] (l .loop .j) (l .loop .j - 1) (l .loop .r) _ false (omega arith) (omega (arith, many (start l))) (l .loop .inv .1) (tested (c .before) ∙ c .if1 .left) (omega arith))
 
 returns : tie.Need-returns Inv-loop μ-loop
-returns c = let l = c .before in collected-all _ (held l) (l .loop .r) (subst (λ x. Collected (holds (lits (start l .args .t))) (held l) x (l .loop .r)) (omega arith) (l .loop .inv .1))
+returns c = let l = c .before in collected-all _ (held l) (l .loop .r) (subst (λ x. Collected (someWithin (lits (start l .args .t))) (held l) x (l .loop .r)) (omega arith) (l .loop .inv .1))
 
 pub collect-spec : {M : Type 1} → statement M
 collect-spec =
@@ -87,7 +87,7 @@ collect-spec =
     loop-holds
     sub-i
     node-requires
-    any-in-requires
+    within-requires
     mul-r
     add-r
     mul-r-2

@@ -26,14 +26,14 @@ has-requires c κs = search needs
 returns : tie.Need-returns
 returns c = lacks _ _ _ true _ (c .before .before .before .before .pre) (c .before .before .plain .ensures) (sym (c .if1 .taken) ∙ c .before .has .ensures)
 
-all-in-requires : tie.Need-all-in-requires
-all-in-requires c κs = search needs
+within-requires : tie.Need-within-requires
+within-requires c κs = search needs
 
 returns-2 : tie.Need-returns-2
 returns-2 c =
-    c .all-in .ensures
+    c .within .ensures
     ∙ lacks _ _ _ false _ (c .before .before .before .before .before .pre) (c .before .before .before .plain .ensures) (sym (c .before .if1 .left) ∙ c .before .before .has .ensures)
 
 pub is-next-spec : {M : Type 1} → statement M
 is-next-spec =
-    tie.close (tie.spec cast-t6 plain-requires has-requires returns all-in-requires returns-2)
+    tie.close (tie.spec cast-t6 plain-requires has-requires returns within-requires returns-2)

@@ -4,57 +4,66 @@ use mathlib.Core.Bool.{true}
 use native.Mathlib.Omega.{arith}
 use borrow.Author.Tests.{not-true, not-false}
 use lib.Dec.{leb}
+use lib.ListN.{length}
 use Rattle.network.specs.Held.{upTo, mostCubes, mostInputs, mostOutputs}
 use Rattle.network.proofs.Limits.{up-to-le, sized-inputs, sized-outputs, sized-variables, sized-cubes}
 use borrow.Author.Needs.{needs}
 use Rattle.network.proofs.is_sized.Statement.{statement}
 use Rattle.network.proofs.is_sized.Tie as tie
 
+slots : (s : tie.Start) → length (s .args .n .counts) ≡ 96
+slots s = search needs
+
 -- the numbers of inputs and outputs are within their limits
-inputs : (c : tie.Else1) → upTo mostInputs (c .before .before .before .args .n) ≡ true
+inputs : (c : tie.Else1) → upTo mostInputs (c .before .before .args .n .inputs) ≡ true
 inputs c = sym (c .before .up-to .ensures) ∙ not-false _ (c .if1 .left)
 
-outputs : (c : tie.Else2) → upTo mostOutputs (c .before .before .before .before .before .args .m) ≡ true
+outputs : (c : tie.Else2) → upTo mostOutputs (c .before .before .before .before .args .n .outputs) ≡ true
 outputs c = sym (c .before .up-to2 .ensures) ∙ not-false _ (c .if2 .left)
 
 up-to-requires : tie.Need-up-to-requires
 up-to-requires c κs = search needs
 
 returns : tie.Need-returns
-returns c =
-    let a = c .before .before .before .args in
-    sized-inputs (a .n) (a .m) (a .k) (a .counts .now) (sym (c .before .up-to .ensures) ∙ not-true _ (c .if1 .taken))
+returns c = sized-inputs (c .before .before .args .n) (sym (c .before .up-to .ensures) ∙ not-true _ (c .if1 .taken))
 
 up-to-requires-2 : tie.Need-up-to-requires-2
 up-to-requires-2 c κs = search needs
 
 returns-2 : tie.Need-returns-2
 returns-2 c =
-    let a = c .before .before .before .before .before .args in
-    sized-outputs (a .n) (a .m) (a .k) (a .counts .now) (inputs (c .before .before)) (sym (c .before .up-to2 .ensures) ∙ not-true _ (c .if2 .taken))
+    let e = c .before .before in
+    sized-outputs (e .before .before .args .n) (inputs e) (sym (c .before .up-to2 .ensures) ∙ not-true _ (c .if2 .taken))
 
 sub-if3 : tie.Need-sub-if3
-sub-if3 c = omega (arith, up-to-le mostInputs (c .before .before .before .before .before .args .n) (inputs (c .before .before)))
+sub-if3 c = let e = c .before .before .before in omega (arith, up-to-le mostInputs (e .before .before .args .n .inputs) (inputs e))
 
 returns-3 : tie.Need-returns-3
 returns-3 c =
-    let a = c .before .before .before .before .before .before .args in
-    sized-variables (a .n) (a .m) (a .k) (a .counts .now) (inputs (c .before .before .before)) (outputs (c .before)) (omega arith)
+    let o = c .before .before .before in
+    let e = o .before .before in
+    sized-variables (e .before .before .args .n) (inputs e) (outputs o) (omega arith)
+
+slice-aggregate-start : tie.Need-slice-aggregate-start
+slice-aggregate-start c = search needs
 
 add-start : tie.Need-add-start
-add-start c = omega (arith, up-to-le mostOutputs (c .before .before .before .before .before .before .args .m) (outputs (c .before)))
+add-start c =
+    let o = c .before .before .before .before .before .before in
+    omega (arith, up-to-le mostOutputs (o .before .before .before .before .args .n .outputs) (outputs o))
 
 start-requires : tie.Need-start-requires
 start-requires c κs =
-    let s = c .before .before .before .before .before .before in
-    omega (arith, s .pre, up-to-le mostOutputs (s .args .m) (outputs (c .before)), up-to-le mostInputs (s .args .n) (inputs (c .before .before .before)))
+    let o = c .before .before .before .before .before .before in
+    let s = o .before .before .before .before in
+    omega (arith, slots s, up-to-le mostOutputs (s .args .n .outputs) (outputs o))
 
 returns-4 : tie.Need-returns-4
 returns-4 c =
-    let a = c .before .before .before .before .before .before .before .args in
-    let h = up-to-le mostInputs (a .n) (inputs (c .before .before .before .before)) in
-    ap (λ t. leb t mostCubes) (c .start .ensures)
-    ∙ sized-cubes (a .n) (a .m) (a .k) (a .counts .now) (inputs (c .before .before .before .before)) (outputs (c .before .before)) (omega arith)
+    let o = c .before .before .before .before .before .before .before in
+    let e = o .before .before in
+    let n = e .before .before .args .n in
+    ap (λ t. leb t mostCubes) (c .start .ensures) ∙ sized-cubes n (inputs e) (outputs o) (omega (arith, up-to-le mostInputs (n .inputs) (inputs e)))
 
 pub is-sized-spec : {M : Type 1} → statement M
 is-sized-spec =
@@ -66,6 +75,7 @@ is-sized-spec =
     returns-2
     sub-if3
     returns-3
+    slice-aggregate-start
     add-start
     start-requires
     returns-4)

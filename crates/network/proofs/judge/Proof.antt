@@ -13,22 +13,14 @@ answered : (n : Network) (b r : Bool) → r ≡ rules n → r ≡ b → cond b A
 unfolding judged
 answered n b r p q = ap (λ (t : Bool). cond t Accepted (Refused 10)) (sym q ∙ p)
 
-slice-aggregate-follows : tie.Need-slice-aggregate-follows
-slice-aggregate-follows c = search needs
-
-slice-aggregate-follows-2 : tie.Need-slice-aggregate-follows-2
-slice-aggregate-follows-2 c = search needs
-
 follows-requires : tie.Need-follows-requires
 follows-requires c κs = search needs
 
 returns : tie.Need-returns
-returns c = answered (c .before .before .before .before .before .before .args .n) true _ (c .before .follows .ensures) (c .if1 .taken)
+returns c = answered (c .before .before .args .n) true _ (c .before .follows .ensures) (c .if1 .taken)
 
 returns-2 : tie.Need-returns-2
-returns-2 c = answered (c .before .before .before .before .before .before .args .n) false _ (c .before .follows .ensures) (c .if1 .left)
+returns-2 c = answered (c .before .before .args .n) false _ (c .before .follows .ensures) (c .if1 .left)
 
 pub judge-spec : {M : Type 1} → statement M
-judge-spec =
-    tie.close
-    (tie.spec slice-aggregate-follows slice-aggregate-follows-2 follows-requires returns returns-2)
+judge-spec = tie.close (tie.spec follows-requires returns returns-2)

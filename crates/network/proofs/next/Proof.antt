@@ -9,7 +9,7 @@ use Rattle.sets.specs.Literal.{plainOf}
 use Rattle.sets.specs.Sets.{mem}
 use Rattle.cube.specs.Cube.{lits}
 use Rattle.network.specs.Held.{numbered}
-use Rattle.network.specs.Parts.{nodesOf, within, nextIn}
+use Rattle.network.specs.Parts.{nodesOf, everyWithin, nextIn}
 use Rattle.network.proofs.Parts.{divisors-length, divisors-at}
 use Rattle.network.proofs.Turns.{next-found, next-on, next-done}
 use Rattle.network.proofs.next.Statement.{statement}
@@ -35,11 +35,11 @@ many l = let a = start l .args in divisors-length (a .counts .now) (a .words .no
 -- what the test says of divisor i
 tested : (c : tie.After-is-next Inv-loop μ-loop)
     → (not (mem (plainOf (start (c .before .before .before) .args .n + c .before .before .before .loop .i)) (lits (start (c .before .before .before) .args .known)))
-    && within (lits (start (c .before .before .before) .args .known)) (getD (held (c .before .before .before)) (c .before .before .before .loop .i) [])) ≡ c .is-next .result
+    && everyWithin (lits (start (c .before .before .before) .args .known)) (getD (held (c .before .before .before)) (c .before .before .before .loop .i) [])) ≡ c .is-next .result
 tested c =
     let l = c .before .before .before in
     let a = start l .args in
-    ap (λ f. not (mem (plainOf (a .n + l .loop .i)) (lits (a .known))) && within (lits (a .known)) f)
+    ap (λ f. not (mem (plainOf (a .n + l .loop .i)) (lits (a .known))) && everyWithin (lits (a .known)) f)
     (divisors-at (a .counts .now) (a .words .now) (a .m) (a .k) (l .loop .i) (omega arith) ∙ sym (c .before .node .ensures))
     ∙ sym (c .is-next .ensures)
 

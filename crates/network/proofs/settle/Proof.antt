@@ -53,8 +53,8 @@ add-node c = omega (arith, range c, start (c .before) .pre .lent .counted)
 node-requires : tie.Need-node-requires Inv-loop μ-loop
 node-requires c κs = record { counted = omega (arith, range c, start (c .before) .pre .lent .counted); few = start (c .before) .pre .lent .few }
 
-any-in-requires : tie.Need-any-in-requires Inv-loop μ-loop
-any-in-requires c κs = search needs
+within-requires : tie.Need-within-requires Inv-loop μ-loop
+within-requires c κs = search needs
 
 valued-requires : tie.Need-valued-requires Inv-loop μ-loop
 valued-requires c κs = let d = c .before .before in omega (arith, range d, start (d .before) .pre .variables)
@@ -76,7 +76,7 @@ loop-again c =
     let f = divisors-at (a .counts .now) (a .words .now) (a .m) (a .k) (number l - a .n) (omega (arith, range d)) in (
       omega arith,
       sym (settled-on (a .n) (divisorsOf (a .m) (a .k) (a .counts .now) (a .words .now)) o (l .loop .i) (lits (l .loop .t)) (omega (arith, many s)) (number l) _ _ _ v
-          (c .before .before .node .ensures ∙ sym f) (c .before .any-in .ensures) (c .valued .ensures)) ∙ l .loop .inv .1,
+          (c .before .before .node .ensures ∙ sym f) (c .before .within .ensures) (c .valued .ensures)) ∙ l .loop .inv .1,
     )
 
 returns : tie.Need-returns Inv-loop μ-loop
@@ -98,7 +98,7 @@ settle-spec =
     sub-node
     add-node
     node-requires
-    any-in-requires
+    within-requires
     valued-requires
     add-i
     loop-less

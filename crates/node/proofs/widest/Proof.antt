@@ -10,8 +10,8 @@ Inv-loop n nodes most₀ i₀ most i = most ≤ 40
 abbrev μ-loop : tie.MeasureT-loop
 μ-loop n nodes most₀ i₀ most i = nodes - i
 
-sum-requires : tie.Need-sum-requires Inv-loop μ-loop
-sum-requires c κs = search needs
+wrapping-add-usize-requires : tie.Need-wrapping-add-usize-requires Inv-loop μ-loop
+wrapping-add-usize-requires c κs = search needs
 
 loop-holds : tie.Need-loop-holds Inv-loop μ-loop
 loop-holds c = search needs
@@ -37,7 +37,7 @@ widest-spec =
     (tie.spec
     Inv-loop
     μ-loop
-    sum-requires
+    wrapping-add-usize-requires
     loop-holds
     widened-requires
     add-i

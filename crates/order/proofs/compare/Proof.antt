@@ -1,4 +1,4 @@
--- `cube::compare` meets its contract. Assumes nothing.
+-- `order::compare` meets its contract. Assumes nothing.
 use Rattle.sets.proofs.Ordering.{none-odd, left-before, left-after, right-before, right-after}
 use Rattle.cube.proofs.Verdict.{is-before, is-same, is-after}
 use Rattle.cube.specs.Cube.{answer}

@@ -1,4 +1,4 @@
--- `cube::goes_on` meets its contract. Assumes nothing.
+-- `order::goes_on` meets its contract. Assumes nothing.
 use Rattle.cube.specs.Cube.{answer}
 use Rattle.sets.specs.Lists.{isSome}
 use mathlib.Core.Path.{sym, _∙_, ap}

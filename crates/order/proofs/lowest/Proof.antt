@@ -1,4 +1,4 @@
--- `cube::lowest` meets its contract. Assumes nothing.
+-- `order::lowest` meets its contract. Assumes nothing.
 use borrow.Author.Needs.{needs}
 use Rattle.sets.proofs.Digits.{trailing-bit, trailing-below, trailing-lt}
 use Rattle.order.proofs.lowest.Statement.{statement}

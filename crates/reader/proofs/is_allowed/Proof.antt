@@ -1,6 +1,8 @@
 -- `reader::is_allowed` meets its contract. Assumes nothing.
+use Prim.Native.Nat.{_/_}
 use mathlib.Core.Path.{ap, _∙_}
 use mathlib.Core.Bool.{not}
+use native.Mathlib.Omega.{arith}
 use borrow.Author.Needs.{needs}
 use borrow.Author.Tests.{lt-ltb, le-ltb}
 use Rattle.sets.specs.Sets.{mem}
@@ -8,11 +10,15 @@ use Rattle.cube.specs.Cube.{lits}
 use Rattle.reader.proofs.is_allowed.Statement.{statement}
 use Rattle.reader.proofs.is_allowed.Tie as tie
 
-cast-x : tie.Need-cast-x
-cast-x c = search needs
+variable-of-requires : tie.Need-variable-of-requires
+variable-of-requires c κs = search needs
+
+cast-if1 : tie.Need-cast-if1
+cast-if1 c = search needs
 
 returns : tie.Need-returns
-returns c = rw (le-ltb _ _ (c .if1 .taken))
+returns c =
+    let x = c .before .before in rw (le-ltb (x .before .args .l .0 / 2) (x .before .args .v) (omega (arith, x .variable-of .ensures, c .if1 .taken)))
 
 opposite-requires : tie.Need-opposite-requires
 opposite-requires c κs = search needs
@@ -22,14 +28,17 @@ has-requires c κs = search needs
 
 returns-2 : tie.Need-returns-2
 returns-2 c =
-    let s = c .before .before .before .before in
-    rw (lt-ltb _ _ (c .before .before .if1 .left)) (ap not (c .has .ensures ∙ ap (λ n. mem n (lits (s .args .c))) (c .before .opposite .ensures)))
+    let e = c .before .before in
+    let x = e .before .before in
+    rw (lt-ltb (x .before .args .l .0 / 2) (x .before .args .v) (omega (arith, x .variable-of .ensures, e .if1 .left)))
+    (ap not (c .has .ensures ∙ ap (λ n. mem n (lits (x .before .args .c))) (c .before .opposite .ensures)))
 
 pub is-allowed-spec : {M : Type 1} → statement M
 is-allowed-spec =
     tie.close
     (tie.spec
-    cast-x
+    variable-of-requires
+    cast-if1
     returns
     opposite-requires
     has-requires

@@ -1,5 +1,6 @@
 -- `replace::is_hit` meets its contract: each kind of divisor has its test. Assumes nothing.
-
+use mathlib.Core.Path.{_∙_}
+use Rattle.divisor.proofs.Using.{found-use}
 use borrow.Author.Needs.{needs}
 use Rattle.replace.proofs.is_hit.Statement.{statement}
 use Rattle.replace.proofs.is_hit.Tie as tie
@@ -20,7 +21,7 @@ returns : tie.Need-returns
 returns c = rw (c .before .before .d .given .1) (c .has-pair .ensures)
 
 returns-2 : tie.Need-returns-2
-returns-2 c = rw (c .before .before .d2 .given .1) (c .is-use .ensures)
+returns-2 c = rw (c .before .before .d2 .given .1) (c .is-use .ensures ∙ found-use _ _ _ _ (c .before .before .before .before .before .pre))
 
 pub is-hit-spec : {M : Type 1} → statement M
 is-hit-spec =

@@ -1,16 +1,21 @@
 -- `replace::made` meets its contract: the nodes are laid rewritten, and the divisor's own after them where there is room. Assumes nothing.
-use Prim.Native.Nat.{ℕ, _+_, _*_}
-use mathlib.Core.Path.{_≡_, refl, _∙_, subst}
+use Prim.Native.Nat.{ℕ, _+_, _-_, _*_, _≤_}
+use mathlib.Core.Path.{_≡_, refl, ap, _∙_, subst}
 use mathlib.Core.List.{map}
 use native.Mathlib.Omega.{arith}
-use lib.ListN.{length-map}
-use Rattle.network.specs.Parts.{nodesOf}
+use lib.ListN.{set, length-map}
+use Rattle.expression.specs.Answers.{capped}
+use Rattle.network.specs.Net.{nodes, cubeCount, literalCount}
+use Rattle.network.specs.Held.{mostCubes}
+use Rattle.network.specs.Parts.{nodesOf, netAt}
 use Rattle.extraction.specs.Divisor.{rewrite}
-use Rattle.choice.specs.Choice.{divisorOf}
-use Rattle.replace.specs.Parts.{Laid}
+use Rattle.extraction.specs.Extract.{step}
+use Rattle.divisor.specs.Divisor.{divisorOf}
+use Rattle.replace.specs.Replace.{allowed}
+use Rattle.replace.specs.Parts.{LaidNodes}
 use Rattle.replace.proofs.Filling.{laid-next}
 use Rattle.replace.proofs.Walking.{many}
-use Rattle.replace.proofs.Answering.{laid-nodes, laid-count, laid-holds, room-rows, room-take, stepped-as}
+use Rattle.replace.proofs.Answering.{laid-nodes, laid-count, laid-literals, laid-holds, room-rows, room-over, room-made, stepped-as}
 use borrow.Author.Needs.{needs}
 use Rattle.replace.proofs.made.Statement.{statement}
 use Rattle.replace.proofs.made.Tie as tie
@@ -23,11 +28,11 @@ literal : (c : tie.After-plain) → c .plain .result .0 ≡ 2 * (start c .args .
 literal c = omega (arith, c .plain .ensures, start c .pre .1)
 
 laid : (c : tie.After-put-nodes) → let a = start (c .before .before .before) .args in
-    Laid (c .put-nodes .last .1 .1 .1 .1 .1 .0) (c .put-nodes .last .1 .1 .1 .1 .1 .1 .0) (c .put-nodes .result) (map (rewrite (2 * (a .n + a .k)) (divisorOf (a .d))) (nodesOf (a .m + a .k) (a .counts .now) (a .words .now)))
+    LaidNodes (c .put-nodes .last .1 .1 .1 .1 .1 .0) (c .put-nodes .last .1 .1 .1 .1 .1 .1 .0) (c .put-nodes .result) (map (rewrite (2 * (a .n + a .k)) (divisorOf (a .d))) (nodesOf (a .m + a .k) (a .counts .now) (a .words .now)))
 laid c =
     let p = c .before .before .before in
     let a = start p .args in
-    subst (λ (x : ℕ). Laid (c .put-nodes .last .1 .1 .1 .1 .1 .0) (c .put-nodes .last .1 .1 .1 .1 .1 .1 .0) (c .put-nodes .result) (map (rewrite x (divisorOf (a .d))) (nodesOf (a .m + a .k) (a .counts .now) (a .words .now)))) (literal p) (c .put-nodes .ensures)
+    subst (λ (x : ℕ). LaidNodes (c .put-nodes .last .1 .1 .1 .1 .1 .0) (c .put-nodes .last .1 .1 .1 .1 .1 .1 .0) (c .put-nodes .result) (map (rewrite x (divisorOf (a .d))) (nodesOf (a .m + a .k) (a .counts .now) (a .words .now)))) (literal p) (c .put-nodes .ensures)
 
 add-t12 : tie.Need-add-t12
 add-t12 c = search needs
@@ -67,14 +72,63 @@ returns c =
     let p = o .before .before .before in
     let s = start (p .before .before .before) in
     let a = s .args in
-    stepped-as _ _ _ (room-rows (a .n) (a .m) (a .k) (a .words .now) (a .counts .now) (s .pre .0) (divisorOf (a .d)) (s .pre .1)
-    (omega (arith, laid-count (a .n) (a .m) (a .k) (a .words .now) (a .counts .now) (s .pre .0) (divisorOf (a .d)) (laid p), o .own-size .ensures))) (c .refused .ensures)
+    stepped-as _ _ (ap (allowed _) (room-rows (a .n) (a .m) (a .k) (a .words .now) (a .counts .now) (s .pre .0) (divisorOf (a .d)) (s .pre .1)
+    (omega (arith, laid-count (a .n) (a .m) (a .k) (a .words .now) (a .counts .now) (s .pre .0) (divisorOf (a .d)) (laid p), o .own-size .ensures)))) (c .refused .ensures)
+
+-- the divisor's own node stands after the others
+abbrev first : tie.After-put-own → tie.After-put-nodes
+first w = w .before .before .before .before .before .before
+
+abbrev begun : tie.After-put-own → tie.Start
+begun w = start (first w .before .before .before)
+
+whole : (w : tie.After-put-own) → let a = begun w .args in
+    LaidNodes (w .put-own .last .1 .0) (set (first w .put-nodes .last .1 .1 .1 .1 .1 .1 .0) (a .m + a .k) (w .put-own .result - first w .put-nodes .result)) (w .put-own .result) (nodes (step (netAt (a .n) (a .m) (a .k) (a .counts .now) (a .words .now)) (divisorOf (a .d))))
+whole w =
+    let s = begun w in
+    let a = s .args in
+    let fs = nodesOf (a .m + a .k) (a .counts .now) (a .words .now) in
+    let d = divisorOf (a .d) in
+    subst (LaidNodes _ _ _) (laid-nodes (a .n) (a .m) (a .k) (a .words .now) (a .counts .now) (s .pre .0) d)
+    (laid-next (laid (first w)) (length-map fs (rewrite (2 * (a .n + a .k)) d) ∙ many (s .pre .0)) (s .pre .0 .free) (w .put-own .ensures))
+
+rows : (w : tie.After-put-own) → let a = begun w .args in cubeCount (step (netAt (a .n) (a .m) (a .k) (a .counts .now) (a .words .now)) (divisorOf (a .d))) ≤ mostCubes
+rows w =
+    let s = begun w in
+    let a = s .args in
+    omega (arith, laid-count (a .n) (a .m) (a .k) (a .words .now) (a .counts .now) (s .pre .0) (divisorOf (a .d)) (laid (first w)), w .before .before .before .own-size .ensures, laid (first w) .front .few)
+
+counted : (c : tie.After-literals) → let a = begun (c .before .before .before .before) .args in c .literals .result ≡ capped (literalCount (step (netAt (a .n) (a .m) (a .k) (a .counts .now) (a .words .now)) (divisorOf (a .d))))
+counted c =
+    let w = c .before .before .before .before in
+    let a = begun w .args in
+    c .literals .ensures ∙ ap capped (laid-literals (a .n) (a .m) (a .k) (a .words .now) (a .counts .now) (begun w .pre .0) (divisorOf (a .d)) (whole w) (c .before .part .ensures .0))
 
 slice-aggregate-put-own : tie.Need-slice-aggregate-put-own
 slice-aggregate-put-own c = search needs
 
 put-own-requires : tie.Need-put-own-requires
 put-own-requires c κs = search needs
+
+slice-aggregate-part : tie.Need-slice-aggregate-part
+slice-aggregate-part c = search needs
+
+part-requires : tie.Need-part-requires
+part-requires c κs = search needs
+
+literals-requires : tie.Need-literals-requires
+literals-requires c κs = search needs
+
+refused-requires-2 : tie.Need-refused-requires-2
+refused-requires-2 c κs = search needs
+
+returns-2 : tie.Need-returns-2
+returns-2 c =
+    let l = c .before .before in
+    let w = l .before .before .before .before in
+    let s = begun w in
+    let a = s .args in
+    stepped-as _ _ (room-over (a .n) (a .m) (a .k) (a .words .now) (a .counts .now) (s .pre .0) (divisorOf (a .d)) (s .pre .1) (rows w) _ (counted l) (c .before .if2 .taken)) (c .refused2 .ensures)
 
 sub-sizes : tie.Need-sub-sizes
 sub-sizes c = search needs
@@ -91,21 +145,14 @@ array-write-sizes c = search needs
 add-t12-2 : tie.Need-add-t12-2
 add-t12-2 c = search needs
 
-returns-2 : tie.Need-returns-2
-returns-2 c =
-    let w = c .before in
-    let o = w .before .before .before in
-    let p = o .before .before .before in
-    let s = start (p .before .before .before) in
+returns-3 : tie.Need-returns-3
+returns-3 c =
+    let l = c .before in
+    let w = l .before .before .before .before in
+    let s = begun w in
     let a = s .args in
-    let fs = nodesOf (a .m + a .k) (a .counts .now) (a .words .now) in
-    let d = divisorOf (a .d) in
-    stepped-as _ _ _ (room-take (a .n) (a .m) (a .k) (a .words .now) (a .counts .now) (s .pre .0) d (s .pre .1)
-    (omega (arith, laid-count (a .n) (a .m) (a .k) (a .words .now) (a .counts .now) (s .pre .0) d (laid p), o .own-size .ensures, laid p .front .few))) (
-      refl,
-      laid-holds (a .n) (a .m) (a .k) (a .words .now) (a .counts .now) (s .pre .0) d (subst (Laid _ _ _) (laid-nodes (a .n) (a .m) (a .k) (a .words .now) (a .counts .now) (s .pre .0) d)
-          (laid-next (laid p) (length-map fs (rewrite (2 * (a .n + a .k)) d) ∙ many (s .pre .0)) (s .pre .0 .free) (w .put-own .ensures))),
-    )
+    stepped-as _ _ (room-made (a .n) (a .m) (a .k) (a .words .now) (a .counts .now) (s .pre .0) (divisorOf (a .d)) (s .pre .1) (rows w) _ (counted l) (c .if2 .left))
+    (refl, laid-holds (a .n) (a .m) (a .k) (a .words .now) (a .counts .now) (s .pre .0) (divisorOf (a .d)) (whole w))
 
 pub made-spec : {M : Type 1} → statement M
 made-spec =
@@ -124,9 +171,14 @@ made-spec =
     returns
     slice-aggregate-put-own
     put-own-requires
+    slice-aggregate-part
+    part-requires
+    literals-requires
+    refused-requires-2
+    returns-2
     sub-sizes
     add-sizes
     mul-sizes
     array-write-sizes
     add-t12-2
-    returns-2)
+    returns-3)

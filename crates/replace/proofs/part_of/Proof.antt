@@ -2,8 +2,8 @@
 use mathlib.Core.Path.{_≡_, _∙_, ap, subst}
 use mathlib.Core.Bool.{true}
 use Rattle.cube.specs.Cube.{joined}
-use Rattle.choice.specs.Choice.{divisorOf}
-use Rattle.replace.specs.Replace.{placed}
+use Rattle.divisor.specs.Divisor.{divisorOf}
+use Rattle.replace.specs.Replace.{fitting}
 use Rattle.replace.proofs.Testing.{pair-part}
 use borrow.Author.Needs.{needs}
 use Rattle.replace.proofs.part_of.Statement.{statement}
@@ -32,7 +32,7 @@ returns c =
     rw (t .d .given .1)
     (c .with2 .ensures
     ∙ ap (joined q) (c .before .with .ensures ∙ ap (joined p) (c .before .before .empty .ensures))
-    ∙ pair-part p q (subst (λ e. placed (divisorOf e) ≡ true) (t .d .given .1) (t .before .before .pre)))
+    ∙ pair-part p q (subst (λ e. fitting 64 (divisorOf e) ≡ true) (t .d .given .1) (t .before .before .pre)))
 
 returns-2 : tie.Need-returns-2
 returns-2 c = rw (c .before .d2 .given .1)

@@ -9,8 +9,8 @@ use Rattle.expression.specs.Words.{cubesOf}
 use Rattle.network.specs.Parts.{nodesOf}
 use Rattle.network.proofs.Parts.{before, start-next}
 use Rattle.extraction.specs.Divisor.{rewrite}
-use Rattle.choice.specs.Choice.{divisorOf}
-use Rattle.replace.specs.Parts.{Laid, Source}
+use Rattle.divisor.specs.Divisor.{divisorOf}
+use Rattle.replace.specs.Parts.{LaidNodes, SourceNodes}
 use Rattle.replace.proofs.Becoming.{rewrite-length}
 use Rattle.replace.proofs.Filling.{laid-none, adds-as}
 use Rattle.replace.proofs.Walking.{many, node-inside, node-is, node-few, node-ordered, laid-more}
@@ -20,7 +20,7 @@ use Rattle.replace.proofs.put_nodes.Tie as tie
 
 abbrev Inv-loop : tie.InvT-loop
 Inv-loop words counts e d x out₀ sizes₀ at₀ to₀ i₀ out sizes at to i =
-    (i ≤ e) × (at ≡ before i counts) × (to ≤ at) × Laid out sizes to (map (rewrite (x .0) (divisorOf d)) (take i (nodesOf e counts words))) × (length out ≡ length out₀) × (length sizes ≡ length sizes₀)
+    (i ≤ e) × (at ≡ before i counts) × (to ≤ at) × LaidNodes out sizes to (map (rewrite (x .0) (divisorOf d)) (take i (nodesOf e counts words))) × (length out ≡ length out₀) × (length sizes ≡ length sizes₀)
 
 abbrev μ-loop : tie.MeasureT-loop
 μ-loop words counts e d x out₀ sizes₀ at₀ to₀ i₀ out sizes at to i = e - i
@@ -31,7 +31,7 @@ start l = l .before .before .before .before .before
 abbrev held : tie.At-loop Inv-loop μ-loop → List (List (List ℕ))
 held l = nodesOf (start l .args .e) (start l .args .counts .now) (start l .args .words .now)
 
-source : (l : tie.At-loop Inv-loop μ-loop) → Source (start l .args .words .now) (start l .args .counts .now) (start l .args .e)
+source : (l : tie.At-loop Inv-loop μ-loop) → SourceNodes (start l .args .words .now) (start l .args .counts .now) (start l .args .e)
 source l = start l .pre .0 .0
 
 -- the cubes of node i
@@ -43,7 +43,7 @@ node c =
 loop-holds : tie.Need-loop-holds Inv-loop μ-loop
 loop-holds c =
     let s = c .before .before .before .before in
-    (omega arith, refl, omega arith, subst (λ ws. Laid ws (s .args .sizes .now) 0 []) (sym (s .pre .1 .0)) (subst (λ ws. Laid _ ws 0 []) (sym (s .pre .1 .1)) laid-none), refl, refl)
+    (omega arith, refl, omega arith, subst (λ ws. LaidNodes ws (s .args .sizes .now) 0 []) (sym (s .pre .1 .0)) (subst (λ ws. LaidNodes _ ws 0 []) (sym (s .pre .1 .1)) laid-none), refl, refl)
 
 mul-n : tie.Need-mul-n Inv-loop μ-loop
 mul-n c = search needs
@@ -120,7 +120,7 @@ same-length-2 c = c .before .loop .inv .5
 returns : tie.Need-returns Inv-loop μ-loop
 returns c =
     let l = c .before in
-    subst (λ fs. Laid (l .loop .out) (l .loop .sizes) (l .loop .to) (map (rewrite (start l .args .x .0) (divisorOf (start l .args .d))) fs)) (take-all (l .loop .i) (held l) (omega (arith, many (source l)))) (l .loop .inv .3)
+    subst (λ fs. LaidNodes (l .loop .out) (l .loop .sizes) (l .loop .to) (map (rewrite (start l .args .x .0) (divisorOf (start l .args .d))) fs)) (take-all (l .loop .i) (held l) (omega (arith, many (source l)))) (l .loop .inv .3)
 
 pub put-nodes-spec : {M : Type 1} → statement M
 put-nodes-spec =

@@ -5,7 +5,7 @@ use native.Mathlib.Omega.{arith}
 use lib.ListN.{length}
 use Rattle.cube.specs.Cube.{lits}
 use Rattle.extraction.specs.Divisor.{own, part}
-use Rattle.choice.specs.Choice.{divisorOf}
+use Rattle.divisor.specs.Divisor.{divisorOf}
 use Rattle.replace.proofs.Filling.{adds-none, adds-as, adds-put}
 use borrow.Author.Needs.{needs}
 use Rattle.replace.proofs.put_own.Statement.{statement}

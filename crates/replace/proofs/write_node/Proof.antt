@@ -7,8 +7,8 @@ use native.Mathlib.Omega.{arith}
 use lib.ListN.{length, getD, take}
 use lib.Seq.{take-all}
 use Rattle.expression.specs.Words.{cubesOf}
-use Rattle.choice.specs.Choice.{divisorOf}
-use Rattle.replace.specs.Parts.{fate, fateOf, become, Adds}
+use Rattle.divisor.specs.Divisor.{divisorOf}
+use Rattle.replace.specs.Parts.{fate, fateOf, become, Appends}
 use Rattle.replace.proofs.Becoming.{become-few, become-none, become-one}
 use Rattle.replace.proofs.Filling.{adds-none, adds-as, adds-put}
 use borrow.Author.Needs.{needs}
@@ -17,7 +17,7 @@ use Rattle.replace.proofs.write_node.Tie as tie
 
 abbrev Inv-loop : tie.InvT-loop
 Inv-loop f d x out₀ at n to₀ i₀ out to i =
-    (n ≡ length (cubesOf f)) × (i ≤ n) × Adds out₀ out at to (become (fate (x .0) (divisorOf d) (cubesOf f)) (take i (cubesOf f))) × (length out ≡ length out₀)
+    (n ≡ length (cubesOf f)) × (i ≤ n) × Appends out₀ out at to (become (fate (x .0) (divisorOf d) (cubesOf f)) (take i (cubesOf f))) × (length out ≡ length out₀)
 
 abbrev μ-loop : tie.MeasureT-loop
 μ-loop f d x out₀ at n to₀ i₀ out to i = n - i

@@ -6,7 +6,7 @@ use borrow.Author.Needs.{needs}
 use Rattle.cube.specs.Cube.{lits}
 use Rattle.letters.specs.Letters.{literalText, cubeText}
 use Rattle.letters.proofs.Laying.{Due, due-all, due-next, due-last, due-countable, due-rest}
-use Rattle.choice.specs.Choice.{divisorOf}
+use Rattle.divisor.specs.Divisor.{divisorOf}
 use Rattle.report.specs.Report.{divisorText}
 use Rattle.report.proofs.Lines.{plusWord, pair-start, sum-start}
 use Rattle.report.proofs.put_divisor.Statement.{statement}

@@ -5,7 +5,7 @@ use lib.IntN.{pos}
 use borrow.Author.Needs.{needs}
 use Rattle.letters.proofs.Laying.{Due, due-all, due-next, due-last, due-countable, due-rest}
 use Rattle.extract.specs.Answers.{stopOf}
-use Rattle.report.specs.Report.{linesOf, stopText}
+use Rattle.report.specs.Report.{stepLines, stopText}
 use Rattle.report.specs.Parts.{madeIn, runOf}
 use Rattle.report.proofs.Lines.{field, lineEnd, startWord, endWord, found-start}
 use Rattle.report.proofs.put_run.Statement.{statement}
@@ -20,7 +20,7 @@ abbrev from-end : tie.Start → List ℕ
 from-end s = field endWord (s .args .f .end) ++ stopText (stopOf (s .args .f .stop))
 
 abbrev lines : tie.Start → List ℕ
-lines s = linesOf (s .args .f .first) (pos (s .args .f .start)) (madeIn (s .args .f .steps))
+lines s = stepLines (s .args .f .first) (pos (s .args .f .start)) (madeIn (s .args .f .steps))
 
 first : (s : tie.Start) → Owed s (s .args .o .now) 0 (field startWord (s .args .f .start) ++ (lineEnd ++ (lines s ++ from-end s)))
 first s = due-all _ _ (found-start (s .args .f))

@@ -10,8 +10,8 @@ use mir.Syntax.{w32}
 use mir.Val.{toZ, ofZ}
 use Rattle.letters.proofs.Laying.{Due, due-all, due-as, due-next, due-done, due-countable}
 use Rattle.extraction.specs.Run.{Made}
-use Rattle.choice.specs.Choice.{madeOf, noStep}
-use Rattle.report.specs.Report.{linesOf, stepLine}
+use Rattle.divisor.specs.Divisor.{madeOf, noStep}
+use Rattle.report.specs.Report.{stepLines, stepLine}
 use Rattle.report.specs.Parts.{Off, Falls}
 use Rattle.report.proofs.Lines.{lines-none, lines-next, made-next}
 use Rattle.report.proofs.Counting.{off-read, off-as, off-above, falls-first, left-is}
@@ -21,7 +21,7 @@ use Rattle.report.proofs.put_steps.Tie as tie
 abbrev Inv-loop : tie.InvT-loop
 Inv-loop o₀ at v count n list left₀ p₀ i₀ o left p i =
     let l = map madeOf (take n list) in
-    (i ≤ n) × Due o₀ p₀ (linesOf v (pos left₀) l) o p (linesOf (v + i) (pos left) (drop i l)) × Falls left (drop i l) × (length o ≡ length o₀)
+    (i ≤ n) × Due o₀ p₀ (stepLines v (pos left₀) l) o p (stepLines (v + i) (pos left) (drop i l)) × Falls left (drop i l) × (length o ≡ length o₀)
 
 abbrev μ-loop : tie.MeasureT-loop
 μ-loop o₀ at v count n list left₀ p₀ i₀ o left p i = n - i
@@ -37,7 +37,7 @@ loop-holds : tie.Need-loop-holds Inv-loop μ-loop
 loop-holds c =
     let s = c .before .before in
     let e : s .args .v + 0 ≡ s .args .v = omega arith in
-    (omega arith, due-all _ _ (ap (λ v. linesOf v (pos (s .args .count)) (steps s)) (sym e)), s .pre .1, refl)
+    (omega arith, due-all _ _ (ap (λ v. stepLines v (pos (s .args .count)) (steps s)) (sym e)), s .pre .1, refl)
 
 mul-s : tie.Need-mul-s Inv-loop μ-loop
 mul-s c = omega (arith, c .before .before .before .before .pre .0 .few, c .loop-test .taken)
@@ -73,13 +73,13 @@ size-requires c κs = off-above (off (c .before .before .before .before .before)
 
 -- the line of step i is due, then those after it
 line : (c : tie.After-size Inv-loop μ-loop) → let s = c .before .before .before .before .before .before .before .before .before .before in
-    Due (s .args .o .now) (s .args .at) (linesOf (s .args .v) (pos (s .args .count)) (steps s)) (c .before .before .before .before .before .before .before .loop .o) (c .before .before .before .before .before .before .before .loop .p)
-    (stepLine (s .args .v + c .before .before .before .before .before .before .before .loop .i) (step (c .before .before .before .before .before .before) .divisor) (pos (c .size .result)) (pos (c .before .before .before .less .result)) ++ linesOf (s .args .v + (c .before .before .before .before .before .before .before .loop .i + 1)) (pos (c .before .before .before .less .result)) (others (c .before .before .before .before .before .before)))
+    Due (s .args .o .now) (s .args .at) (stepLines (s .args .v) (pos (s .args .count)) (steps s)) (c .before .before .before .before .before .before .before .loop .o) (c .before .before .before .before .before .before .before .loop .p)
+    (stepLine (s .args .v + c .before .before .before .before .before .before .before .loop .i) (step (c .before .before .before .before .before .before) .divisor) (pos (c .size .result)) (pos (c .before .before .before .less .result)) ++ stepLines (s .args .v + (c .before .before .before .before .before .before .before .loop .i + 1)) (pos (c .before .before .before .less .result)) (others (c .before .before .before .before .before .before)))
 line c =
     let s = c .before .before .before .before .before .before .before .before .before .before in
     let r = off-read (falls (c .before .before .before .before .before .before) .0) in
     due-as (c .before .before .before .before .before .before .before .loop .inv .1)
-    (ap (linesOf (s .args .v + c .before .before .before .before .before .before .before .loop .i) (pos (c .before .before .before .before .before .before .before .loop .left))) (next (c .before .before .before .before .before .before))
+    (ap (stepLines (s .args .v + c .before .before .before .before .before .before .before .loop .i) (pos (c .before .before .before .before .before .before .before .loop .left))) (next (c .before .before .before .before .before .before))
     ∙ lines-next (s .args .v) (c .before .before .before .before .before .before .before .loop .i) (c .before .before .before .before .before .before .before .loop .left) (step (c .before .before .before .before .before .before)) (others (c .before .before .before .before .before .before)) (c .size .ensures ∙ r) (c .before .before .before .less .ensures ∙ ap (λ z. pos (c .before .before .before .before .before .before .before .loop .left) -ℤ z) r))
 
 put-step-requires : tie.Need-put-step-requires Inv-loop μ-loop
@@ -108,7 +108,7 @@ returns c =
     let s = c .before .before .before .before in
     let i = c .before .loop .i in
     let e : length (steps s) ≤ i = omega (arith, c .loop-test .left, length-map (take (s .args .steps .count) (s .args .steps .list)) madeOf, length-take-le (s .args .steps .count) (s .args .steps .list) (omega (arith, places s, s .pre .0 .few))) in
-    due-done (due-as (c .before .loop .inv .1) (ap (linesOf (s .args .v + i) (pos (c .before .loop .left))) (drop-of-length-le (steps s) e) ∙ lines-none _ _))
+    due-done (due-as (c .before .loop .inv .1) (ap (stepLines (s .args .v + i) (pos (c .before .loop .left))) (drop-of-length-le (steps s) e) ∙ lines-none _ _))
 
 pub put-steps-spec : {M : Type 1} → statement M
 put-steps-spec =

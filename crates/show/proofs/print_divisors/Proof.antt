@@ -15,11 +15,11 @@ abbrev μ-loop : tie.MeasureT-loop
 loop-holds : tie.Need-loop-holds Inv-loop μ-loop
 loop-holds c = search needs
 
-sum-requires : tie.Need-sum-requires Inv-loop μ-loop
-sum-requires c κs = search needs
+wrapping-add-usize-requires : tie.Need-wrapping-add-usize-requires Inv-loop μ-loop
+wrapping-add-usize-requires c κs = search needs
 
-sum-requires-2 : tie.Need-sum-requires-2 Inv-loop μ-loop
-sum-requires-2 c κs = search needs
+wrapping-add-usize-requires-2 : tie.Need-wrapping-add-usize-requires-2 Inv-loop μ-loop
+wrapping-add-usize-requires-2 c κs = search needs
 
 print-node-requires : tie.Need-print-node-requires Inv-loop μ-loop
 print-node-requires c κs = search needs
@@ -46,8 +46,8 @@ print-divisors-spec =
     Inv-loop
     μ-loop
     loop-holds
-    sum-requires
-    sum-requires-2
+    wrapping-add-usize-requires
+    wrapping-add-usize-requires-2
     print-node-requires
     add-i
     loop-less

@@ -1,32 +1,34 @@
 -- `table::finish` meets its contract: `.i` and `.o` are there, and `.p` agrees. Assumes nothing.
+use mathlib.Core.Path.{_∙_}
+use borrow.Author.Tests.{eq-eqb, ne-eqb}
 use Rattle.table.specs.Table.{finish}
-use Rattle.table.proofs.Standing.{wide-missing, tall-missing, wide-there, tall-there, agrees-unstated, agrees-not, agrees-so}
+use Rattle.table.proofs.Standing.{wide-missing, tall-missing, agrees-unstated, agrees-not, agrees-so}
 use borrow.Author.Needs.{needs}
 use Rattle.table.proofs.finish.Statement.{statement}
 use Rattle.table.proofs.finish.Tie as tie
 
 returns : tie.Need-returns
 unfolding finish
-returns c = λ t words marks g h. rw (wide-missing g h (c .if1 .taken))
+returns c = λ t words marks g h. rw (wide-missing g h ∙ eq-eqb _ 0 (c .if1 .taken))
 
 returns-2 : tie.Need-returns-2
 unfolding finish
-returns-2 c = λ t words marks g h. rw (wide-there g h (c .before .before .if1 .left), tall-missing g h (c .if2 .taken))
+returns-2 c = λ t words marks g h. rw (wide-missing g h ∙ ne-eqb _ 0 (c .before .before .if1 .left), tall-missing g h ∙ eq-eqb _ 0 (c .if2 .taken))
 
 returns-3 : tie.Need-returns-3
 unfolding finish
-returns-3 c = λ t words marks g h. rw (wide-there g h (c .before .before .before .before .if1 .left), tall-there g h (c .before .before .if2 .left), agrees-unstated g h (c .if3 .taken)) h
+returns-3 c = λ t words marks g h. rw (wide-missing g h ∙ ne-eqb _ 0 (c .before .before .before .before .if1 .left), tall-missing g h ∙ ne-eqb _ 0 (c .before .before .if2 .left), agrees-unstated g h (c .if3 .taken)) h
 
 sub-if4 : tie.Need-sub-if4
 sub-if4 c = search needs
 
 returns-4 : tie.Need-returns-4
 unfolding finish
-returns-4 c = λ t words marks g h. rw (wide-there g h (c .before .before .before .before .before .before .before .if1 .left), tall-there g h (c .before .before .before .before .before .if2 .left), agrees-not g h (c .before .before .before .if3 .left) (c .if4 .taken))
+returns-4 c = λ t words marks g h. rw (wide-missing g h ∙ ne-eqb _ 0 (c .before .before .before .before .before .before .before .if1 .left), tall-missing g h ∙ ne-eqb _ 0 (c .before .before .before .before .before .if2 .left), agrees-not g h (c .before .before .before .if3 .left) (c .if4 .taken))
 
 returns-5 : tie.Need-returns-5
 unfolding finish
-returns-5 c = λ t words marks g h. rw (wide-there g h (c .before .before .before .before .before .before .before .if1 .left), tall-there g h (c .before .before .before .before .before .if2 .left), agrees-so g h (c .if4 .left)) h
+returns-5 c = λ t words marks g h. rw (wide-missing g h ∙ ne-eqb _ 0 (c .before .before .before .before .before .before .before .if1 .left), tall-missing g h ∙ ne-eqb _ 0 (c .before .before .before .before .before .if2 .left), agrees-so g h (c .if4 .left)) h
 
 pub finish-spec : {M : Type 1} → statement M
 finish-spec = tie.close (tie.spec returns returns-2 returns-3 sub-if4 returns-4 returns-5)

@@ -33,22 +33,21 @@ loop-holds c =
 line-end-requires : tie.Need-line-end-requires Inv-loop μ-loop
 line-end-requires c κs = search needs
 
-sub-content-of : tie.Need-sub-content-of Inv-loop μ-loop
-sub-content-of c =
+-- a line ends no sooner than it begins, and within the text
+ends : (c : tie.After-line-end Inv-loop μ-loop) → let h = c .before .before in (h .loop .at ≤ c .line-end .result) × (c .line-end .result ≤ length (h .before .before .before .before .args .text .now))
+ends c =
     let h = c .before .before in
-    let s = h .before .before .before .before in
-    let e = stop-le (s .args .text .now) (h .loop .at) (c .before .loop-test .taken) in
-    omega (arith, c .line-end .ensures)
+    let e = stop-le (h .before .before .before .before .args .text .now) (h .loop .at) (c .before .loop-test .taken) in
+    (omega (arith, c .line-end .ensures), omega (arith, c .line-end .ensures))
+
+sub-content-of : tie.Need-sub-content-of Inv-loop μ-loop
+sub-content-of c = let e = ends c in omega arith
 
 part-content-of-start : tie.Need-part-content-of-start Inv-loop μ-loop
 part-content-of-start c = search needs
 
 part-content-of-end : tie.Need-part-content-of-end Inv-loop μ-loop
-part-content-of-end c =
-    let h = c .before .before in
-    let s = h .before .before .before .before in
-    let e = stop-le (s .args .text .now) (h .loop .at) (c .before .loop-test .taken) in
-    omega (arith, c .line-end .ensures)
+part-content-of-end c = ends c .1
 
 content-of-requires : tie.Need-content-of-requires Inv-loop μ-loop
 content-of-requires c κs = search needs
@@ -87,36 +86,27 @@ returns c =
 
 add-at : tie.Need-add-at Inv-loop μ-loop
 add-at c =
-    let t = c .before .before .before .before .before .before .before in
-    let e = t .before .before .before .before .before in
-    let h = e .before .before in
-    let s = h .before .before .before .before in
-    record { fits = omega (arith, e .line-end .ensures, stop-le (s .args .text .now) (h .loop .at) (e .before .loop-test .taken), s .pre .short, h .loop .inv .1) }
+    let e = c .before .before .before .before .before .before .before .before .before .before .before .before in
+    record { fits = omega (arith, ends e .1, e .before .before .before .before .before .before .pre .short) }
 
 add-line : tie.Need-add-line Inv-loop μ-loop
 add-line c =
-    let t = c .before .before .before .before .before .before .before in
-    let e = t .before .before .before .before .before in
+    let e = c .before .before .before .before .before .before .before .before .before .before .before .before in
     let h = e .before .before in
-    let s = h .before .before .before .before in
-    record { fits = omega (arith, e .line-end .ensures, stop-le (s .args .text .now) (h .loop .at) (e .before .loop-test .taken), s .pre .short, h .loop .inv .1) }
+    record { fits = omega (arith, ends e, h .before .before .before .before .pre .short, h .loop .inv .1) }
 
 loop-less : tie.Need-loop-less Inv-loop μ-loop
 loop-less c =
-    let t = c .before .before .before .before .before .before .before in
-    let e = t .before .before .before .before .before in
-    let h = e .before .before in
-    let s = h .before .before .before .before in
-    omega (arith, e .line-end .ensures, stop-le (s .args .text .now) (h .loop .at) (e .before .loop-test .taken), s .pre .short, h .loop .inv .1)
+    let e = c .before .before .before .before .before .before .before .before .before .before .before .before in
+    omega (arith, ends e)
 
 loop-again : tie.Need-loop-again Inv-loop μ-loop
 loop-again c =
     let t = c .before .before .before .before .before .before .before in
     let e = t .before .before .before .before .before in
-    let h = e .before .before in
-    let s = h .before .before .before .before in (
-      omega (arith, e .line-end .ensures, stop-le (s .args .text .now) (h .loop .at) (e .before .loop-test .taken), s .pre .short, h .loop .inv .1),
-      omega (arith, e .line-end .ensures, stop-le (s .args .text .now) (h .loop .at) (e .before .loop-test .taken), s .pre .short, h .loop .inv .1),
+    let h = e .before .before in (
+      omega (arith, ends e),
+      omega (arith, ends e, h .loop .inv .1),
       search needs,
       search needs,
       reading-next (h .loop .inv .4) _ _ (t .take-line .result) (e .before .loop-test .taken) (e .line-end .ensures) (t .before .before .before .content-of .ensures) (t .take-line .ensures) _ (c .before .step .given .1),

@@ -1,7 +1,7 @@
 -- `text::argument_of` meets its contract: a blank, and the number after the blanks. Assumes nothing.
 use mathlib.Core.Path.{sym, _∙_, ap}
 use borrow.Author.Tests.{not-true, not-false}
-use Rattle.text.specs.Text.{trimFront, valueOf}
+use Rattle.text.specs.Text.{trimFront, numberOf}
 use Rattle.text.proofs.Ends.{rest-whole}
 use Rattle.text.proofs.Reading.{argument-short, argument-solid, argument-read}
 use borrow.Author.Needs.{needs}
@@ -37,7 +37,7 @@ decimal-of-requires c κs = search needs
 
 returns-3 : tie.Need-returns-3
 returns-3 c = let t = c .before .before .before .before .before .before .before .before .args .t .now in
-    c .decimal-of .ensures ∙ ap valueOf (c .before .trim-front .ensures ∙ ap trimFront (rest-whole 1 t))
+    c .decimal-of .ensures ∙ ap numberOf (c .before .trim-front .ensures ∙ ap trimFront (rest-whole 1 t))
     ∙ sym (argument-read t (c .before .before .before .before .before .before .if1 .left) (sym (c .before .before .before .before .is-blank .ensures) ∙ not-false _ (c .before .before .before .if2 .left)))
 
 pub argument-of-spec : {M : Type 1} → statement M

@@ -8,14 +8,14 @@ use borrow.Author.Tests.{ltb-true, ltb-false}
 use lib.ListN.{length, getD, drop}
 use Rattle.sets.specs.Lists.{all}
 use Rattle.sets.proofs.Places.{all-stop, all-on, all-done}
-use Rattle.text.specs.Text.{isDigit, written}
-use Rattle.text.proofs.Reading.{value-short, value-long, value-stray, value-read, written-on, written-done, digit-low, digit-high, digit-in, digits-lt, digits-few}
+use Rattle.letters.specs.Meaning.{readBack, isDigit}
+use Rattle.text.proofs.Reading.{value-short, value-long, value-stray, value-read, read-on, read-done, digit-low, digit-high, digit-in, digits-lt, digits-few}
 use borrow.Author.Needs.{needs}
 use Rattle.text.proofs.decimal_of.Statement.{statement}
 use Rattle.text.proofs.decimal_of.Tie as tie
 
 abbrev Inv-loop : tie.InvT-loop
-Inv-loop t n₀ i₀ n i = (i ≤ length t) × (0 < length t) × (length t ≤ 5) × (n < 10 ^ i) × (written n (drop i t) ≡ written 0 t) × (all isDigit (drop i t) ≡ all isDigit t)
+Inv-loop t n₀ i₀ n i = (i ≤ length t) × (0 < length t) × (length t ≤ 5) × (n < 10 ^ i) × (readBack n (drop i t) ≡ readBack 0 t) × (all isDigit (drop i t) ≡ all isDigit t)
 
 abbrev μ-loop : tie.MeasureT-loop
 μ-loop t n₀ i₀ n i = length t - i
@@ -74,7 +74,7 @@ loop-again c = let h = c .before .before .before .before .before in
       h .loop .inv .1,
       h .loop .inv .2,
       digits-lt i n (c .digit .result) (h .loop .inv .3) (omega arith),
-      rw d (sym (written-on t n i inside) ∙ h .loop .inv .4),
+      rw d (sym (read-on t n i inside) ∙ h .loop .inv .4),
       sym (all-on t i 0 inside isDigit (digit-in b low high)) ∙ h .loop .inv .5,
     )
 
@@ -82,7 +82,7 @@ returns-3 : tie.Need-returns-3 Inv-loop μ-loop
 returns-3 c = let h = c .before in
     let t = h .before .before .before .before .args .t .now in
     let i = h .loop .i in
-    ap some (sym (written-done t (h .loop .n) i (c .loop-test .left)) ∙ h .loop .inv .4)
+    ap some (sym (read-done t (h .loop .n) i (c .loop-test .left)) ∙ h .loop .inv .4)
     ∙ value-read t (h .loop .inv .1) (h .loop .inv .2) (sym (h .loop .inv .5) ∙ all-done t i (c .loop-test .left) isDigit)
 
 pub decimal-of-spec : {M : Type 1} → statement M

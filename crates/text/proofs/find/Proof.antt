@@ -2,14 +2,14 @@
 use mathlib.Core.Path.{_≡_, sym, _∙_}
 use Prim.Native.Nat.{_+_, _-_}
 use lib.ListN.{length, drop}
-use Rattle.text.specs.Parts.{upTo}
+use Rattle.text.specs.Parts.{untilByte}
 use Rattle.text.proofs.Ends.{upto-stop, upto-on, upto-done}
 use borrow.Author.Needs.{needs}
 use Rattle.text.proofs.find.Statement.{statement}
 use Rattle.text.proofs.find.Tie as tie
 
 abbrev Inv-loop : tie.InvT-loop
-Inv-loop t at b i₀ i = i + length (upTo b (drop i t)) ≡ at + length (upTo b (drop at t))
+Inv-loop t at b i₀ i = i + length (untilByte b (drop i t)) ≡ at + length (untilByte b (drop at t))
 
 abbrev μ-loop : tie.MeasureT-loop
 μ-loop t at b i₀ i = length t - i

@@ -9,7 +9,8 @@ use Rattle.network.specs.Handed.{Holds}
 use Rattle.network.specs.Parts.{heldIn, Sized}
 use Rattle.network.proofs.Limits.{rules-sized}
 use Rattle.extraction.specs.Run.{inOrder}
-use Rattle.tidy.proofs.Tidied.{rules-there, sorts-holds, judged-kept, judged-broken, tidied-kept, tidied-broken}
+use Rattle.tidy.proofs.Sorted.{sized-sortable}
+use Rattle.tidy.proofs.Tidied.{sorts-holds, judged-kept, judged-broken, tidied-kept, tidied-broken}
 use borrow.Author.Needs.{needs}
 use Rattle.tidy.proofs.in_order.Statement.{statement}
 use Rattle.tidy.proofs.in_order.Tie as tie
@@ -55,8 +56,7 @@ slice-aggregate-sort-nodes-2 c = search needs
 sort-nodes-requires : tie.Need-sort-nodes-requires
 sort-nodes-requires c κs =
     let t = c .before .before .before .before .before in
-    let s = t .before .before .before in
-    record { counted = sized t .lent .counted; there = rules-there (s .args .n) (slots s .0) (slots s .1) (kept t) }
+    sized-sortable (sized t) (slots (t .before .before .before) .1)
 
 slice-aggregate-front-counts : tie.Need-slice-aggregate-front-counts
 slice-aggregate-front-counts c = search needs

@@ -1,48 +1,29 @@
--- `tidy::is_arranged` meets its contract: the tests are those of the definition, with the cubes counted node by node. Assumes nothing.
+-- `tidy::is_arranged` meets its contract: the limits, and then the order of each node. Assumes nothing.
 use mathlib.Core.Path.{_≡_, sym, _∙_}
-use mathlib.Core.Bool.{true}
+use mathlib.Core.Bool.{true, false}
 use native.Mathlib.Omega.{arith}
 use borrow.Author.Tests.{not-true, not-false}
-use lib.ListN.{length}
-use Rattle.network.specs.Held.{upTo, mostInputs, mostOutputs}
-use Rattle.network.proofs.Limits.{up-to-le}
-use Rattle.tidy.proofs.Arranged.{arranged-inputs, arranged-outputs, arranged-variables, arranged-nodes}
+use Rattle.network.specs.Held.{sized}
+use Rattle.network.specs.Parts.{Sized}
+use Rattle.network.proofs.Limits.{sized-out}
+use Rattle.tidy.proofs.Arranged.{arranged-as}
+use Rattle.tidy.proofs.Sorted.{sized-sortable}
 use borrow.Author.Needs.{needs}
 use Rattle.tidy.proofs.is_arranged.Statement.{statement}
 use Rattle.tidy.proofs.is_arranged.Tie as tie
 
-slots : (s : tie.Start) → length (s .args .n .counts) ≡ 96
-slots s = search needs
+-- the limits are kept
+limits : (c : tie.Else1) → sized (c .before .before .args .n) ≡ true
+limits c = sym (c .before .is-sized .ensures) ∙ not-false _ (c .if1 .left)
 
--- the numbers of inputs and outputs are within their limits
-inputs : (c : tie.Else1) → upTo mostInputs (c .before .before .before .before .args .n .inputs) ≡ true
-inputs c = sym (c .before .up-to .ensures) ∙ not-false _ (c .if1 .left)
+small : (c : tie.Else1) → let n = c .before .before .args .n in Sized (n .inputs) (n .outputs) (n .divisors) (n .words) (n .counts)
+small c = sized-out (c .before .before .args .n) (search needs) (search needs) (limits c)
 
-outputs : (c : tie.Else2) → upTo mostOutputs (c .before .before .before .before .before .before .args .n .outputs) ≡ true
-outputs c = sym (c .before .up-to2 .ensures) ∙ not-false _ (c .if2 .left)
-
-up-to-requires : tie.Need-up-to-requires
-up-to-requires c κs = search needs
+is-sized-requires : tie.Need-is-sized-requires
+is-sized-requires c κs = search needs
 
 returns : tie.Need-returns
-returns c = arranged-inputs (c .before .before .before .before .args .n) (sym (c .before .up-to .ensures) ∙ not-true _ (c .if1 .taken))
-
-up-to-requires-2 : tie.Need-up-to-requires-2
-up-to-requires-2 c κs = search needs
-
-returns-2 : tie.Need-returns-2
-returns-2 c =
-    let e = c .before .before in
-    arranged-outputs (e .before .before .before .before .args .n) (inputs e) (sym (c .before .up-to2 .ensures) ∙ not-true _ (c .if2 .taken))
-
-sub-if3 : tie.Need-sub-if3
-sub-if3 c = let e = c .before .before .before in omega (arith, up-to-le mostInputs (e .before .before .before .before .args .n .inputs) (inputs e))
-
-returns-3 : tie.Need-returns-3
-returns-3 c =
-    let o = c .before .before .before in
-    let e = o .before .before in
-    arranged-variables (e .before .before .before .before .args .n) (inputs e) (outputs o) (omega arith)
+returns c = arranged-as (c .before .before .args .n) false (sym (c .before .is-sized .ensures) ∙ not-true _ (c .if1 .taken))
 
 slice-aggregate-all-ordered : tie.Need-slice-aggregate-all-ordered
 slice-aggregate-all-ordered c = search needs
@@ -51,35 +32,24 @@ slice-aggregate-all-ordered-2 : tie.Need-slice-aggregate-all-ordered-2
 slice-aggregate-all-ordered-2 c = search needs
 
 add-all-ordered : tie.Need-add-all-ordered
-add-all-ordered c =
-    let o = c .before .before .before .before .before .before in
-    omega (arith, up-to-le mostOutputs (o .before .before .before .before .before .before .args .n .outputs) (outputs o))
+add-all-ordered c = let z = small (c .before .before .before .before .before) in omega (arith, z .narrow, z .variables)
 
 all-ordered-requires : tie.Need-all-ordered-requires
-all-ordered-requires c κs =
-    let o = c .before .before .before .before .before .before in
-    let s = o .before .before .before .before .before .before in
-    omega (arith, slots s, up-to-le mostOutputs (s .args .n .outputs) (outputs o))
+all-ordered-requires c κs = sized-sortable (small (c .before .before .before .before .before)) (search needs)
 
-returns-4 : tie.Need-returns-4
-returns-4 c =
-    let o = c .before .before .before .before .before .before .before in
-    let e = o .before .before in
-    let n = e .before .before .before .before .args .n in
-    c .all-ordered .ensures ∙ arranged-nodes n (inputs e) (outputs o) (omega (arith, up-to-le mostInputs (n .inputs) (inputs e)))
+returns-2 : tie.Need-returns-2
+returns-2 c =
+    let e = c .before .before .before .before .before .before in
+    c .all-ordered .ensures ∙ arranged-as (e .before .before .args .n) true (limits e)
 
 pub is-arranged-spec : {M : Type 1} → statement M
 is-arranged-spec =
     tie.close
     (tie.spec
-    up-to-requires
+    is-sized-requires
     returns
-    up-to-requires-2
-    returns-2
-    sub-if3
-    returns-3
     slice-aggregate-all-ordered
     slice-aggregate-all-ordered-2
     add-all-ordered
     all-ordered-requires
-    returns-4)
+    returns-2)

@@ -7,7 +7,7 @@ use lib.ListN.{length, getD}
 use Rattle.expression.specs.Words.{cubesOf}
 use Rattle.expression.proofs.Words.{cubes-length}
 use Rattle.tidy.specs.Parts.{Sorts}
-use Rattle.tidy.proofs.Sorted.{front-fits, sorts-none, sorts-next}
+use Rattle.tidy.proofs.Sorted.{node-fits, sorts-none, sorts-next}
 use Rattle.tidy.proofs.sort_nodes.Statement.{statement}
 use Rattle.tidy.proofs.sort_nodes.Tie as tie
 
@@ -22,9 +22,7 @@ start l = l .before .before .before
 
 -- the node's cubes are among those of all
 fits : (l : tie.At-loop Inv-loop μ-loop) → l .loop .i < start l .args .e → l .loop .at + getD (start l .args .counts .now) (l .loop .i) 0 ≤ length (cubesOf (start l .args .words .now))
-fits l h =
-    let s = start l in
-    omega (arith, l .loop .inv .1 .number, front-fits (s .args .counts .now) (s .args .words .now) (l .loop .i) (s .args .e) h (omega (arith, s .pre .counted)), s .pre .there)
+fits l h = let s = start l in node-fits (s .args .counts .now) (s .args .words .now) (s .pre) h (l .loop .inv .1 .number)
 
 loop-holds : tie.Need-loop-holds Inv-loop μ-loop
 loop-holds c = (omega arith, sorts-none _ _, refl)

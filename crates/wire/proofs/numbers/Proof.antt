@@ -1,25 +1,31 @@
 -- `wire::numbers` is safe and ends. Assumes nothing.
 use mathlib.Core.Path.{_≡_}
-use Prim.Native.Nat.{_+_, _-_, _<_, _≤_}
+use Prim.Native.Nat.{_+_, _-_, _≤_}
 use lib.ListN.{length}
 use borrow.Author.Needs.{needs}
 use Rattle.wire.proofs.numbers.Statement.{statement}
 use Rattle.wire.proofs.numbers.Tie as tie
 
 abbrev Inv-loop : tie.InvT-loop
-Inv-loop line a e pool₀ at₀ n₀ pool at n = (length pool ≡ length pool₀) × (n ≤ length pool₀) × (e ≤ length line)
+Inv-loop text pool₀ at₀ n₀ pool at n = (n ≤ length pool₀) × (length pool ≡ length pool₀) × (at ≤ length text + 1)
 
 abbrev μ-loop : tie.MeasureT-loop
-μ-loop line a e pool₀ at₀ n₀ pool at n = e - at
-
-returns : tie.Need-returns Inv-loop μ-loop
-returns c = search needs
+μ-loop text pool₀ at₀ n₀ pool at n = length text + 1 - at
 
 loop-holds : tie.Need-loop-holds Inv-loop μ-loop
 loop-holds c = search needs
 
-word-end-requires : tie.Need-word-end-requires Inv-loop μ-loop
-word-end-requires c κs = search needs
+find-requires : tie.Need-find-requires Inv-loop μ-loop
+find-requires c κs = search needs
+
+sub-number : tie.Need-sub-number Inv-loop μ-loop
+sub-number c = search needs
+
+part-number-start : tie.Need-part-number-start Inv-loop μ-loop
+part-number-start c = search needs
+
+part-number-end : tie.Need-part-number-end Inv-loop μ-loop
+part-number-end c = search needs
 
 number-requires : tie.Need-number-requires Inv-loop μ-loop
 number-requires c κs = search needs
@@ -30,17 +36,23 @@ enum-known-x c = search needs
 enum-told : tie.Need-enum-told Inv-loop μ-loop
 enum-told c = search needs
 
+bad-requires : tie.Need-bad-requires Inv-loop μ-loop
+bad-requires c κs = search needs
+
 same-length : tie.Need-same-length Inv-loop μ-loop
 same-length c = search needs
 
-returns-2 : tie.Need-returns-2 Inv-loop μ-loop
-returns-2 c = search needs
+returns : tie.Need-returns Inv-loop μ-loop
+returns c = search needs
+
+bad-requires-2 : tie.Need-bad-requires-2 Inv-loop μ-loop
+bad-requires-2 c κs = search needs
 
 same-length-2 : tie.Need-same-length-2 Inv-loop μ-loop
 same-length-2 c = search needs
 
-returns-3 : tie.Need-returns-3 Inv-loop μ-loop
-returns-3 c = search needs
+returns-2 : tie.Need-returns-2 Inv-loop μ-loop
+returns-2 c = search needs
 
 mul-pool : tie.Need-mul-pool Inv-loop μ-loop
 mul-pool c = search needs
@@ -63,8 +75,8 @@ loop-again c = search needs
 same-length-3 : tie.Need-same-length-3 Inv-loop μ-loop
 same-length-3 c = search needs
 
-returns-4 : tie.Need-returns-4 Inv-loop μ-loop
-returns-4 c = search needs
+returns-3 : tie.Need-returns-3 Inv-loop μ-loop
+returns-3 c = search needs
 
 pub numbers-spec : {M : Type 1} → statement M
 numbers-spec =
@@ -72,16 +84,20 @@ numbers-spec =
     (tie.spec
     Inv-loop
     μ-loop
-    returns
     loop-holds
-    word-end-requires
+    find-requires
+    sub-number
+    part-number-start
+    part-number-end
     number-requires
     enum-known-x
     enum-told
+    bad-requires
     same-length
-    returns-2
+    returns
+    bad-requires-2
     same-length-2
-    returns-3
+    returns-2
     mul-pool
     slice-write-pool
     add-n
@@ -89,4 +105,4 @@ numbers-spec =
     loop-less
     loop-again
     same-length-3
-    returns-4)
+    returns-3)

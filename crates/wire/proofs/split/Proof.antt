@@ -1,28 +1,42 @@
 -- `wire::split` is safe and ends. Assumes nothing.
-use mathlib.Core.Path.{_≡_}
-use Prim.Native.Nat.{_+_, _-_, _<_, _≤_}
+use Prim.Native.Nat.{_+_, _-_, _≤_}
 use lib.ListN.{length}
 use borrow.Author.Needs.{needs}
 use Rattle.wire.proofs.split.Statement.{statement}
 use Rattle.wire.proofs.split.Tie as tie
 
 abbrev Inv-loop : tie.InvT-loop
-Inv-loop line g₀ at₀ g at = at ≤ length line + 1
+Inv-loop line g₀ at₀ t5 g at = at ≤ length line + 1
 
 abbrev μ-loop : tie.MeasureT-loop
-μ-loop line g₀ at₀ g at = length line + 1 - at
+μ-loop line g₀ at₀ t5 g at = length line + 1 - at
 
 loop-holds : tie.Need-loop-holds Inv-loop μ-loop
 loop-holds c = search needs
 
-word-end-requires : tie.Need-word-end-requires Inv-loop μ-loop
-word-end-requires c κs = search needs
+find-requires : tie.Need-find-requires Inv-loop μ-loop
+find-requires c κs = search needs
 
 nothing-requires : tie.Need-nothing-requires Inv-loop μ-loop
 nothing-requires c κs = search needs
 
 returns : tie.Need-returns Inv-loop μ-loop
 returns c = search needs
+
+sub-same : tie.Need-sub-same Inv-loop μ-loop
+sub-same c = search needs
+
+part-same-start : tie.Need-part-same-start Inv-loop μ-loop
+part-same-start c = search needs
+
+part-same-end : tie.Need-part-same-end Inv-loop μ-loop
+part-same-end c = search needs
+
+slice-aggregate-same : tie.Need-slice-aggregate-same Inv-loop μ-loop
+slice-aggregate-same c = search needs
+
+same-requires : tie.Need-same-requires Inv-loop μ-loop
+same-requires c κs = search needs
 
 joined-requires : tie.Need-joined-requires Inv-loop μ-loop
 joined-requires c κs = search needs
@@ -55,9 +69,14 @@ split-spec =
     Inv-loop
     μ-loop
     loop-holds
-    word-end-requires
+    find-requires
     nothing-requires
     returns
+    sub-same
+    part-same-start
+    part-same-end
+    slice-aggregate-same
+    same-requires
     joined-requires
     add-if2
     nothing-requires-2
