@@ -1,80 +1,109 @@
-// Requests on lent expressions whose rooms are words. As in wire, safety and an end are all that is promised here.
+// Requests on lent expressions and their rooms. As in wire, safety and an end are all that is promised here.
 use cokernel::Listed;
 use division::Division;
+use factor::Wrote;
+use wire::Told;
 
-fn put_parts(a: Division, out: &mut [u8]) -> usize {
+fn parts(a: Division) -> Told {
     match a {
-        Division::Done(q, r) => {
-            let at = wire::put_ok(out, q as u64);
-            wire::put_number(out, at, r as u64)
-        }
-        Division::Refused(k) => wire::put_refused(out, k, 0),
+        Division::Done(q, r) => Told {
+            ok: true,
+            first: q as u64,
+            two: true,
+            second: r as u64,
+        },
+        Division::Refused(k) => wire::refused(k, 0),
     }
 }
 
-// A quotient and a remainder as they were found, and both rooms whole.
+// What came of a division, and both rooms whole.
+fn put_rooms(t: Told, left: &[u64], right: &[u64], out: &mut [u8]) -> usize {
+    let at = wire::put_told(out, t);
+    let at = wire::put_group(out, at, left);
+    wire::put_group(out, at, right)
+}
+
 fn divided(f: &[u64], d: &[u64], left: &mut [u64], right: &mut [u64], out: &mut [u8]) -> usize {
     let a = division::divide(f, d, left, right);
-    let at = put_parts(a, out);
-    let at = wire::put_part(out, at);
-    let at = wire::put_numbers(out, at, left);
-    let at = wire::put_part(out, at);
-    wire::put_numbers(out, at, right)
+    put_rooms(parts(a), left, right, out)
 }
 
 // The rooms, one after the other.
-fn divide_right(f: &[u64], d: &[u64], left: &mut [u64], right: &[u8], out: &mut [u8]) -> usize {
-    let mut room = [0u64; 131072];
-    let got = wire::numbers(right, &mut room);
-    if !got.ok {
-        return wire::put_none(out);
-    }
-    let r = got.count;
-    divided(f, d, left, &mut room[0..r], out)
+fn divide_right(f: &[u64], d: &[u64], left: &mut [u64], text: &[u8], out: &mut [u8]) -> usize {
+    let mut room = request::words();
+    let n = request::numbers(text, &mut room);
+    divided(f, d, left, &mut room[0..n], out)
 }
 
-fn divide_left(f: &[u64], d: &[u64], left: &[u8], right: &[u8], out: &mut [u8]) -> usize {
-    let mut room = [0u64; 131072];
-    let got = wire::numbers(left, &mut room);
-    if !got.ok {
-        return wire::put_none(out);
-    }
-    let q = got.count;
-    divide_right(f, d, &mut room[0..q], right, out)
+fn divide_left(f: &[u64], d: &[u64], text: &[u8], out: &mut [u8]) -> usize {
+    let mut room = request::words();
+    let n = request::numbers(request::head(text), &mut room);
+    divide_right(f, d, &mut room[0..n], request::tail(text), out)
 }
 
-// `divide ; EXPR ; EXPR ; ROOM ; ROOM`
-pub fn on_divide(f: &[u64], by: &[u8], left: &[u8], right: &[u8], out: &mut [u8]) -> usize {
-    let mut pool = [0u64; 131072];
-    let got = wire::numbers(by, &mut pool);
-    if !got.ok {
-        return wire::put_none(out);
-    }
-    let d = got.count;
-    divide_left(f, &pool[0..d], left, right, out)
+fn divide_by(f: &[u64], text: &[u8], out: &mut [u8]) -> usize {
+    let mut pool = request::words();
+    let n = request::numbers(request::head(text), &mut pool);
+    divide_left(f, &pool[0..n], request::tail(text), out)
 }
 
-fn put_listed(a: Listed, out: &mut [u8]) -> usize {
+fn listed(a: Listed) -> Told {
     match a {
-        Listed::All(n) => wire::put_ok(out, n as u64),
-        Listed::Refused(k) => wire::put_refused(out, k, 0),
+        Listed::All(n) => wire::found(n as u64),
+        Listed::Refused(k) => wire::refused(k, 0),
     }
 }
 
-fn listed(f: &[u64], room: &mut [u64], out: &mut [u8]) -> usize {
+fn list(f: &[u64], room: &mut [u64], out: &mut [u8]) -> usize {
     let a = cokernel::cokernels(f, room);
-    let at = put_listed(a, out);
-    let at = wire::put_part(out, at);
-    wire::put_numbers(out, at, room)
+    let at = wire::put_told(out, listed(a));
+    wire::put_group(out, at, room)
 }
 
-// `cokernels ; EXPR ; ROOM`
-pub fn on_cokernels(f: &[u64], lent: &[u8], out: &mut [u8]) -> usize {
-    let mut room = [0u64; 131072];
-    let got = wire::numbers(lent, &mut room);
-    if !got.ok {
-        return wire::put_none(out);
+fn list_to(f: &[u64], text: &[u8], out: &mut [u8]) -> usize {
+    let mut room = request::words();
+    let n = request::numbers(text, &mut room);
+    list(f, &mut room[0..n], out)
+}
+
+fn wrote(a: Wrote) -> Told {
+    match a {
+        Wrote::Bytes(n) => wire::found(n as u64),
+        Wrote::Refused(k) => wire::refused(k, 0),
     }
-    let r = got.count;
-    listed(f, &mut room[0..r], out)
+}
+
+fn write(f: &[u64], room: &mut [u8], out: &mut [u8]) -> usize {
+    let a = factor::factored(f, room);
+    wire::put_left(out, wrote(a), room)
+}
+
+fn write_to(f: &[u64], text: &[u8], out: &mut [u8]) -> usize {
+    let mut room = request::room();
+    let n = request::bytes(text, &mut room);
+    write(f, &mut room[0..n], out)
+}
+
+// What is asked of an expression.
+pub enum Asked {
+    Division,
+    Cokernels,
+    Factored,
+    Nothing,
+}
+
+fn answer(a: Asked, f: &[u64], text: &[u8], out: &mut [u8]) -> usize {
+    match a {
+        Asked::Division => divide_by(f, text, out),
+        Asked::Cokernels => list_to(f, text, out),
+        Asked::Factored => write_to(f, text, out),
+        Asked::Nothing => wire::put_none(out),
+    }
+}
+
+// `divide ; EXPR ; EXPR ; ROOM ; ROOM`, `cokernels ; EXPR ; ROOM` and `factored ; EXPR ; ROOM` with a room in bytes: the groups after the first.
+pub fn on_expression(a: Asked, text: &[u8], out: &mut [u8]) -> usize {
+    let mut pool = request::words();
+    let n = request::numbers(request::head(text), &mut pool);
+    answer(a, &pool[0..n], request::tail(text), out)
 }

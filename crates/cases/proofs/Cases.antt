@@ -9,7 +9,8 @@ use Rattle.expression.specs.Expression.{has, place, sort, loose}
 use Rattle.division.specs.Division.{divides, quotient, product, remainder}
 use Rattle.cokernel.specs.Cokernels.{common, isCokernel, opens}
 use Rattle.factor.specs.Form.{most, formBy}
-use Rattle.letters.specs.Letters.{digits, decimal, literalText, cubeText}
+use Rattle.letters.specs.Letters.{digits, decimal}
+use Rattle.products.specs.Products.{literalText, cubeText}
 use Rattle.factor.specs.Text.{sumText, formText}
 use Rattle.network.specs.Net.{cubesAt}
 use Rattle.network.specs.Listing.{ready, nextReady, listMore, listing}

@@ -18,10 +18,12 @@ use Rattle.sets.proofs.Literals.{literals-at-most}
 use Rattle.sets.proofs.Places.{at-in, drop-next}
 use Rattle.expression.specs.Words.{cubesOf}
 use Rattle.expression.specs.Expression.{ordered, literalsOf}
-use Rattle.network.specs.Held.{cut, mostCubes}
+use Rattle.network.specs.Held.{mostCubes}
+use Rattle.nodes.specs.Nodes.{cut}
 use Rattle.network.specs.Handed.{flat}
 use Rattle.network.specs.Parts.{nodesOf}
-use Rattle.network.proofs.Holding.{cut-node, cut-all, cut-lengths}
+use Rattle.network.proofs.Holding.{cut-all}
+use Rattle.nodes.proofs.Cutting.{cut-node, cut-lengths}
 use Rattle.network.proofs.Handing.{flat-length}
 use Rattle.network.proofs.Parts.{nodes-at, nodes-length}
 use Rattle.network.proofs.Places.{all-append}

@@ -51,9 +51,9 @@ module _ (n : Network) (h : arranged n ≡ true) (slots : length (n .counts) ≡
   arranged-orderly =
       let s = arranged-sized n h slots words in
       record {
-        counted = s .lent .counted;
+        counted = s .counted;
         enough = omega (arith, s .cubes, cubes-length (n .words));
-        few = s .lent .few;
+        few = s .few;
         sorted = ap (all ordered) (sym (nodes-held n)) ∙ arranged-parts n h .1;
       }
 

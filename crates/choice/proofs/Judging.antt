@@ -16,29 +16,21 @@ use Rattle.extraction.specs.Run.{Made, made}
 use Rattle.extraction.proofs.Choosing.{heavier-order, better-order}
 use Rattle.divisor.specs.Divisor.{divisorOf, madeOf}
 use Rattle.divisor.specs.declared.Step.{Step}
-use Rattle.choice.specs.Parts.{taken, Wins, Adds}
+use Rattle.rank.specs.Rank.{outweighs, taken}
+use Rattle.choice.specs.Parts.{Wins, Adds}
 use Rattle.choice.specs.Parts.Wins.{nothing, first}
 
 -- ---- what is taken
 
 module _ (s t : Step) where
   pub taken-low : ltZ (pos 0) (t .weight) ≡ false → s ≡ taken s t
-  unfolding taken
+  unfolding taken outweighs
   taken-low h = rw h
 
   module _ (h : ltZ (pos 0) (t .weight) ≡ true) where
     pub taken-more : ltZ (s .weight) (t .weight) ≡ true → t ≡ taken s t
-    unfolding taken
+    unfolding taken outweighs
     taken-more k = rw (h, k)
-
-    module _ (k : ltZ (s .weight) (t .weight) ≡ false) where
-      pub taken-less : ltZ (t .weight) (s .weight) ≡ true → s ≡ taken s t
-      unfolding taken
-      taken-less j = rw (h, k, j)
-
-      pub taken-tie : ltZ (t .weight) (s .weight) ≡ false → (b : Bool) → b ≡ sooner (divisorOf (t .divisor)) (divisorOf (s .divisor)) → cond b t s ≡ taken s t
-      unfolding taken
-      taken-tie j b e = rw (h, k, j, ← e)
 
 -- ---- what is held leads
 
@@ -91,7 +83,7 @@ module _ (n : Net) where
     above k = ap (ltZ (pos 0)) (sym tw) ∙ k
 
     taken-better : ltZ (pos 0) (t .weight) ≡ true → (g : extraction.Divisor) → madeOf s ≡ made n g → cond (better n d g) t s ≡ taken s t
-    unfolding taken better
+    unfolding taken better outweighs
     taken-better k g q =
         let sw : s .weight ≡ weight n g = ap (λ (m : Made). m .weight) q in
         let sd : divisorOf (s .divisor) ≡ g = ap (λ (m : Made). m .divisor) q in

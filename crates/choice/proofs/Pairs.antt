@@ -25,7 +25,8 @@ use Rattle.extraction.specs.Meaning.{Used}
 use Rattle.extraction.proofs.Offering.{gather-in, gather-out, pairs-out, pairs-made}
 use Rattle.divisor.specs.declared.Step.{Step}
 use Rattle.divisor.specs.declared.Divisor.the-variants.{Pair}
-use Rattle.choice.specs.Parts.{stepOf, taken, Wins, Adds, Cubes}
+use Rattle.rank.specs.Rank.{taken}
+use Rattle.choice.specs.Parts.{stepOf, Wins, Adds, Cubes}
 use Rattle.choice.proofs.Ties.{not-above}
 use Rattle.choice.proofs.Counting.{counted-flat}
 use Rattle.choice.proofs.Judging.{leads-low, leads-same, leads-taken}

@@ -33,7 +33,8 @@ use Rattle.extraction.proofs.Parting.{parts-apart, parts-differ, use-left, use-
 use Rattle.extraction.proofs.Offering.{sums-made, sum-of-in, sum-of-out}
 use Rattle.divisor.specs.declared.Step.{Step}
 use Rattle.divisor.specs.declared.Divisor.the-variants.{Sum}
-use Rattle.choice.specs.Parts.{stepOf, taken, Adds, Nodes, Alone, Counts}
+use Rattle.rank.specs.Rank.{taken}
+use Rattle.choice.specs.Parts.{stepOf, Adds, Nodes, Alone, Counts}
 use Rattle.choice.proofs.Judging.{leads-taken, leads-low, leads-known}
 use Rattle.choice.proofs.Counting.{kept-flat, kept-total-le, counted-flat, all-words, total-le}
 use Rattle.choice.proofs.Ties.{not-above}

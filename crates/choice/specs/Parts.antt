@@ -1,13 +1,13 @@
 -- Words for the contracts of the private functions: divisors judged one after the other, and what words and counts hold.
 use Prim.Native.Nat.{ℕ, _≤_}
 use mathlib.Core.Path.{_≡_}
-use mathlib.Core.Bool.{true, false, cond, _&&_}
+use mathlib.Core.Bool.{true, false}
 use mathlib.Core.List.{List, [], _∷_, _++_, List·Memᴰ}
 use lib.ListN.{length, take}
 use lib.IntN.{pos, _-ℤ_}
 use lib.Signed.{ltZ}
 use Rattle.sets.specs.Lists.{all, keep, total}
-use Rattle.sets.specs.Sets.{sub, lex}
+use Rattle.sets.specs.Sets.{sub}
 use Rattle.expression.specs.Words.{cubesOf}
 use Rattle.expression.specs.Expression.{ordered, literalsOf}
 use Rattle.network.specs.Net.{Net, nodes}
@@ -16,9 +16,9 @@ use Rattle.network.specs.Handed.{flat}
 use Rattle.network.specs.Parts.{nodesOf}
 use Rattle.extraction.specs.Divisor as extraction
 use Rattle.extraction.specs.Divisor.{sum, uses, bases}
-use Rattle.extraction.specs.Extract.{weight, sooner, better}
+use Rattle.extraction.specs.Extract.{weight, better}
 use Rattle.extraction.specs.Run.{made}
-use Rattle.divisor.specs.Divisor.{divisorOf, madeOf, noStep}
+use Rattle.divisor.specs.Divisor.{madeOf, noStep}
 use Rattle.divisor.specs.declared.Divisor.{Divisor}
 use Rattle.divisor.specs.declared.Step.{Step}
 
@@ -27,11 +27,6 @@ use Rattle.divisor.specs.declared.Step.{Step}
 -- a step whose weight is a difference
 abbrev pub stepOf : Divisor → ℕ → ℕ → ℕ → Step
 stepOf d gain cost u = record { divisor = d; weight = pos gain -ℤ pos cost; uses = u }
-
--- the better of the step that is held and a new one, which is taken only where its weight is above 0
-unfoldable pub taken : Step → Step → Step
-taken s t =
-    cond (ltZ (pos 0) (t .weight) && lex (λ u v. ltZ v u) (t .weight) (s .weight) (sooner (divisorOf (t .divisor)) (divisorOf (s .divisor)))) t s
 
 -- the step is that of the best of these divisors, where its weight is above 0, and else the step of zeros
 pub data Wins (n : Net) (l : List extraction.Divisor) (s : Step) : Type 0 where

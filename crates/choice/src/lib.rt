@@ -9,10 +9,9 @@ ghost use mathlib.Core.Path.{_≡_};
 ghost use mathlib.Core.Bool.{true};
 ghost use mathlib.Core.List.{[], _∷_, map};
 ghost use Prim.Native.Nat.{_+_, _-_, _<_, _≤_};
-ghost use lib.Signed.{ltZ};
 ghost use lib.ListN.{length, take};
 ghost use Rattle.sets.specs.Lists.{any, keep, from, total};
-ghost use Rattle.sets.specs.Sets.{sub, before, lex};
+ghost use Rattle.sets.specs.Sets.{sub, before};
 ghost use Rattle.cube.specs.Cube.{lits};
 ghost use Rattle.expression.specs.Words.{cubesOf};
 ghost use Rattle.expression.specs.Expression.{ordered};
@@ -20,19 +19,16 @@ ghost use Rattle.network.specs.Net.{Net};
 ghost use Rattle.network.specs.Held.{mostCubes};
 ghost use Rattle.network.specs.Parts.{nodesOf};
 ghost use Rattle.extraction.specs.Divisor.{pair, sum, small, useOf};
-ghost use Rattle.extraction.specs.Extract.{gather, pairsIn, sumOf, sumsIn, candidates, sooner};
+ghost use Rattle.extraction.specs.Extract.{gather, pairsIn, sumOf, sumsIn, candidates};
 ghost use Rattle.extraction.specs.Meaning.{Parts};
-ghost use Rattle.divisor.specs.Divisor.{divisorOf};
 ghost use Rattle.choice.specs.Choice.{Chosen, chosenIn};
-ghost use Rattle.choice.specs.Parts.{stepOf, taken, Wins, Adds, Nodes, Cubes, Orderly, Inside, Alone, Counts};
+ghost use Rattle.choice.specs.Parts.{stepOf, Wins, Adds, Nodes, Cubes, Orderly, Inside, Alone, Counts};
 
 // The uses of a sum, and the literals in their bases.
 struct Counted {
     uses: u32,
     literals: u32,
 }
-
-// ---- steps and their order
 
 // A step whose weight is a difference, which may be below 0.
 fn step_of(divisor: Divisor, gain: u32, cost: u32, uses: u32) -> Step
@@ -44,86 +40,6 @@ fn step_of(divisor: Divisor, gain: u32, cost: u32, uses: u32) -> Step
         weight: gain as i32 - cost as i32,
         uses,
     }
-}
-
-fn is_heavier(s: Step, t: Step) -> bool
-    ensures { λ r. ⌜ r ≡ ltZ (t .weight) (s .weight) ⌝ }
-{
-    s.weight > t.weight
-}
-
-fn is_before(a: Cube, b: Cube) -> bool
-    ensures { λ r. ⌜ r ≡ before (lits a) (lits b) ⌝ }
-{
-    let o = order::compare(a, b);
-    match o {
-        Order::Before => true,
-        Order::Same => false,
-        Order::After => false,
-    }
-}
-
-// The smaller first literal first, then the second.
-fn is_pair_before(p: Literal, q: Literal, r: Literal, s: Literal) -> bool
-    ensures { λ x. ⌜ x ≡ before (p .0 ∷ q .0 ∷ []) (r .0 ∷ s .0 ∷ []) ⌝ }
-{
-    if p.0 < r.0 {
-        return true;
-    }
-    if r.0 < p.0 {
-        return false;
-    }
-    q.0 < s.0
-}
-
-// The smaller first part first, then the second.
-fn is_sum_before(a: Cube, b: Cube, c: Cube, d: Cube) -> bool
-    ensures { λ r. ⌜ r ≡ lex before (lits a) (lits c) (before (lits b) (lits d)) ⌝ }
-{
-    if is_before(a, c) {
-        return true;
-    }
-    if is_before(c, a) {
-        return false;
-    }
-    is_before(b, d)
-}
-
-// On a tie pairs before sums, then the smaller literal or part first, then the second.
-fn is_sooner(d: Divisor, e: Divisor) -> bool
-    ensures { λ r. ⌜ r ≡ sooner (divisorOf d) (divisorOf e) ⌝ }
-{
-    match d {
-        Divisor::Pair(p, q) => match e {
-            Divisor::Pair(r, s) => is_pair_before(p, q, r, s),
-            Divisor::Sum(_, _) => true,
-        },
-        Divisor::Sum(a, b) => match e {
-            Divisor::Pair(_, _) => false,
-            Divisor::Sum(c, f) => is_sum_before(a, b, c, f),
-        },
-    }
-}
-
-// The better of the step that is held and a new one. No weight of 0 or less is taken, even where it is the greatest.
-fn better_of(held: Step, s: Step) -> Step
-    ensures { λ r. ⌜ r ≡ taken held s ⌝ }
-{
-    if !is_heavier(s, divisor::no_step()) {
-        return held;
-    }
-    if is_heavier(s, held) {
-        return s;
-    }
-    if is_heavier(held, s) {
-        return held;
-    }
-    let d = s.divisor;
-    let e = held.divisor;
-    if is_sooner(d, e) {
-        return s;
-    }
-    held
 }
 
 // ---- pairs
@@ -152,38 +68,36 @@ fn judge_pair(s: &[u64], p: u32, q: u32, held: Step) -> Step
     let k = cube::with(cube::with(cube::empty(), Literal(p)), Literal(q));
     let uses = holders(s, k);
     let d = Divisor::Pair(Literal(p), Literal(q));
-    better_of(held, step_of(d, uses, 2, uses))
+    rank::better_of(held, step_of(d, uses, 2, uses))
 }
 
 // The pairs of p and a greater literal. A literal of two cubes or fewer has none of a weight above 0.
-fn judge_pairs_of(s: &[u64], p: u32, held: Step) -> Step
+fn judge_pairs_of(s: &[u64], p: u32, mut held: Step) -> Step
     requires { ⌜ (length (cubesOf (now s)) ≤ mostCubes) × (p < 128) ⌝ }
     ensures { λ r. ⌜ Adds (Cubes (cubesOf (now (s .entry)))) [] (map (pair p) (from (p + 1) (127 - p))) held r ⌝ }
 {
     if holders(s, cube::with(cube::empty(), Literal(p))) <= 2 {
         return held;
     }
-    let mut r = held;
     let mut q = cube::LITERALS;
     while q > p + 1 {
         q -= 1;
-        r = judge_pair(s, p, q, r);
+        held = judge_pair(s, p, q, held);
     }
-    r
+    held
 }
 
 // All pairs of literals.
-fn judge_pairs(s: &[u64], held: Step) -> Step
+fn judge_pairs(s: &[u64], mut held: Step) -> Step
     requires { ⌜ length (cubesOf (now s)) ≤ mostCubes ⌝ }
     ensures { λ r. ⌜ Adds (Cubes (cubesOf (now (s .entry)))) [] (pairsIn (from 0 128)) held r ⌝ }
 {
-    let mut r = held;
     let mut p = cube::LITERALS;
     while p > 0 {
         p -= 1;
-        r = judge_pairs_of(s, p, r);
+        held = judge_pairs_of(s, p, held);
     }
-    r
+    held
 }
 
 // ---- sums
@@ -251,7 +165,7 @@ fn judge_sum(words: &[u64], counts: &[usize], e: usize, a: Cube, b: Cube, held: 
     let s = cubes::count(a) + cubes::count(b);
     let uses = t.uses;
     let gain = t.literals + uses * (s - 1);
-    better_of(held, step_of(Divisor::Sum(a, b), gain, s, uses))
+    rank::better_of(held, step_of(Divisor::Sum(a, b), gain, s, uses))
 }
 
 // The same, unless the cubes of s have a use of the sum: then it is judged among theirs.
@@ -305,10 +219,11 @@ fn judge_two(
     if !is_small(b) {
         return held;
     }
-    if is_before(a, b) {
-        return judge_new(words, counts, e, s, a, b, held);
-    }
-    judge_new(words, counts, e, s, b, a, held)
+    let o = order::compare(a, b);
+    let Order::Before = o else {
+        return judge_new(words, counts, e, s, b, a, held);
+    };
+    judge_new(words, counts, e, s, a, b, held)
 }
 
 // The sum of c and a cube d after it. Where they share no literal and c is in no other cube, it weighs less than 0.
@@ -341,53 +256,66 @@ fn judge_sums_of(
     s: &[u64],
     c: Cube,
     alone: bool,
-    held: Step,
+    mut held: Step,
 ) -> Step
     requires { ⌜ Orderly (now words) (now counts) e × (ordered (lits c ∷ cubesOf (now s)) ≡ true) × (alone ≡ true → Alone (nodesOf e (now counts) (now words)) (lits c)) ⌝ }
     ensures { λ r. ⌜ Adds (Nodes (nodesOf e (now (counts .entry)) (now (words .entry)))) (sumsIn (cubesOf (now (s .entry)))) (gather (sumOf (lits c)) (cubesOf (now (s .entry)))) held r ⌝ }
 {
-    let mut r = held;
     let mut j = expression::number(s);
     while j > 0 {
         j -= 1;
-        r = judge_after(words, counts, e, s, c, expression::cube_at(s, j), alone, r);
+        held = judge_after(
+            words,
+            counts,
+            e,
+            s,
+            c,
+            expression::cube_at(s, j),
+            alone,
+            held,
+        );
     }
-    r
+    held
 }
 
 // The sums of two cubes of one node; the nodes have t cubes, its own among them.
-fn judge_sums_in(words: &[u64], counts: &[usize], e: usize, t: usize, s: &[u64], held: Step) -> Step
+fn judge_sums_in(
+    words: &[u64],
+    counts: &[usize],
+    e: usize,
+    t: usize,
+    s: &[u64],
+    mut held: Step,
+) -> Step
     requires { ⌜ Orderly (now words) (now counts) e × (t ≡ total (λ c. c) (take e (now counts))) × (ordered (cubesOf (now s)) ≡ true) × Inside (nodesOf e (now counts) (now words)) (cubesOf (now s)) ⌝ }
     ensures { λ r. ⌜ Adds (Nodes (nodesOf e (now (counts .entry)) (now (words .entry)))) [] (sumsIn (cubesOf (now (s .entry)))) held r ⌝ }
 {
     let n = expression::number(s);
-    let mut r = held;
     let mut i = n;
     while i > 0 {
         let rest = expression::part(s, i, n);
         i -= 1;
         let c = expression::cube_at(s, i);
         let alone = holders(expression::part(words, 0, t), c) <= 1;
-        r = judge_sums_of(words, counts, e, rest, c, alone, r);
+        held = judge_sums_of(words, counts, e, rest, c, alone, held);
     }
-    r
+    held
 }
 
 // All sums of two cubes of one node; the nodes have t cubes.
-fn judge_sums(words: &[u64], counts: &[usize], e: usize, t: usize, held: Step) -> Step
+fn judge_sums(words: &[u64], counts: &[usize], e: usize, t: usize, mut held: Step) -> Step
     requires { ⌜ Orderly (now words) (now counts) e × (t ≡ total (λ c. c) (take e (now counts))) ⌝ }
     ensures { λ r. ⌜ Adds (Nodes (nodesOf e (now (counts .entry)) (now (words .entry)))) [] (gather sumsIn (nodesOf e (now (counts .entry)) (now (words .entry)))) held r ⌝ }
 {
-    let mut r = held;
     let mut end = t;
     let mut k = e;
     while k > 0 {
         k -= 1;
         let at = end - counts[k];
-        r = judge_sums_in(words, counts, e, t, expression::part(words, at, end), r);
+        held = judge_sums_in(words, counts, e, t, expression::part(words, at, end), held);
         end = at;
     }
-    r
+    held
 }
 
 // ---- the choice

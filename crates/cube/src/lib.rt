@@ -5,7 +5,8 @@ ghost use Prim.Native.Nat.{_%_};
 ghost use lib.Dec.{eqb};
 ghost use Rattle.sets.specs.Literal.{plainOf, negatedOf, variableOf, polarityOf, oppositeOf};
 ghost use Rattle.sets.specs.Sets.{mem};
-ghost use Rattle.cube.specs.Cube.{lits, joined};
+ghost use Rattle.sets.specs.Masks.{single};
+ghost use Rattle.cube.specs.Cube.{width, lits, joined};
 
 // Places for variables in one mask, and their literals.
 pub const VARIABLES: u32 = 64;
@@ -63,11 +64,7 @@ pub fn is_negated(l: Literal) -> bool
 pub fn opposite(l: Literal) -> Literal
     ensures { λ r. ⌜ r .0 ≡ oppositeOf (l .0) ⌝ }
 {
-    if l.0 % 2 == 0 {
-        Literal(l.0 + 1)
-    } else {
-        Literal(l.0 - 1)
-    }
+    Literal(l.0 ^ 1)
 }
 
 // The cube with no literal, constant 1.
@@ -80,39 +77,27 @@ pub fn empty() -> Cube
     }
 }
 
+// The bit of a literal in the mask of polarity p; none for the other polarity, and for a number past the last literal.
+fn bit(l: u32, p: u32) -> u64
+    ensures { λ r. ⌜ r ≡ single width l p ⌝ }
+{
+    if l % 2 != p {
+        return 0;
+    }
+    if l < LITERALS { 1u64 << (l / 2) } else { 0 }
+}
+
 pub fn has(c: Cube, l: Literal) -> bool
     ensures { λ r. ⌜ r ≡ mem (l .0) (lits c) ⌝ }
 {
-    let at = l.0;
-    let v = at / 2;
-    if v >= VARIABLES {
-        return false;
-    }
-    if at % 2 == 0 {
-        (c.plain >> v) & 1 == 1
-    } else {
-        (c.negated >> v) & 1 == 1
-    }
+    (c.plain & bit(l.0, 0)) | (c.negated & bit(l.0, 1)) != 0
 }
 
 // The cube with a literal more; a number past the last literal adds nothing.
-pub fn with(c: Cube, l: Literal) -> Cube
+pub fn with(mut c: Cube, l: Literal) -> Cube
     ensures { λ r. ⌜ lits r ≡ joined (l .0) (lits c) ⌝ }
 {
-    let at = l.0;
-    if at >= 2 * VARIABLES {
-        return c;
-    }
-    let one = 1u64 << (at / 2);
-    if at % 2 == 0 {
-        Cube {
-            plain: c.plain | one,
-            negated: c.negated,
-        }
-    } else {
-        Cube {
-            plain: c.plain,
-            negated: c.negated | one,
-        }
-    }
+    c.plain = c.plain | bit(l.0, 0);
+    c.negated = c.negated | bit(l.0, 1);
+    c
 }

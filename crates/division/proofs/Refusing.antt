@@ -36,9 +36,6 @@ module _ (a b : Verdict) (k : ℕ) (e : a ≡ Refused k) where
     pub lesser-first : k ≤ l → some k ≡ either (refusalOf a) (refusalOf b)
     lesser-first s = rw (e, h, le-ltb l k s)
 
-pub first-refused : (a b : Verdict) (k : ℕ) → a ≡ Refused k → some k ≡ orElse (refusalOf a) (refusalOf b)
-first-refused a b k e = rw e
-
 -- ---- 6, 7, then 8
 
 nil-empty : {A : Type 0} (l : List A) → length l ≡ 0 → isNil l ≡ true
@@ -61,6 +58,16 @@ module _ (d : List ℕ) where
   pub some-cubes : (length (cubesOf d) ≡ 0 → ⊥) → none ≡ noCubes d
   unfolding noCubes
   some-cubes z = rw (nil-some (cubesOf d) z)
+
+-- the refusal of either, or else that of a divisor with no cubes
+module _ (f d : List ℕ) (v : Verdict) (h : refusalOf v ≡ either (refusal f) (refusal d)) where
+  pub admitted-early : (k : ℕ) → v ≡ Refused k → refusalOf v ≡ admitted f d
+  unfolding admitted
+  admitted-early k e = subst (λ o. refusalOf v ≡ orElse o (noCubes d)) h (rw e refl)
+
+  pub admitted-late : (w : Verdict) → v ≡ Accepted → refusalOf w ≡ noCubes d → refusalOf w ≡ admitted f d
+  unfolding admitted
+  admitted-late w e n = subst (λ o. refusalOf w ≡ orElse o (noCubes d)) h (rw e n)
 
 -- ---- what is known where neither is refused
 

@@ -6,7 +6,7 @@ ghost use mathlib.Core.Path.{_≡_};
 ghost use mathlib.Core.Bool.{true, _&&_};
 ghost use Prim.Native.Nat.{_≤_};
 ghost use lib.ListN.{length};
-ghost use Rattle.sets.specs.Lists.{keep, orElse};
+ghost use Rattle.sets.specs.Lists.{keep};
 ghost use Rattle.sets.specs.Sets.{sub, apart, union, without};
 ghost use Rattle.cube.specs.Cube.{lits};
 ghost use Rattle.expression.specs.Words.{cubesOf};
@@ -32,20 +32,9 @@ fn lesser(a: Verdict, b: Verdict) -> Verdict
         return a;
     };
     if l < k {
-        Verdict::Refused(l)
-    } else {
-        Verdict::Refused(k)
-    }
-}
-
-// A refusal, or else another.
-fn first_of(a: Verdict, b: Verdict) -> Verdict
-    ensures { λ r. ⌜ refusalOf r ≡ orElse (refusalOf a) (refusalOf b) ⌝ }
-{
-    let Verdict::Refused(k) = a else {
         return b;
-    };
-    Verdict::Refused(k)
+    }
+    a
 }
 
 // 8 for a divisor with no cubes.
@@ -65,8 +54,10 @@ fn admit(f: &[u64], d: &[u64]) -> Verdict
     let a = accepting::accept(f);
     let b = accepting::accept(d);
     let both = lesser(a, b);
-    let empty = accept_divisor(d);
-    first_of(both, empty)
+    let Verdict::Accepted = both else {
+        return both;
+    };
+    accept_divisor(d)
 }
 
 // The cubes of s at the front of `to`, in their order, and their number.
@@ -101,7 +92,7 @@ fn holds(passed: bool, s: &[u64], c: Cube) -> bool
     if !passed {
         return false;
     }
-    let p = expression::find(s, c);
+    let p = survey::find(s, c);
     match p {
         Place::At(_) => true,
         Place::Nothing => false,

@@ -5,7 +5,7 @@ use mathlib.Core.Bool.{true}
 use mathlib.Core.List.{List}
 use Rattle.sets.specs.Sets.{union, without}
 use Rattle.expression.specs.Expression.{ordered}
-use Rattle.expression.proofs.Searching.{find-has}
+use Rattle.survey.proofs.Searching.{find-has}
 use Rattle.extraction.specs.Divisor.{useOf}
 use Rattle.divisor.specs.Divisor.{foundUse}
 

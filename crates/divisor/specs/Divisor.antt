@@ -6,7 +6,7 @@ use lib.IntN.{pos}
 use Rattle.sets.specs.Lists.{isSome}
 use Rattle.sets.specs.Sets.{sub, apart, union, without}
 use Rattle.cube.specs.Cube.{lits}
-use Rattle.expression.specs.Expression.{findIn}
+use Rattle.survey.specs.Search.{findIn}
 use Rattle.extraction.specs.Divisor as extraction
 use Rattle.extraction.specs.Divisor.{pair, sum}
 use Rattle.extraction.specs.Run.{Made}

@@ -42,7 +42,7 @@ pub fn is_use(s: &[u64], c: Cube, a: Cube, b: Cube) -> bool
     if !cubes::is_empty(cubes::common(base, b)) {
         return false;
     }
-    let f = expression::find(s, cubes::union(base, b));
+    let f = survey::find(s, cubes::union(base, b));
     match f {
         Place::At(_) => true,
         Place::Nothing => false,

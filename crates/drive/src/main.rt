@@ -1,8 +1,10 @@
 // Answers requests of the line protocol, a line for a line, from standard input to standard output.
+use ask::Asked;
 use libc::STDIN_FILENO;
 use network::Network;
-use wire::Groups;
-use wire::Word;
+use report::Wrote;
+use table::Answer;
+use wire::Told;
 
 // What has come of the present line: how much, and whether it is too long to be one.
 struct Coming {
@@ -10,132 +12,251 @@ struct Coming {
     long: bool,
 }
 
-// An operation on bytes.
+// ---- operations on bytes
+
+fn read(a: Answer) -> Told {
+    match a {
+        Answer::Read => wire::found(0),
+        Answer::Refused(k, l) => wire::refused(k, l),
+    }
+}
+
+// `table BYTES`
+fn on_table(text: &[u8], out: &mut [u8]) -> usize {
+    let t = table::read(text);
+    let answer = t.answer;
+    let network = t.network;
+    nets::put_handed(out, read(answer), network)
+}
+
+// The length of a report; above 4,096 where there is none.
+fn length(w: Wrote) -> usize {
+    match w {
+        Wrote::Bytes(k) => k,
+        Wrote::Refused(_) => 4097,
+    }
+}
+
+// The front of a page as an answer.
+fn put_page(page: &[u8], k: usize, out: &mut [u8]) -> usize {
+    if k > page.len() {
+        return wire::put_none(out);
+    }
+    let at = wire::put_text(out, 0, b"ok ;");
+    wire::put_bytes(out, at, &page[0..k])
+}
+
+// `report BYTES`, in a page that every report fits.
+fn on_report(text: &[u8], out: &mut [u8]) -> usize {
+    let mut page = [0u8; 4096];
+    let w = report::report(text, &mut page);
+    put_page(&page, length(w), out)
+}
+
 fn answer_bytes(name: &[u8], bytes: &[u8], out: &mut [u8]) -> usize {
     if check::same(name, b"table") {
-        return tables::on_table(bytes, out);
+        return on_table(bytes, out);
     }
     if check::same(name, b"read") {
         return images::on_read(bytes, out);
     }
     if check::same(name, b"report") {
-        return tables::on_report(bytes, out);
+        return on_report(bytes, out);
     }
     wire::put_none(out)
 }
 
-fn on_bytes(head: &[u8], out: &mut [u8]) -> usize {
-    let mut room = [0u8; 131072];
-    let got = wire::bytes(wire::rest(head), &mut room);
-    if !got.ok {
-        return wire::put_none(out);
-    }
-    let n = got.count;
-    answer_bytes(wire::first(head), &room[0..n], out)
+fn decode(name: &[u8], word: &[u8], out: &mut [u8]) -> usize {
+    let mut room = request::room();
+    let n = request::bytes(word, &mut room);
+    answer_bytes(name, &room[0..n], out)
 }
 
-// An operation on an expression: of five groups, a division.
-fn answer_expression(line: &[u8], g: Groups, head: &[u8], f: &[u64], out: &mut [u8]) -> usize {
-    let second = wire::group(line, g, 2);
-    if g.count == 5 {
-        return ask::on_divide(
-            f,
-            second,
-            wire::group(line, g, 3),
-            wire::group(line, g, 4),
-            out,
-        );
+fn on_bytes(line: &[u8], out: &mut [u8]) -> usize {
+    let word = request::rest(line);
+    if !request::are_bytes(word) {
+        return wire::put_none(out);
     }
-    if check::same(head, b"cokernels") {
-        return ask::on_cokernels(f, second, out);
+    decode(request::first(line), word, out)
+}
+
+// ---- operations on expressions
+
+const NUMBERS: usize = 262144;
+
+fn factored(text: &[u8]) -> Asked {
+    if request::fits(request::head(text), NUMBERS) && request::are_bytes(request::tail(text)) {
+        return Asked::Factored;
     }
+    Asked::Nothing
+}
+
+fn asked_of(head: &[u8], text: &[u8]) -> Asked {
     if check::same(head, b"factored") {
-        return tell::on_factored(f, second, out);
+        return factored(text);
     }
-    wire::put_none(out)
+    if check::same(head, b"cokernels") && request::fits(text, NUMBERS) {
+        return Asked::Cokernels;
+    }
+    Asked::Nothing
 }
 
-fn on_expression(line: &[u8], g: Groups, head: &[u8], out: &mut [u8]) -> usize {
-    let mut pool = [0u64; 131072];
-    let got = wire::numbers(wire::group(line, g, 1), &mut pool);
-    if !got.ok {
-        return wire::put_none(out);
-    }
-    let n = got.count;
-    answer_expression(line, g, head, &pool[0..n], out)
+fn on_three(line: &[u8], out: &mut [u8]) -> usize {
+    let text = request::tail(line);
+    let a = asked_of(request::head(line), text);
+    ask::on_expression(a, text, out)
 }
 
-// An operation on a network.
-fn answer_net(head: &[u8], n: Network, out: &mut [u8]) -> usize {
+fn divides(text: &[u8]) -> Asked {
+    if request::fits(text, NUMBERS) {
+        return Asked::Division;
+    }
+    Asked::Nothing
+}
+
+// ---- operations on networks
+
+// Of four groups: 1 for the literal count, 2 for an evaluation, 3 for a run, 0 for no request.
+fn named(head: &[u8]) -> u8 {
     if check::same(head, b"literals") {
-        return nets::put_answer(out, network::literals(n));
+        return 1;
     }
-    let x = wire::number(wire::rest(head));
-    let Word::Is(v) = x else {
-        return wire::put_none(out);
-    };
-    let name = wire::first(head);
+    let name = request::first(head);
+    if !request::is_number(request::rest(head)) {
+        return 0;
+    }
     if check::same(name, b"evaluate") {
-        return nets::put_answer(out, network::evaluate(n, v));
+        return 2;
     }
     if check::same(name, b"extract") {
+        return 3;
+    }
+    0
+}
+
+fn counted(op: u8, n: Network, v: u64) -> Told {
+    if op == 1 {
+        return nets::told(ruling::literals(n));
+    }
+    nets::told(evaluation::evaluate(n, v))
+}
+
+fn answer_net(op: u8, n: Network, v: u64, out: &mut [u8]) -> usize {
+    if op == 3 {
         return runs::on_extract(n, v, out);
+    }
+    wire::put_told(out, counted(op, n, v))
+}
+
+fn on_four(line: &[u8], out: &mut [u8]) -> usize {
+    let head = request::head(line);
+    let text = request::tail(line);
+    let op = named(head);
+    if op == 0 || !nets::is_net(text) {
+        return wire::put_none(out);
+    }
+    answer_net(
+        op,
+        nets::read_net(text),
+        request::number(request::rest(head)),
+        out,
+    )
+}
+
+// ---- operations of five groups
+
+// The last of four groups.
+fn last(text: &[u8]) -> &[u8] {
+    request::tail(request::tail(request::tail(text)))
+}
+
+// Whether there are a network and a room.
+fn is_lent(text: &[u8]) -> bool {
+    nets::is_net(text) && request::are_bytes(last(text))
+}
+
+fn answer_write(text: &[u8], out: &mut [u8]) -> usize {
+    if !is_lent(text) {
+        return wire::put_none(out);
+    }
+    images::on_write(nets::read_net(text), last(text), out)
+}
+
+fn answer_five(head: &[u8], text: &[u8], out: &mut [u8]) -> usize {
+    if check::same(head, b"divide") {
+        return ask::on_expression(divides(text), text, out);
+    }
+    if check::same(head, b"write") {
+        return answer_write(text, out);
     }
     wire::put_none(out)
 }
 
-fn on_net(line: &[u8], g: Groups, head: &[u8], out: &mut [u8]) -> usize {
-    let got = nets::read_net(line, g);
-    if !got.ok {
-        return wire::put_none(out);
-    }
-    let n = got.network;
-    if g.count == 4 {
-        return answer_net(head, n, out);
-    }
-    if check::same(head, b"write") {
-        return images::on_write(n, wire::group(line, g, 4), out);
-    }
-    wire::put_none(out)
+fn on_five(line: &[u8], out: &mut [u8]) -> usize {
+    answer_five(request::head(line), request::tail(line), out)
 }
 
 // The answer to a line, to the front of out; its length is returned.
 fn answer(line: &[u8], out: &mut [u8]) -> usize {
-    let g = wire::split(line);
-    let groups = g.count;
-    let head = wire::group(line, g, 0);
+    let groups = request::groups(line);
     if groups == 1 {
-        return on_bytes(head, out);
+        return on_bytes(line, out);
     }
     if groups == 3 {
-        return on_expression(line, g, head, out);
+        return on_three(line, out);
     }
-    if groups == 5 && check::same(head, b"divide") {
-        return on_expression(line, g, head, out);
+    if groups == 4 {
+        return on_four(line, out);
     }
-    if groups == 4 || groups == 5 {
-        return on_net(line, g, head, out);
+    if groups == 5 {
+        return on_five(line, out);
     }
     wire::put_none(out)
 }
 
+// The first n bytes.
+fn front(line: &[u8], n: usize) -> &[u8] {
+    if n <= line.len() {
+        return &line[0..n];
+    }
+    line
+}
+
+fn reply(line: &[u8], c: Coming, out: &mut [u8]) -> usize {
+    if c.long {
+        return wire::put_none(out);
+    }
+    answer(front(line, c.length), out)
+}
+
 // A line has ended: it is answered.
 fn respond(line: &[u8], c: Coming, out: &mut [u8]) {
-    let length = c.length;
-    if c.long {
-        let n = wire::put_none(out);
-        line::end(out, n);
-        return;
+    let n = reply(line, c, out);
+    line::end(out, n);
+}
+
+fn store(line: &mut [u8], at: usize, b: u8) {
+    if at < line.len() {
+        line[at] = b;
     }
-    if length <= line.len() {
-        let n = answer(&line[0..length], out);
-        line::end(out, n);
+}
+
+// What has come with one byte more, in a room of so many.
+fn longer(c: Coming, room: usize) -> Coming {
+    if c.length < room {
+        return Coming {
+            length: c.length + 1,
+            long: c.long,
+        };
+    }
+    Coming {
+        length: c.length,
+        long: true,
     }
 }
 
 // One byte more.
 fn take(b: u8, c: Coming, line: &mut [u8], out: &mut [u8]) -> Coming {
-    let length = c.length;
     if b == 10 {
         respond(line, c, out);
         return Coming {
@@ -143,14 +264,8 @@ fn take(b: u8, c: Coming, line: &mut [u8], out: &mut [u8]) -> Coming {
             long: false,
         };
     }
-    if length < line.len() {
-        line[length] = b;
-        return Coming {
-            length: length + 1,
-            long: c.long,
-        };
-    }
-    Coming { length, long: true }
+    store(line, c.length, b);
+    longer(c, line.len())
 }
 
 fn take_all(s: &[u8], c: Coming, line: &mut [u8], out: &mut [u8]) -> Coming {
@@ -203,9 +318,13 @@ fn serve(line: &mut [u8], out: &mut [u8]) -> Coming {
     c
 }
 
+fn room() -> [u8; 262144] {
+    [0; 262144]
+}
+
 fn main() {
-    let mut line = [0u8; 262144];
-    let mut out = [0u8; 65536];
+    let mut line = room();
+    let mut out = io::large_buffer();
     let c = serve(&mut line, &mut out);
     if c.length > 0 {
         respond(&line, c, &mut out);

@@ -1,10 +1,5 @@
 pub mod Words
-pub mod Counting
-pub mod Searching
 pub mod Values
 pub mod Absorbing
-pub mod Compacting
-pub mod Accepting
 pub mod Sorting
-pub mod Sinking
 pub mod Members

@@ -2,4 +2,3 @@ pub mod Words
 pub mod Expression
 pub mod Value
 pub mod Answers
-pub mod Steps

@@ -27,7 +27,7 @@ use Rattle.divisor.specs.declared.Step.{Step}
 use Rattle.replace.specs.Replace.{allowed, outcome, Stepped}
 use Rattle.replace.specs.declared.Outcome.the-variants as Outcome
 use Rattle.replace.specs.declared.Next.{Next}
-use Rattle.replace.proofs.Fitting.{fitting-iff}
+use Rattle.fitness.proofs.Fitting.{fitting-iff}
 use Rattle.replace.proofs.Keeping.{Takes, stepped-takes}
 use Rattle.extract.specs.Answers.{stopOf}
 use Rattle.extract.specs.Parts.{reasonOf}

@@ -27,11 +27,11 @@ fn put_cubes(o: &mut [u8], at: usize, w: &[u64], a: usize, e: usize) -> usize
     if a == e {
         return letters::put(o, at, b'0');
     }
-    let mut p = letters::put_product(o, at, expression::cube_at(w, a));
+    let mut p = products::put_product(o, at, expression::cube_at(w, a));
     let mut i = a + 1;
     while i < e {
         p = letters::put(o, p, b'+');
-        p = letters::put_product(o, p, expression::cube_at(w, i));
+        p = products::put_product(o, p, expression::cube_at(w, i));
         i += 1;
     }
     p
@@ -150,7 +150,7 @@ fn product(
     requires { ⌜ Spared (now w) (now spare) a e × Countable at (productOf (l .0) (cubesFrom a e (now w))) ⌝ }
     ensures { λ r. ⌜ Wrought (now (w .entry)) (now (w .exit)) (now (o .entry)) (now (o .exit)) a e at r (productOf (l .0) (cubesFrom a e (now (w .entry)))) ⌝ }
 {
-    let p = letters::put_literal(o, at, l);
+    let p = products::put_literal(o, at, l);
     let q = letters::put(o, p, b'*');
     let r = letters::put(o, q, b'(');
     let s = sum(w, spare, a, e, o, r);

@@ -18,7 +18,8 @@ use Rattle.sets.proofs.Places.{drop-next}
 use Rattle.expression.specs.Words.{cubesOf}
 use Rattle.network.specs.Net.{Node, Net, cubesAt}
 use Rattle.network.specs.Meaning.{Reads, Distinct}
-use Rattle.network.specs.Held.{cut, numbered, used, netOf}
+use Rattle.network.specs.Held.{numbered, used, netOf}
+use Rattle.nodes.specs.Nodes.{cut}
 use Rattle.network.specs.declared.Network.{Network}
 use Rattle.network.proofs.Numbering.{cubes-at}
 use Rattle.network.proofs.Holding.{held-distinct}

@@ -7,39 +7,15 @@ ghost use mathlib.Core.Bool.{cond};
 ghost use mathlib.Core.List.{[]};
 ghost use Prim.Native.Nat.{_+_, _<_};
 ghost use lib.Dec.{leb};
-ghost use lib.ListN.{getD};
+ghost use lib.ListN.{length, getD};
 ghost use Rattle.sets.specs.Lists.{keep};
 ghost use Rattle.sets.specs.Sets.{mem, union};
 ghost use Rattle.cube.specs.Cube.{lits};
 ghost use Rattle.expression.specs.Words.{cubesOf};
-ghost use Rattle.network.specs.Held.{cut};
+ghost use Rattle.nodes.specs.Nodes.{cut};
 ghost use Rattle.network.specs.Parts.{nodesOf, netAt, Sized};
 ghost use Rattle.hangs.specs.Hangs.{variablesOf, readsOf, readBy, reached, hangsOn, hangsAt, Marks};
-ghost use Rattle.hangs.specs.Parts.{countBefore, Begun, Makes};
-
-// Where the cubes of node i begin.
-fn start(counts: &[usize], i: usize) -> usize
-    requires { ⌜ Begun i (now counts) ⌝ }
-    ensures { λ r. ⌜ r ≡ countBefore i (now (counts .entry)) ⌝ }
-{
-    let mut sum = 0;
-    let mut j = 0;
-    while j < i {
-        sum += counts[j];
-        j += 1;
-    }
-    sum
-}
-
-// The cubes of node i.
-fn node<'a>(words: &'a [u64], counts: &[usize], i: usize) -> &'a [u64]
-    requires { ⌜ Begun (i + 1) (now counts) ⌝ }
-    ensures { λ r. ⌜ cubesOf (now r) ≡ getD (cut (now (counts .entry)) (cubesOf (now (words .entry)))) i [] ⌝ }
-{
-    let a = start(counts, i);
-    let e = a + counts[i];
-    expression::part(words, a, e)
-}
+ghost use Rattle.hangs.specs.Parts.{Makes};
 
 // The variables of a cube's literals.
 fn variables(c: Cube) -> u64
@@ -63,12 +39,12 @@ fn reads(f: &[u64]) -> u64
 
 // What divisor i reads, where the mask has it.
 fn asked(words: &[u64], counts: &[usize], n: usize, m: usize, i: usize, mask: u64) -> u64
-    requires { ⌜ Begun (m + i + 1) (now counts) × (n + i < 64) ⌝ }
+    requires { ⌜ (m + i < length (now counts)) × (n + i < 64) ⌝ }
     ensures { λ r. ⌜ Makes mask r (λ l. cond (mem (n + i) l) (readsOf (getD (cut (now (counts .entry)) (cubesOf (now (words .entry)))) (m + i) [])) []) ⌝ }
 {
     let v = n + i;
     if (mask >> v) & 1 == 1 {
-        return reads(node(words, counts, m + i));
+        return reads(nodes::node(words, counts, m + i));
     }
     0
 }
@@ -114,7 +90,7 @@ fn found(words: &[u64], counts: &[usize], n: usize, m: usize, k: usize, i: usize
     requires { ⌜ Sized n m k (now words) (now counts) × (n < 64) × (i < m + k) ⌝ }
     ensures { λ r. ⌜ Marks r (hangsOn (netAt n m k (now (counts .entry)) (now (words .entry))) (getD (nodesOf (m + k) (now (counts .entry)) (now (words .entry))) i [])) ⌝ }
 {
-    let direct = reads(node(words, counts, i));
+    let direct = reads(nodes::node(words, counts, i));
     above(n, often(words, counts, n, m, k, direct))
 }
 
@@ -122,7 +98,7 @@ fn found(words: &[u64], counts: &[usize], n: usize, m: usize, k: usize, i: usize
 pub fn hangs(n: Network, i: usize) -> u64
     ensures { λ r. ⌜ Marks r (hangsAt n i) ⌝ }
 {
-    let j = network::judge(n);
+    let j = ruling::judge(n);
     let Judged::Accepted = j else {
         return 0;
     };

@@ -9,9 +9,9 @@ use Rattle.sets.specs.Masks.{bit}
 use Rattle.sets.proofs.Places.{drop-next}
 use Rattle.expression.specs.Words.{cubesOf}
 use Rattle.fields.specs.Fields.{bitsOf, fieldBits}
-use Rattle.network.specs.Held.{cut}
+use Rattle.nodes.specs.Nodes.{cut}
 use Rattle.network.specs.Handed.{flat}
-use Rattle.network.proofs.Holding.{cut-node, cut-length}
+use Rattle.nodes.proofs.Cutting.{cut-node, cut-length}
 use Rattle.imaging.specs.Image.{field, cubeFields, nodeFields, headFields}
 use Rattle.imaging.proofs.Fielding.{fields-append}
 use Rattle.image.specs.Parts.{nodesFrom, bitsFrom}

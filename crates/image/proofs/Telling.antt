@@ -14,14 +14,15 @@ use Rattle.fields.specs.Fields.{bytesFor, bytesFrom, fieldBits}
 use Rattle.fields.proofs.Bytes.{bytes-length}
 use Rattle.network.specs.Net.{Node, Net, nodes, cubesAt}
 use Rattle.network.specs.Listing.{listing}
-use Rattle.network.specs.Held.{cut, netOf, rules}
+use Rattle.network.specs.Held.{netOf, rules}
+use Rattle.nodes.specs.Nodes.{cut}
 use Rattle.network.specs.Handed.{Holds}
 use Rattle.network.specs.declared.Network.{Network}
 use Rattle.network.specs.declared.Judged.the-variants.{Accepted, Refused}
 use Rattle.network.proofs.Handing.{cut-flat, used-held}
 use Rattle.network.proofs.Holding.{rules-iff, rules-sound, rules-outputs, rules-divisors}
 use Rattle.network.proofs.Numbering.{numbered-length}
-use Rattle.network.proofs.Parts.{cut-take}
+use Rattle.nodes.proofs.Cutting.{cut-take}
 use Rattle.imaging.specs.Renumber.{newNode, renumbered}
 use Rattle.imaging.specs.Image.{headFields, netFields, netBytes, imageOf}
 use Rattle.imaging.proofs.Fielding.{divisorCubes, nodeBits, net-bits, net-bits-length, nodes-bits-length}

@@ -6,7 +6,7 @@ use mathlib.Core.List.{List, _++_, map}
 use lib.ListN.{length, take, drop}
 use Rattle.fields.specs.Fields.{bytesFor, bytesOf, fieldBits}
 use Rattle.expression.specs.Words.{cubesOf}
-use Rattle.network.specs.Held.{cut}
+use Rattle.nodes.specs.Nodes.{cut}
 use Rattle.network.specs.Handed.{flat}
 use Rattle.imaging.specs.Image.{nodeFields, headFields}
 

@@ -105,7 +105,7 @@ fn put_nodes(o: &mut [u8], at: usize, words: &[u64], counts: &[usize], a: usize,
     let mut p = at;
     let mut i = a;
     while i < e {
-        p = put_node(o, p, renumber::node(words, counts, i));
+        p = put_node(o, p, nodes::node(words, counts, i));
         i += 1;
     }
     p
@@ -139,7 +139,7 @@ fn node_bits(f: &[u64]) -> usize
     requires { ⌜ length (cubesOf (now f)) ≤ 1088 ⌝ }
     ensures { λ r. ⌜ (r ≡ length (fieldBits (nodeFields (cubesOf (now (f .entry)))))) × (r < 1000000) ⌝ }
 {
-    11 + 7 * (expression::number(f) + expression::literals(f) as usize)
+    11 + 7 * (expression::number(f) + survey::literals(f) as usize)
 }
 
 // The bits of the first e nodes.
@@ -150,7 +150,7 @@ fn nodes_bits(words: &[u64], counts: &[usize], e: usize) -> usize
     let mut sum = 0;
     let mut i = 0;
     while i < e {
-        sum += node_bits(renumber::node(words, counts, i));
+        sum += node_bits(nodes::node(words, counts, i));
         i += 1;
     }
     sum

@@ -1,4 +1,2 @@
 pub mod Laying
 pub mod Numbers
-pub mod Texts
-pub mod Walking

@@ -1,8 +1,8 @@
--- Numbers, literals and cubes as bytes.
+-- Numbers as bytes.
 use Prim.Native.Nat.{ℕ, zero, suc, _+_, _/_, _%_}
 use mathlib.Core.Bool.{cond}
 use mathlib.Core.List.{List, [], _∷_, _++_}
-use lib.Dec.{ltb, eqb}
+use lib.Dec.{ltb}
 
 -- a number in decimal, of at most k digits before the last one
 unfoldable pub digits : ℕ → ℕ → List ℕ
@@ -12,13 +12,3 @@ digits (suc k) n = cond (ltb n 10) ((48 + n) ∷ []) (digits k (n / 10) ++ ((48 
 -- a number in decimal: the most significant digit first, and none more than it needs
 unfoldable pub decimal : ℕ → List ℕ
 decimal n = digits n n
-
--- `x3` and `x3'`
-unfoldable pub literalText : ℕ → List ℕ
-literalText l = 120 ∷ (decimal (l / 2) ++ cond (eqb (l % 2) 0) [] (39 ∷ []))
-
--- literals with `*` between them; the empty cube is `1`
-unfoldable pub cubeText : List ℕ → List ℕ
-cubeText [] = 49 ∷ []
-cubeText (l ∷ []) = literalText l
-cubeText (l ∷ m ∷ c) = literalText l ++ (42 ∷ cubeText (m ∷ c))

@@ -2,9 +2,6 @@
 use network::Network;
 use std::num;
 
-// Room for a line: a factored text, and what stands beside it.
-const LINE: usize = 266240;
-
 // The columns of the names and of what they stand for.
 const NAMES: usize = 2;
 
@@ -14,73 +11,76 @@ const MEANING: usize = 14;
 
 // ---- the heading
 
+fn counts(n: Network) -> [u64; 4] {
+    [
+        n.inputs as u64,
+        n.divisors as u64,
+        n.outputs as u64,
+        show::literals(n),
+    ]
+}
+
 // `19 orchards`, or `1 orchard`.
-fn put_count(out: &mut [u8], at: usize, x: u64, word: &[u8]) -> usize {
-    let next = line::put_decimal(out, at, x);
-    let next = wire::put(out, next, b' ');
-    let next = wire::put_text(out, next, word);
-    if x == 1 {
-        return next;
-    }
-    wire::put(out, next, b's')
+fn print_counts(n: Network) {
+    line::print_filled(
+        b"MAP: # input~, # shared condition~, # orchard~, # literal~\n",
+        counts(n),
+    );
 }
 
-fn put_counts(out: &mut [u8], n: Network) -> usize {
-    let at = wire::put_text(out, 0, b"MAP: ");
-    let at = put_count(out, at, n.inputs as u64, b"input");
-    let at = wire::put_text(out, at, b", ");
-    let at = put_count(out, at, n.divisors as u64, b"shared condition");
-    let at = wire::put_text(out, at, b", ");
-    put_count(out, at, n.outputs as u64, b"orchard")
+// A name in its column.
+fn put_first(letter: u8, i: usize) -> usize {
+    let at = line::pad(0, NAMES);
+    line::put_name(at, letter, i)
 }
 
-fn print_counts(n: Network, out: &mut [u8]) {
-    let at = put_counts(out, n);
-    let at = wire::put_text(out, at, b", ");
-    let at = put_count(out, at, show::literals(n), b"literal");
-    let at = wire::put(out, at, b'\n');
-    line::end(out, at);
+fn put_last(at: usize, letter: u8, i: usize) -> usize {
+    let next = line::put(at, b" to ");
+    line::put_name(next, letter, i)
 }
 
-// ` to x14`, where there is more than one.
-fn put_last(out: &mut [u8], at: usize, letter: u8, from: usize, count: usize) -> usize {
+// `x0 to x14`, or `x0` where there is one.
+fn put_names(letter: u8, from: usize, count: usize) -> usize {
+    let at = put_first(letter, from);
     if count < 2 {
         return at;
     }
-    let next = wire::put_text(out, at, b" to ");
-    line::put_name(out, next, letter, num::wrapping_add_usize(from, count - 1))
+    put_last(at, letter, num::wrapping_add_usize(from, count - 1))
+}
+
+// The line ends with the text in its column.
+fn end_column(at: usize, to: usize, text: &[u8]) {
+    line::column(at, to);
+    line::print(text);
 }
 
 // `x0 to x14   the inputs`, where there are any.
-fn print_range(letter: u8, from: usize, count: usize, word: &[u8], out: &mut [u8]) {
+fn print_range(letter: u8, from: usize, count: usize, word: &[u8]) {
     if count == 0 {
         return;
     }
-    let at = line::blanks(out, 0, NAMES);
-    let at = line::put_name(out, at, letter, from);
-    let at = put_last(out, at, letter, from, count);
-    let at = line::column(out, at, MEANING);
-    let at = wire::put_text(out, at, word);
-    line::end(out, at);
+    end_column(put_names(letter, from, count), MEANING, word);
+}
+
+fn print_ranges(inputs: usize, divisors: usize, outputs: usize) {
+    print_range(b'x', 0, inputs, b"the inputs");
+    print_range(b'x', inputs, divisors, b"the shared conditions");
+    print_range(b'y', 0, outputs, b"the orchards");
 }
 
 // What the names and the signs mean.
-fn print_heading(n: Network, out: &mut [u8]) {
-    print_counts(n, out);
-    print_range(b'x', 0, n.inputs, b"the inputs", out);
-    print_range(b'x', n.inputs, n.divisors, b"the shared conditions", out);
-    print_range(b'y', 0, n.outputs, b"the orchards", out);
-    line::print(b"  x0'         x0 is off");
-    line::print(b"  *  +        and, or");
-    line::print(b"  0  1        never, always");
+fn print_heading(n: Network) {
+    print_counts(n);
+    print_ranges(n.inputs, n.divisors, n.outputs);
+    line::print(b"  x0'         x0 is off\n  *  +        and, or\n  0  1        never, always");
 }
 
 // A table's conditions have the numbers of its steps; those of an image stand in the image's own order.
-fn print_numbering(n: Network, text: &[u8]) {
-    if n.divisors == 0 {
+fn print_numbering(divisors: usize, length: usize) {
+    if divisors == 0 {
         return;
     }
-    if text.len() == 0 {
+    if length == 0 {
         return;
     }
     line::print(b"  The conditions are numbered as in the report; an image numbers them anew.");
@@ -89,36 +89,32 @@ fn print_numbering(n: Network, text: &[u8]) {
 // ---- the inputs
 
 // A name, and blanks up to the text's column.
-fn put_name(out: &mut [u8], letter: u8, i: usize) -> usize {
-    let at = line::blanks(out, 0, NAMES);
-    let at = line::put_name(out, at, letter, i);
-    line::column(out, at, TEXT)
+fn put_name(letter: u8, i: usize) -> usize {
+    line::column(put_first(letter, i), TEXT)
 }
 
-fn print_input(text: &[u8], i: usize, out: &mut [u8]) {
-    let at = put_name(out, b'x', i);
-    let next = name::put_name(out, at, text, i);
-    if next == at {
-        let none = wire::put(out, at, b'-');
-        line::end(out, none);
+fn print_input(text: &[u8], i: usize) {
+    put_name(b'x', i);
+    if name::is_named(text, i) {
+        name::print(text, i);
         return;
     }
-    line::end(out, next);
+    line::print(b"-");
 }
 
-fn print_each_input(text: &[u8], inputs: usize, out: &mut [u8]) {
+fn print_each_input(text: &[u8], inputs: usize) {
     let mut i = 0;
     while i < inputs {
-        print_input(text, i, out);
+        print_input(text, i);
         i += 1;
     }
 }
 
 // Whether the text names one of the inputs.
-fn is_any(text: &[u8], inputs: usize, out: &mut [u8]) -> bool {
+fn is_any(text: &[u8], inputs: usize) -> bool {
     let mut i = 0;
     while i < inputs {
-        if name::put_name(out, 0, text, i) > 0 {
+        if name::is_named(text, i) {
             return true;
         }
         i += 1;
@@ -126,126 +122,135 @@ fn is_any(text: &[u8], inputs: usize, out: &mut [u8]) -> bool {
     false
 }
 
-fn print_inputs(text: &[u8], inputs: usize, out: &mut [u8]) {
+fn print_inputs(text: &[u8], inputs: usize) {
     line::print(b"\nINPUTS");
-    if is_any(text, inputs, out) {
-        print_each_input(text, inputs, out);
+    if is_any(text, inputs) {
+        print_each_input(text, inputs);
         return;
     }
-    line::print(b"  no names: a table gives them in comment lines, as");
-    line::print(b"  # x0 tank high");
+    line::print(b"  no names: a table gives them in comment lines, as\n  # x0 tank high");
 }
 
-// ---- the conditions
+// ---- the lists
 
 // The name of a section, and what stands in its last column.
-fn print_title(title: &[u8], list: &[u8], wide: usize, out: &mut [u8]) {
-    line::print(b"");
-    let at = wire::put_text(out, 0, title);
-    let at = line::column(out, at, wide);
-    let at = wire::put_text(out, at, list);
-    line::end(out, at);
+fn print_title(title: &[u8], list: &[u8], wide: usize) {
+    line::new();
+    end_column(line::put(0, title), wide, list);
 }
 
-// The name and the text of node i, up to the last column.
-fn put_node(out: &mut [u8], n: Network, i: usize, letter: u8, number: usize, wide: usize) -> usize {
-    let at = put_name(out, letter, number);
-    let at = node::put_text(out, at, n, i);
-    line::column(out, at, wide)
-}
-
-// A list ends, without its last blank; an empty one says so.
-fn end_list(out: &mut [u8], begun: usize, at: usize) {
-    if begun < at {
-        line::end(out, at - 1);
-        return;
+// A blank after what the list has.
+fn put_gap(at: usize) -> usize {
+    if at == 0 {
+        return 0;
     }
-    let next = wire::put_text(out, at, b"none");
-    line::end(out, next);
+    line::pad(0, 1)
 }
 
-// A name in a list, where the mask has the variable v.
-fn put_item(out: &mut [u8], at: usize, mask: u64, v: usize, letter: u8, i: usize) -> usize {
-    if !node::has(mask, v) {
+// A name in a list, where the mask has the number i.
+fn put_item(at: usize, mask: u64, letter: u8, i: usize) -> usize {
+    if !node::has(mask, i) {
         return at;
     }
-    let next = line::put_name(out, at, letter, i);
-    wire::put(out, next, b' ')
+    line::put_name(put_gap(at), letter, i)
 }
 
-// The orchards that hang on the variable v.
-fn put_orchards(out: &mut [u8], at: usize, masks: [u64; 32], v: usize) -> usize {
-    let mut next = at;
-    let mut j = 0;
-    while j < 32 {
-        next = put_item(out, next, masks[j], v, b'y', j);
-        j += 1;
-    }
-    next
-}
-
-fn print_condition(n: Network, i: usize, masks: [u64; 32], wide: usize, out: &mut [u8]) {
-    let v = num::wrapping_add_usize(n.inputs, i);
-    let at = put_node(out, n, num::wrapping_add_usize(n.outputs, i), b'x', v, wide);
-    let next = put_orchards(out, at, masks, v);
-    end_list(out, at, next);
-}
-
-fn print_each_condition(n: Network, masks: [u64; 32], wide: usize, out: &mut [u8]) {
+// The names that the mask has.
+fn put_items(mask: u64, letter: u8) {
+    let mut at = 0;
     let mut i = 0;
-    while i < n.divisors {
-        print_condition(n, i, masks, wide, out);
+    while i < 64 {
+        at = put_item(at, mask, letter, i);
         i += 1;
     }
 }
 
-fn print_conditions(n: Network, masks: [u64; 32], wide: usize, out: &mut [u8]) {
-    if n.divisors == 0 {
+// The list ends its line; an empty one says so.
+fn print_list(mask: u64, letter: u8) {
+    if mask == 0 {
+        line::print(b"none");
+        return;
+    }
+    put_items(mask, letter);
+    line::new();
+}
+
+// The name and the text of node i, up to the last column.
+fn put_node(n: Network, i: usize, letter: u8, number: usize, wide: usize) {
+    let at = put_name(letter, number);
+    line::column(node::put_text(at, n, i), wide);
+}
+
+// ---- the conditions
+
+// The mask, with i where it is to be.
+fn with(mask: u64, i: usize, is_in: bool) -> u64 {
+    if !is_in {
+        return mask;
+    }
+    if i >= 64 {
+        return mask;
+    }
+    mask | (1u64 << i)
+}
+
+// The orchards that hang on the variable v.
+fn orchards(masks: [u64; 32], v: usize) -> u64 {
+    let mut mask: u64 = 0;
+    let mut j = 0;
+    while j < 32 {
+        mask = with(mask, j, node::has(masks[j], v));
+        j += 1;
+    }
+    mask
+}
+
+fn print_condition(n: Network, i: usize, masks: [u64; 32], wide: usize) {
+    let v = num::wrapping_add_usize(n.inputs, i);
+    put_node(n, num::wrapping_add_usize(n.outputs, i), b'x', v, wide);
+    print_list(orchards(masks, v), b'y');
+}
+
+fn print_each_condition(n: Network, masks: [u64; 32], wide: usize) {
+    let mut i = 0;
+    while i < n.divisors {
+        print_condition(n, i, masks, wide);
+        i += 1;
+    }
+}
+
+fn print_conditions(divisors: usize, wide: usize) {
+    if divisors == 0 {
         line::print(b"\nCONDITIONS\n  none is shared");
         return;
     }
-    print_title(b"CONDITIONS", b"the orchards that hang on it", wide, out);
-    print_each_condition(n, masks, wide, out);
+    print_title(b"CONDITIONS", b"the orchards that hang on it", wide);
 }
 
 // ---- the orchards
 
-// The conditions of the mask.
-fn put_conditions(out: &mut [u8], at: usize, mask: u64) -> usize {
-    let mut next = at;
-    let mut v = 0;
-    while v < 64 {
-        next = put_item(out, next, mask, v, b'x', v);
-        v += 1;
-    }
-    next
+fn print_orchard(n: Network, j: usize, mask: u64, wide: usize) {
+    put_node(n, j, b'y', j, wide);
+    print_list(mask, b'x');
 }
 
-fn print_orchard(n: Network, j: usize, mask: u64, wide: usize, out: &mut [u8]) {
-    let at = put_node(out, n, j, b'y', j, wide);
-    let next = put_conditions(out, at, mask);
-    end_list(out, at, next);
-}
-
-fn print_each_orchard(n: Network, masks: [u64; 32], wide: usize, out: &mut [u8]) {
+fn print_each_orchard(n: Network, masks: [u64; 32], wide: usize) {
     let mut j = 0;
     while j < n.outputs {
         if j >= 32 {
             return;
         }
-        print_orchard(n, j, masks[j], wide, out);
+        print_orchard(n, j, masks[j], wide);
         j += 1;
     }
 }
 
-fn print_orchards(n: Network, masks: [u64; 32], wide: usize, out: &mut [u8]) {
+fn print_orchards(wide: usize) {
     print_title(
         b"ORCHARDS",
         b"the conditions it hangs on, directly and through others",
         wide,
-        out,
     );
-    print_each_orchard(n, masks, wide, out);
 }
 
 // ---- the whole
@@ -255,14 +260,19 @@ fn list_column(n: Network) -> usize {
     TEXT + node::widest(n) + 3
 }
 
-// The map of the network; the text of its table, or nothing for an image, may name the inputs.
-pub fn map(n: Network, text: &[u8]) {
-    let mut out = [0u8; LINE];
+fn print_lists(n: Network) {
     let wide = list_column(n);
     let masks = node::masks(n);
-    print_heading(n, &mut out);
-    print_numbering(n, text);
-    print_inputs(text, n.inputs, &mut out);
-    print_conditions(n, masks, wide, &mut out);
-    print_orchards(n, masks, wide, &mut out);
+    print_conditions(n.divisors, wide);
+    print_each_condition(n, masks, wide);
+    print_orchards(wide);
+    print_each_orchard(n, masks, wide);
+}
+
+// The map of the network; the text of its table, or nothing for an image, may name the inputs.
+pub fn map(n: Network, text: &[u8]) {
+    print_heading(n);
+    print_numbering(n.divisors, text.len());
+    print_inputs(text, n.inputs);
+    print_lists(n);
 }

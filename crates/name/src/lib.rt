@@ -23,19 +23,19 @@ fn after_number(line: &[u8], i: usize) -> &[u8] {
 
 // The name of input i in the line; nothing where it gives none.
 fn named(line: &[u8], i: usize) -> &[u8] {
-    let hash = after(text::trim_front(line), b'#');
-    let letter = after(text::trim_front(hash), b'x');
+    let hash = after(lines::trim_front(line), b'#');
+    let letter = after(lines::trim_front(hash), b'x');
     let number = after_number(letter, i);
-    let name = text::trim_front(number);
+    let name = lines::trim_front(number);
     if name.len() == number.len() {
         return &name[0..0];
     }
-    text::trim_end(name)
+    lines::trim_end(name)
 }
 
 // Whether the line begins as a cube line does.
 fn is_cube(line: &[u8]) -> bool {
-    let content = text::trim_front(line);
+    let content = lines::trim_front(line);
     if content.len() == 0 {
         return false;
     }
@@ -78,7 +78,14 @@ fn put_plain(out: &mut [u8], at: usize, s: &[u8]) -> usize {
     next
 }
 
-// The name of input i, where the text of the table gives one.
-pub fn put_name(out: &mut [u8], at: usize, table: &[u8], i: usize) -> usize {
-    put_plain(out, at, find(table, i))
+// Whether the text of the table names input i.
+pub fn is_named(table: &[u8], i: usize) -> bool {
+    find(table, i).len() > 0
+}
+
+// The name of input i ends its line.
+pub fn print(table: &[u8], i: usize) {
+    let mut out = [0u8; 256];
+    let n = put_plain(&mut out, 0, find(table, i));
+    line::end(&mut out, n);
 }

@@ -1,13 +1,20 @@
 // Networks in requests and answers: `n m k ; counts ; words`. As in wire, safety and an end are all that is promised here.
-ghost use Prim.Native.Nat.{_≤_};
 use network::Network;
 use network::Number;
-use wire::Groups;
+use wire::Told;
+ghost use Prim.Native.Nat.{_≤_};
 
-// A network as it was given, if it was. Slots that are not given are 0.
-pub struct Given {
-    pub ok: bool,
-    pub network: Network,
+// ---- requests
+
+// Whether a text begins with the three groups of a network.
+pub fn is_net(text: &[u8]) -> bool {
+    let after = request::tail(text);
+    let sizes = request::head(text);
+    if request::fits(sizes, 2) || !request::fits(sizes, 3) {
+        return false;
+    }
+    request::fits(request::head(after), network::NODES)
+        && request::fits(request::head(request::tail(after)), network::WORDS)
 }
 
 fn narrow(pool: [u64; network::NODES]) -> [usize; network::NODES] {
@@ -20,91 +27,118 @@ fn narrow(pool: [u64; network::NODES]) -> [usize; network::NODES] {
     counts
 }
 
-// The network of groups 1 to 3.
-pub fn read_net(line: &[u8], g: Groups) -> Given {
-    let mut sizes = [0u64; 3];
+fn sizes(text: &[u8]) -> [u64; 3] {
+    let mut pool = [0u64; 3];
+    request::numbers(text, &mut pool);
+    pool
+}
+
+fn counts(text: &[u8]) -> [usize; network::NODES] {
     let mut pool = [0u64; network::NODES];
-    let mut words = [0u64; network::WORDS];
-    let s = wire::numbers(wire::group(line, g, 1), &mut sizes);
-    let c = wire::numbers(wire::group(line, g, 2), &mut pool);
-    let w = wire::numbers(wire::group(line, g, 3), &mut words);
-    let counts = narrow(pool);
-    Given {
-        ok: s.count == 3 && c.ok && w.ok,
-        network: Network {
-            inputs: sizes[0] as usize,
-            outputs: sizes[1] as usize,
-            divisors: sizes[2] as usize,
-            counts,
-            words,
-        },
+    request::numbers(text, &mut pool);
+    narrow(pool)
+}
+
+fn words(text: &[u8]) -> [u64; network::WORDS] {
+    let mut pool = [0u64; network::WORDS];
+    request::numbers(text, &mut pool);
+    pool
+}
+
+// The network of the first three groups. Slots that are not given are 0.
+pub fn read_net(text: &[u8]) -> Network {
+    let after = request::tail(text);
+    let sizes = sizes(request::head(text));
+    let counts = counts(request::head(after));
+    let words = words(request::head(request::tail(after)));
+    Network {
+        inputs: sizes[0] as usize,
+        outputs: sizes[1] as usize,
+        divisors: sizes[2] as usize,
+        counts,
+        words,
     }
 }
 
 // ---- answers
 
-// Where the answer goes on after the counts, and the cubes that they name.
-struct Counted {
-    at: usize,
+// So many nodes with so many cubes.
+struct Kept {
+    nodes: usize,
     cubes: usize,
 }
 
-// The counts of the nodes in use, 32 outputs and 63 divisors at most.
-fn put_counts(out: &mut [u8], n: usize, counts: [usize; network::NODES], used: usize) -> Counted
+// The nodes in use, 32 outputs and 63 divisors at most, up to the first whose cubes would be too many.
+fn in_use(counts: [usize; network::NODES], used: usize) -> Kept
     requires { ⌜ used ≤ 96 ⌝ }
 {
-    let mut at = n;
     let mut cubes = 0;
     let mut i = 0;
     while i < used {
         if counts[i] > network::CUBES - cubes {
-            return Counted { at, cubes };
+            return Kept { nodes: i, cubes };
         }
-        at = wire::put_number(out, at, counts[i] as u64);
         cubes += counts[i];
         i += 1;
     }
-    Counted { at, cubes }
+    Kept { nodes: i, cubes }
 }
 
-fn put_sizes(out: &mut [u8], n: usize, inputs: u64, outputs: u64, divisors: u64) -> usize {
-    let at = wire::put_part(out, n);
-    let at = wire::put_number(out, at, inputs);
-    let at = wire::put_number(out, at, outputs);
-    let at = wire::put_number(out, at, divisors);
-    wire::put_part(out, at)
+fn widen(counts: [usize; network::NODES]) -> [u64; network::NODES] {
+    let mut pool = [0u64; network::NODES];
+    let mut i = 0;
+    while i < network::NODES {
+        pool[i] = counts[i] as u64;
+        i += 1;
+    }
+    pool
+}
+
+// The first n numbers; all where there are fewer.
+fn front(s: &[u64], n: usize) -> &[u64] {
+    if n <= s.len() {
+        return &s[0..n];
+    }
+    s
+}
+
+fn put_counts(out: &mut [u8], n: usize, counts: [usize; network::NODES], nodes: usize) -> usize {
+    let pool = widen(counts);
+    wire::put_group(out, n, front(&pool, nodes))
+}
+
+fn put_words(out: &mut [u8], n: usize, words: [u64; network::WORDS], cubes: usize) -> usize {
+    wire::put_group(out, n, expression::part(&words, 0, cubes))
+}
+
+fn put_sizes(out: &mut [u8], n: usize, inputs: usize, outputs: usize, divisors: usize) -> usize {
+    let sizes = [inputs as u64, outputs as u64, divisors as u64];
+    wire::put_group(out, n, &sizes)
 }
 
 // The three groups of a network handed back.
 pub fn put_network(out: &mut [u8], n: usize, network: Network) -> usize {
-    let words = network.words;
     let counts = network.counts;
-    let at = put_sizes(
-        out,
-        n,
-        network.inputs as u64,
-        network.outputs as u64,
-        network.divisors as u64,
-    );
-    let c = put_counts(
-        out,
-        at,
-        counts,
-        network.outputs % 33 + network.divisors % 64,
-    );
-    let at = wire::put_part(out, c.at);
-    wire::put_numbers(out, at, expression::part(&words, 0, c.cubes))
+    let words = network.words;
+    let k = in_use(counts, network.outputs % 33 + network.divisors % 64);
+    let at = put_sizes(out, n, network.inputs, network.outputs, network.divisors);
+    let at = put_counts(out, at, counts, k.nodes);
+    put_words(out, at, words, k.cubes)
 }
 
-// `ok` and the network.
-pub fn put_handed(out: &mut [u8], network: Network) -> usize {
+// `ok` and the network, or what it was refused for.
+pub fn put_handed(out: &mut [u8], t: Told, network: Network) -> usize {
+    if !t.ok {
+        return wire::put_told(out, t);
+    }
     let at = wire::put_text(out, 0, b"ok");
     put_network(out, at, network)
 }
 
-pub fn put_answer(out: &mut [u8], x: Number) -> usize {
+// What a number is told as.
+pub fn told(x: Number) -> Told {
     match x {
-        Number::Is(v) => wire::put_ok(out, v),
-        Number::No(k) => wire::put_refused(out, k, 0),
+        Number::Is(v) => wire::found(v),
+        Number::No(k) => wire::refused(k, 0),
     }
 }

@@ -20,7 +20,9 @@ use Rattle.network.specs.Net.{Net, cubesAt, nodes, variables, cubeCount,
 use Rattle.network.specs.Listing.{listing}
 use Rattle.network.specs.Evaluation.{settle, answers, evaluate}
 use Rattle.network.specs.Meaning.{Consistent, Distinct, Sound}
-use Rattle.network.specs.Held.{cut, numbered, used, netOf, sized, upTo, reach, lawful, rules, mostInputs, mostOutputs, mostVariables, mostCubes, mostLiterals}
+use Rattle.network.specs.Held.{numbered, used, netOf, sized, upTo, reach, lawful, rules, mostInputs, mostOutputs, mostVariables, mostCubes, mostLiterals}
+use Rattle.nodes.specs.Nodes.{cut}
+use Rattle.nodes.proofs.Cutting.{cut-length, cut-total, cut-lengths}
 use Rattle.network.specs.Rules.{Alike, Follows}
 use Rattle.network.specs.Answers.{judged, counted, evaluated}
 use Rattle.network.specs.declared.Network.{Network}
@@ -32,41 +34,11 @@ use Rattle.network.proofs.Evaluating.{unique, evaluate-settled, evaluat
 
 -- ---- cutting
 
-pub cut-length : (ns : List ℕ) (f : List (List ℕ)) → length (cut ns f) ≡ length ns
-unfolding cut
-cut-length [] f = refl
-cut-length (n ∷ ns) f = ap suc (cut-length ns (drop n f))
-
--- node i has the cubes after those of the nodes before it
-pub cut-node : (ns : List ℕ) (f : List (List ℕ)) (i : ℕ) → getD (cut ns f) i [] ≡ take (getD ns i 0) (drop (total (λ c. c) (take i ns)) f)
-unfolding cut
-cut-node [] f i = refl
-cut-node (n ∷ ns) f zero = refl
-cut-node (n ∷ ns) f (suc i) = cut-node ns (drop n f) i ∙ ap (take (getD ns i 0)) (drop-drop (total (λ c. c) (take i ns)) n f)
-
-pub cut-node-length : (ns : List ℕ) (f : List (List ℕ)) (i : ℕ) → total (λ c. c) ns ≤ length f → length (getD (cut ns f) i []) ≡ getD ns i 0
-unfolding cut
-cut-node-length [] f i h = refl
-cut-node-length (n ∷ ns) f zero h = length-take-le n f (omega arith)
-cut-node-length (n ∷ ns) f (suc i) h = cut-node-length ns (drop n f) i (rw length-drop (omega arith))
-
--- a sum over all cubes is that over those in use
-pub cut-total : (g : List ℕ → ℕ) (ns : List ℕ) (f : List (List ℕ)) → total (total g) (cut ns f) ≡ total g (take (total (λ c. c) ns) f)
-unfolding cut
-cut-total g [] f = refl
-cut-total g (n ∷ ns) f = rw (take-add n (total (λ c. c) ns) f, total-append g (take n f) (take (total (λ c. c) ns) (drop n f))) (ap (total g (take n f) +_) (cut-total g ns (drop n f)))
-
--- and so is a test
+-- a test of all cubes is that of those in use
 pub cut-all : (p : List ℕ → Bool) (ns : List ℕ) (f : List (List ℕ)) → all (all p) (cut ns f) ≡ all p (take (total (λ c. c) ns) f)
 unfolding cut
 cut-all p [] f = refl
 cut-all p (n ∷ ns) f = rw (take-add n (total (λ c. c) ns) f, all-append p (take n f) (take (total (λ c. c) ns) (drop n f))) (ap (all p (take n f) &&_) (cut-all p ns (drop n f)))
-
--- as many cubes as the counts say
-pub cut-lengths : (ns : List ℕ) (f : List (List ℕ)) → total (λ c. c) ns ≤ length f → total length (cut ns f) ≡ total (λ c. c) ns
-unfolding cut
-cut-lengths [] f h = refl
-cut-lengths (n ∷ ns) f h = omega (arith, length-take-le n f (omega arith), cut-lengths ns (drop n f) (rw length-drop (omega arith)))
 
 -- ---- the slots in use
 

@@ -6,8 +6,4 @@ pub mod Holding
 pub mod Handing
 pub mod Ruling
 pub mod Parts
-pub mod Knowing
 pub mod Limits
-pub mod Turns
-pub mod Settling
-pub mod Answering

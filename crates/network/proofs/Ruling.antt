@@ -1,7 +1,7 @@
--- A struct by the rules means a lawful network, and one that holds a lawful network is by the rules. Assumes nothing.
+-- A struct by the rules means a lawful network, one that holds a lawful network is by the rules, and the judgement says which. Assumes nothing.
 use Prim.Native.Nat.{ℕ, _-_}
-use mathlib.Core.Path.{_≡_, sym, ap, subst}
-use mathlib.Core.Bool.{true}
+use mathlib.Core.Path.{_≡_, refl, sym, ap, subst}
+use mathlib.Core.Bool.{Bool, true, false, cond}
 use mathlib.Core.List.{map}
 use native.Mathlib.Omega.{arith}
 use lib.ListN.{length, drop, replicate, length-append, length-map, length-replicate}
@@ -11,10 +11,13 @@ use Rattle.expression.specs.Words.{cubesOf}
 use Rattle.expression.proofs.Words.{cubes-length}
 use Rattle.network.specs.Net.{Node, Net, nodes, literalCount}
 use Rattle.network.specs.Meaning.{Through}
-use Rattle.network.specs.Held.{cut, numbered, used, netOf, rules}
+use Rattle.network.specs.Held.{numbered, used, netOf, rules}
+use Rattle.nodes.specs.Nodes.{cut}
 use Rattle.network.specs.Rules.{Lawful}
 use Rattle.network.specs.Handed.{Holds, nodeSlots}
+use Rattle.network.specs.Answers.{judged}
 use Rattle.network.specs.declared.Network.{Network}
+use Rattle.network.specs.declared.Judged.the-variants.{Accepted, Refused}
 use Rattle.network.proofs.Numbering.{numbered-cubes}
 use Rattle.network.proofs.Holding.{cubes-held, rules-outputs, rules-divisors, rules-iff}
 use Rattle.network.proofs.Handing.{used-held, holds-net}
@@ -62,3 +65,25 @@ module _ (p : Network) (m : Net) (h : Holds p m) (w : Lawful m) where
     known = λ f k v r. omega (arith, h .inputs, h .divisors, w .known f (subst (λ (z : Net). f ∈ nodes z) held k) v r);
     acyclic = λ v t. w .acyclic v (subst (λ (z : Net). Through z v v) held t);
   })
+
+-- ---- what is judged
+
+pub accepted-rules : (n : Network) → judged n ≡ Accepted → rules n ≡ true
+unfolding judged
+accepted-rules n h = go (rules n) refl h
+  where
+    go : (b : Bool) → rules n ≡ b → cond b Accepted (Refused 10) ≡ Accepted → rules n ≡ true
+    go true e t = e
+    go false e t = let z : _≡_ {A = ℕ} 0 1 = cc in absurd (omega arith)
+
+pub refused-rules : (n : Network) (x : ℕ) → judged n ≡ Refused x → rules n ≡ false
+unfolding judged
+refused-rules n x h = go (rules n) refl h
+  where
+    go : (b : Bool) → rules n ≡ b → cond b Accepted (Refused 10) ≡ Refused x → rules n ≡ false
+    go true e t = let z : _≡_ {A = ℕ} 0 1 = cc in absurd (omega arith)
+    go false e t = e
+
+pub rules-refused : (n : Network) → rules n ≡ false → judged n ≡ Refused 10
+unfolding judged
+rules-refused n h = rw h

@@ -7,14 +7,10 @@ use lib.ListN.{length, take, drop}
 use Rattle.sets.specs.Lists.{all, total}
 use Rattle.expression.specs.Words.{cubesOf}
 use Rattle.expression.specs.Expression.{expression}
+use Rattle.nodes.specs.Nodes.{cut}
 use Rattle.network.specs.Net.{Node, Net, nodes, variables, literalCount}
 use Rattle.network.specs.Listing.{listing}
 use Rattle.network.specs.declared.Network.{Network}
-
--- the cubes, cut into as many at a time as the counts say
-unfoldable pub cut : List ℕ → List (List ℕ) → List (List (List ℕ))
-cut [] f = []
-cut (n ∷ ns) f = take n f ∷ cut ns (drop n f)
 
 -- divisors, numbered from v on
 unfoldable pub numbered : ℕ → List (List (List ℕ)) → List Node

@@ -12,43 +12,39 @@ ghost use Rattle.sets.specs.Masks.{bit};
 ghost use Rattle.expression.specs.Words.{cubesOf};
 ghost use Rattle.expression.specs.Expression.{literalsOf};
 ghost use Rattle.expression.specs.Answers.{capped};
-ghost use Rattle.network.specs.Held.{cut};
+ghost use Rattle.nodes.specs.Nodes.{cut};
 ghost use Rattle.hangs.specs.Hangs.{hangsAt, Marks};
+
+// Room for a factored text.
+const ROOM: usize = 266240;
 
 // The longest text that widens a column.
 const COLUMN: usize = 40;
 
-// The place n further on, where that lies in the room.
-fn advance(out: &[u8], at: usize, n: usize) -> usize {
-    if n > out.len() {
-        return at;
-    }
-    if at > out.len() - n {
-        return at;
-    }
-    at + n
-}
-
-// The factored text of f; the number of its cubes where they are too many for one.
-fn put_form(out: &mut [u8], at: usize, f: &[u64]) -> usize {
-    if at > out.len() {
-        return at;
-    }
-    let a = factor::factored(f, &mut out[at..]);
+// The factored text of f, by way of the room; the number of its cubes where they are too many for one.
+fn put_factored(at: usize, f: &[u64], room: &mut [u8]) -> usize {
+    let a = factor::factored(f, room);
     match a {
-        Wrote::Bytes(n) => advance(out, at, n),
-        Wrote::Refused(_) => {
-            let next = line::put_decimal(out, at, expression::number(f) as u64);
-            wire::put_text(out, next, b" cubes")
-        }
+        Wrote::Bytes(n) => line::put_front(at, room, n),
+        Wrote::Refused(_) => line::put_count(at, expression::number(f) as u64, b" cubes"),
     }
 }
 
-// The same for node i.
-pub fn put_text(out: &mut [u8], at: usize, n: Network, i: usize) -> usize {
+// So long an array is lent as one before it is lent as a slice: its length is then known by its type.
+fn put_by(at: usize, f: &[u64], room: &mut [u8; ROOM]) -> usize {
+    put_factored(at, f, room)
+}
+
+fn put_form(at: usize, f: &[u64]) -> usize {
+    let mut room = [0u8; ROOM];
+    put_by(at, f, &mut room)
+}
+
+// The text of node i to standard output; the column after it.
+pub fn put_text(at: usize, n: Network, i: usize) -> usize {
     let words = n.words;
     let counts = n.counts;
-    put_form(out, at, renumber::node(&words, &counts, i))
+    put_form(at, nodes::node(&words, &counts, i))
 }
 
 // The literals of node i.
@@ -57,7 +53,7 @@ pub fn literals(n: Network, i: usize) -> u64
 {
     let words = n.words;
     let counts = n.counts;
-    expression::literals(renumber::node(&words, &counts, i))
+    survey::literals(nodes::node(&words, &counts, i))
 }
 
 // The length of the factored text of f, or 0 where that is too long for a column.
@@ -82,7 +78,7 @@ fn widened(most: usize, n: Network, i: usize) -> usize
 {
     let words = n.words;
     let counts = n.counts;
-    let k = length_of(renumber::node(&words, &counts, i));
+    let k = length_of(nodes::node(&words, &counts, i));
     if most < k {
         return k;
     }

@@ -1,5 +1,5 @@
 -- The fields before the first node. Assumes nothing.
-use Prim.Native.Nat.{ℕ, suc, _+_, _^_, _<_}
+use Prim.Native.Nat.{ℕ, suc, _+_, _*_, _^_, _<_, _≤_}
 use mathlib.Core.Path.{_≡_, refl, sym, ap, subst, _∙_}
 use mathlib.Core.Bool.{Bool, true, false}
 use mathlib.Core.List.{List}
@@ -7,9 +7,11 @@ use mathlib.Core.Logic.{⊎-elim}
 use native.Mathlib.Omega.{arith}
 use native.Mathlib.Numerals.{add-one}
 use lib.Dec.{leb, eqb}
-use lib.ListN.{drop}
-use borrow.Author.Tests.{ne-eqb, eq-eqb, leb-true}
+use lib.ListN.{length, take, drop}
+use borrow.Author.Tests.{ne-eqb, eq-eqb, leb-true, leb-false}
 use Rattle.sets.proofs.Truth.{decided}
+use Rattle.fields.specs.Fields.{valueOf, bitsIn}
+use Rattle.fields.proofs.Bytes.{left-length}
 use Rattle.network.specs.Held.{mostVariables}
 use Rattle.imaging.specs.Reading.{Got, bad, Raw, andThen, getField, getNodes, getRaw}
 use Rattle.reader.specs.Parts.{FieldIs, sizesOf, HeadIs}
@@ -47,15 +49,12 @@ module _ (bits : List Bool) where
       unfolding getRaw
       edition-on = rw (field-got 4 (eqb 1) bits 0 e h (eq-eqb 1 e (sym one)))
 
-      pub inputs-cut : FieldIs 5 (drop 4 bits) Cut → getRaw bits ≡ bad 11
+      inputs-cut : FieldIs 5 (drop 4 bits) Cut → getRaw bits ≡ bad 11
       inputs-cut q = edition-on ∙ rw (field-cut 5 (λ x. true) (drop 4 bits) q) refl
 
       module _ (a : ℕ) (ha : FieldIs 5 (drop 4 bits) (Is a)) where
         inputs-on : getRaw bits ≡ afterInputs a (drop 9 bits)
         inputs-on = edition-on ∙ rw (field-got 5 (λ x. true) bits 4 a ha refl) refl
-
-        pub outputs-cut : FieldIs 5 (drop 9 bits) Cut → getRaw bits ≡ bad 11
-        outputs-cut q = inputs-on ∙ rw (field-cut 5 (λ x. true) (drop 9 bits) q) refl
 
         module _ (b : ℕ) (hb : FieldIs 5 (drop 9 bits) (Is b)) where
           outputs-on : getRaw bits ≡ afterOutputs a b (drop 14 bits)
@@ -64,7 +63,7 @@ module _ (bits : List Bool) where
           abbrev test : ℕ → Bool
           test k = leb (suc a + k) mostVariables
 
-          pub divisors-cut : FieldIs 6 (drop 14 bits) Cut → getRaw bits ≡ bad 11
+          divisors-cut : FieldIs 6 (drop 14 bits) Cut → getRaw bits ≡ bad 11
           divisors-cut q = outputs-on ∙ rw (field-cut 6 test (drop 14 bits) q) refl
 
           module _ (k : ℕ) (hk : FieldIs 6 (drop 14 bits) (Is k)) where
@@ -89,3 +88,24 @@ module _ (bits : List Bool) where
 
                 many : leb (a + 1 + k) mostVariables ≡ false → HeadIs bits (sizesOf a b k)
                 many q = rw q (sizes-off (sym same ∙ q))
+
+-- ---- fields of bytes
+
+module _ (bytes : List ℕ) (at w v : ℕ) where
+  pub field-is : at + w ≤ 8 * length bytes → v ≡ valueOf (take w (drop at (bitsIn bytes))) → FieldIs w (drop at (bitsIn bytes)) (Is v)
+  field-is h e = (omega (arith, left-length bytes at), e)
+
+  pub field-short : 8 * length bytes < at + w → 1 ≤ w → FieldIs w (drop at (bitsIn bytes)) Cut
+  field-short h k = let short : length (drop at (bitsIn bytes)) < w = omega (arith, left-length bytes at) in short
+
+-- the edition is there, and not all that follows it before the nodes
+pub front-cut : (bytes : List ℕ) (e : ℕ) → FieldIs 4 (bitsIn bytes) (Is e) → e ≡ 1 → 1 ≤ length bytes → length bytes < 3 → getRaw (bitsIn bytes) ≡ bad 11
+front-cut bytes e h one some few = ⊎-elim two less (decided (leb 2 (length bytes)))
+  where
+    two : leb 2 (length bytes) ≡ true → getRaw (bitsIn bytes) ≡ bad 11
+    two t =
+        let l = leb-true 2 (length bytes) t in
+        divisors-cut (bitsIn bytes) e h one _ (field-is bytes 4 5 _ (omega (arith, l)) refl) _ (field-is bytes 9 5 _ (omega (arith, l)) refl) (field-short bytes 14 6 0 (omega arith) (omega arith))
+
+    less : leb 2 (length bytes) ≡ false → getRaw (bitsIn bytes) ≡ bad 11
+    less f = inputs-cut (bitsIn bytes) e h one (field-short bytes 4 5 0 (omega (arith, leb-false 2 (length bytes) f)) (omega arith))

@@ -14,7 +14,8 @@ use Rattle.expression.specs.Words.{cubesOf}
 use Rattle.expression.specs.Expression.{literalsOf}
 use Rattle.expression.proofs.Words.{zeros}
 use Rattle.network.specs.Handed.{flat}
-use Rattle.network.specs.Held.{cut, mostCubes}
+use Rattle.network.specs.Held.{mostCubes}
+use Rattle.nodes.specs.Nodes.{cut}
 use Rattle.network.proofs.Handing.{cut-flat, flat-length, flat-append}
 use Rattle.reader.specs.Parts.{setOf, Added, blankWords, blankCounts}
 use Rattle.reader.specs.declared.State.{State}

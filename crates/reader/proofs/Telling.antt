@@ -220,12 +220,12 @@ module _ {bits : List Bool} {z : Sizes} {d : ℕ} {t : State} {apart words count
       few : summed raw ≡ true → sums .cubes ≤ mostCubes
       few q = leb-true (sums .cubes) mostCubes (both (leb (sums .cubes) mostCubes) (leb (sums .literals) mostLiterals) (summed-are ∙ q) .0)
 
-  pub whole-refused : (k : ℕ) (r : Image) → judgedOf bits sums z apart words counts ≡ Refused k → (r .answer ≡ Refused k) × Blank (r .network) → Told (judgeRaw (nodesAt bits z)) r
-  whole-refused k r e h = told-refused (judgeRaw (nodesAt bits z)) k r (outcome-is ∙ answer-refused outcome k (sym judged-is ∙ e)) h
+  pub whole-refused : (a : Answer) (k : ℕ) (r : Image) → a ≡ judgedOf bits sums z apart words counts → a ≡ Refused k → (r .answer ≡ Refused k) × Blank (r .network) → Told (judgeRaw (nodesAt bits z)) r
+  whole-refused a k r j e h = told-refused (judgeRaw (nodesAt bits z)) k r (outcome-is ∙ answer-refused outcome k (sym judged-is ∙ sym j ∙ e)) h
 
-  module _ (yes : judgedOf bits sums z apart words counts ≡ Accepted) where
+  module _ (a : Answer) (judged : a ≡ judgedOf bits sums z apart words counts) (yes : a ≡ Accepted) where
     passed : (summed raw ≡ true) × (oneOrder raw ≡ true) × (outcome ≡ accepted (rawNet raw))
-    passed = picked-yes (padding (drop (t .at) bits)) (summed raw) (oneOrder raw) (rawNet raw) (sym judged-is ∙ yes)
+    passed = picked-yes (padding (drop (t .at) bits)) (summed raw) (oneOrder raw) (rawNet raw) (sym judged-is ∙ sym judged ∙ yes)
 
     pub whole-few : d + t .cubes ≤ mostCubes
     whole-few = leb-true (sums .cubes) mostCubes (both (leb (sums .cubes) mostCubes) (leb (sums .literals) mostLiterals) (summed-are ∙ passed .0) .0)
@@ -254,12 +254,11 @@ module _ {bits : List Bool} {z : Sizes} {d : ℕ} {t : State} {apart words count
           ∙ ap₂ (λ l m. l ++ replicate (96 - m) 0) (sym (map-append length os ds)) n
           ∙ ap (λ l. map length l ++ replicate (96 - length l) 0) (sym nodes-are)
 
-      pub whole-told : (a : Answer) → a ≡ Accepted
-          → Told (judgeRaw (nodesAt bits z)) (record { answer = a; network = record { inputs = z .inputs; outputs = z .outputs; divisors = z .divisors; counts = counts; words = new } })
-      whole-told a e =
+      pub whole-told : Told (judgeRaw (nodesAt bits z)) (record { answer = a; network = record { inputs = z .inputs; outputs = z .outputs; divisors = z .divisors; counts = counts; words = new } })
+      whole-told =
           subst (λ (o : Outcome). Told o (record { answer = a; network = record { inputs = z .inputs; outputs = z .outputs; divisors = z .divisors; counts = counts; words = new } }))
           (sym (outcome-is ∙ passed .2)) (
-            e,
+            yes,
             record {
               inputs = refl;
               outputs = sym (w .outputs .number);

@@ -17,7 +17,8 @@ use Rattle.sets.proofs.Lists.{all-in, all-out, all-cong}
 use Rattle.sets.proofs.Ordering.{before-trans}
 use Rattle.sets.proofs.Places.{drop-next}
 use Rattle.expression.specs.Expression.{isCube, loose, ordered}
-use Rattle.network.specs.Held.{cut, reach}
+use Rattle.network.specs.Held.{reach}
+use Rattle.nodes.specs.Nodes.{cut}
 use Rattle.network.specs.Handed.{flat}
 use Rattle.network.proofs.Places.{all-append}
 use Rattle.imaging.specs.Reading.{inTheOrder, readsEarlier}

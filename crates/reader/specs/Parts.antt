@@ -13,7 +13,8 @@ use Rattle.fields.specs.Fields.{valueOf}
 use Rattle.expression.specs.Words.{cubesOf}
 use Rattle.expression.specs.Expression.{expression, ordered}
 use Rattle.network.specs.Handed.{flat}
-use Rattle.network.specs.Held.{cut, mostVariables, mostCubes, mostLiterals}
+use Rattle.network.specs.Held.{mostVariables, mostCubes, mostLiterals}
+use Rattle.nodes.specs.Nodes.{cut}
 use Rattle.imaging.specs.Reading.{Got, got, bad, Raw, getMany, getNode, getNodes, getRaw, padding, readsEarlier}
 use Rattle.reader.specs.declared.Answer.{Answer}
 use Rattle.reader.specs.declared.Answer.the-variants.{Accepted, Refused}

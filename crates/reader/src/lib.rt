@@ -20,7 +20,8 @@ ghost use Rattle.fields.specs.Fields.{valueOf, bitsIn};
 ghost use Rattle.expression.specs.Words.{cubesOf};
 ghost use Rattle.expression.specs.Expression.{ordered};
 ghost use Rattle.network.specs.Handed.{Blank};
-ghost use Rattle.network.specs.Held.{cut, reach};
+ghost use Rattle.network.specs.Held.{reach};
+ghost use Rattle.nodes.specs.Nodes.{cut};
 ghost use Rattle.imaging.specs.Reading.{getLiterals, getCube, getMany, getNode, padding, readsEarlier, judgeRaw, readImage};
 ghost use Rattle.reader.specs.Parts.{billions, FieldIs, CubeIs, added, Low, CubesAre, NodesAre, SizesFit, nodesAt, sizesOf, HeadIs, tidy, nodesIn, orderedIn, Counted, Judging, judgedOf, Copied, Half, Whole};
 ghost use Rattle.reader.specs.Answers.{Told};
@@ -296,30 +297,24 @@ fn sizes_of(a: usize, b: usize, k: usize) -> Head
     })
 }
 
-// The fields before the first node.
+// The fields before the first node: 4 bits and then 16, of which none is refused before the last is read.
 fn front(bytes: &[u8]) -> Head
     ensures { λ r. ⌜ HeadIs (bitsIn (now (bytes .entry))) r ⌝ }
 {
-    let e = field_at(bytes, 0, 4);
-    let Field::Is(edition) = e else {
+    if bytes.len() < 1 {
         return Head::Bad(11);
-    };
-    if edition != 1 {
+    }
+    if value_at(bytes, 0, 4) != 1 {
         return Head::Bad(12);
     }
-    let a = field_at(bytes, 4, 5);
-    let Field::Is(inputs) = a else {
+    if bytes.len() < 3 {
         return Head::Bad(11);
-    };
-    let b = field_at(bytes, 9, 5);
-    let Field::Is(outputs) = b else {
-        return Head::Bad(11);
-    };
-    let c = field_at(bytes, 14, 6);
-    let Field::Is(divisors) = c else {
-        return Head::Bad(11);
-    };
-    sizes_of(inputs, outputs, divisors)
+    }
+    sizes_of(
+        value_at(bytes, 4, 5),
+        value_at(bytes, 9, 5),
+        value_at(bytes, 14, 6),
+    )
 }
 
 // Whether only zero bits are left, fewer than a byte.

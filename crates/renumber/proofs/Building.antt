@@ -8,11 +8,11 @@ use lib.ListN.{length, take, drop, set, getD, replicate, length-map, length-repl
 use lib.Seq.{length-take-le, take-suc, take-all, set-at, take-at, drop-at}
 use Rattle.sets.specs.Lists.{total}
 use Rattle.expression.specs.Words.{cubesOf, Placed}
-use Rattle.expression.proofs.Counting.{total-next}
+use Rattle.sets.proofs.Places.{total-next}
 use Rattle.expression.proofs.Words.{cubes-length, zeros}
 use Rattle.network.specs.Handed.{flat}
 use Rattle.network.proofs.Handing.{flat-length, flat-last}
-use Rattle.renumber.proofs.Summing.{front-le}
+use Rattle.nodes.proofs.Starting.{front-le}
 
 -- the first j of the nodes stand
 pub record Built (fs : List (List (List ℕ))) (counts ws : List ℕ) (a j : ℕ) : Type 0 where

@@ -20,18 +20,21 @@ use Rattle.expression.proofs.Sorting.{sort-length}
 use Rattle.expression.proofs.Words.{cubes-length}
 use Rattle.network.specs.Net.{Node, Net, nodes, variables, cubesAt, cubeCount}
 use Rattle.network.specs.Listing.{listing}
-use Rattle.network.specs.Held.{cut, reach}
+use Rattle.network.specs.Held.{reach}
+use Rattle.nodes.specs.Nodes.{cut}
 use Rattle.network.specs.Handed.{flat, Holds}
 use Rattle.network.specs.Meaning.{Distinct, differ}
 use Rattle.network.specs.Rules.{Follows}
-use Rattle.network.specs.Parts.{heldIn, netAt, divisorsOf, Sized, Ordered}
+use Rattle.network.specs.Parts.{heldIn, netAt, divisorsOf, Sized}
+use Rattle.listing.specs.Parts.{Ordered}
 use Rattle.network.proofs.Places.{differ-in, differ-out}
 use Rattle.network.proofs.Numbering.{numbered-length, numbered-cubes, numbered-in, numbered-distinct, cubes-at, reach-in}
 use Rattle.network.proofs.Listings.{listing-once, listing-number, listing-in}
-use Rattle.network.proofs.Holding.{cut-node-length, nodes-held, output-held, divisor-held, cubes-held, rules-sound, rules-outputs, rules-divisors, rules-iff}
+use Rattle.network.proofs.Holding.{nodes-held, output-held, divisor-held, cubes-held, rules-sound, rules-outputs, rules-divisors, rules-iff}
+use Rattle.nodes.proofs.Cutting.{cut-node-length}
 use Rattle.network.proofs.Parts.{nodes-at, nodes-length}
 use Rattle.network.proofs.Limits.{rules-sized}
-use Rattle.network.proofs.Answering.{ordered-listing}
+use Rattle.listing.proofs.Answering.{ordered-listing}
 use Rattle.imaging.specs.Renumber.{indexOf, newNumber, newLiteral, newCube, newNode, renumbered}
 use Rattle.renumber.specs.Parts.{Numbers, Placing, Sourced, Numberable, cubeBy, nodeBy, sourceOf}
 
@@ -161,7 +164,7 @@ module _ {n m k : ℕ} {words counts order : List ℕ} (b : Numberable n m k wor
 
   known-at : (j : ℕ) → j < m + k → reach (n + k) (getD old j []) ≡ true
   known-at j h =
-      let e = nodes-length counts words (m + k) (sized .lent .counted) in
+      let e = nodes-length counts words (m + k) (sized .counted) in
       let q : all (reach (n + k)) (cut (take (m + k) counts) (cubesOf words)) ≡ true = subst (λ (fs : List (List (List ℕ))). all (reach (n + k)) fs ≡ true) (nodes-held (heldIn n m k counts words)) (reach-in (n + k) (nodes net) (follows .known)) in
       subst (λ (f : List (List ℕ)). reach (n + k) f ≡ true) (old-at j h) (all-out (reach (n + k)) (at-in (cut (take (m + k) counts) (cubesOf words)) j [] (omega (arith, e))) q)
 

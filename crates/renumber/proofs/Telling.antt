@@ -1,59 +1,32 @@
 -- What renumbering answers: 10 where a rule is broken; no two answers differ. Assumes nothing.
 use Prim.Native.Nat.{ℕ}
-use mathlib.Core.Path.{_≡_, refl, sym, ap, _∙_, subst}
-use mathlib.Core.Bool.{Bool, true, false, cond}
-use native.Mathlib.Omega.{arith}
+use mathlib.Core.Path.{_≡_, sym, _∙_, subst}
+use mathlib.Core.Bool.{Bool, true, false}
 use lib.ListN.{length}
-use Rattle.sets.specs.Lists.{all}
-use Rattle.sets.proofs.Truth.{both, together}
-use Rattle.expression.specs.Expression.{expression}
 use Rattle.expression.proofs.Words.{fit}
-use Rattle.network.specs.Net.{nodes, variables}
 use Rattle.network.specs.Listing.{listing}
-use Rattle.network.specs.Held.{netOf, sized, reach, lawful, rules}
+use Rattle.network.specs.Held.{netOf, rules}
 use Rattle.network.specs.Handed.{Holds, Blank}
-use Rattle.network.specs.Answers.{judged, padded, listable, numbersOf, listedOf}
+use Rattle.network.specs.Answers.{judged, padded, listedOf}
 use Rattle.network.specs.declared.Network.{Network}
 use Rattle.network.specs.declared.Listed.{Listed}
-use Rattle.network.specs.declared.Judged.{Judged}
 use Rattle.network.specs.declared.Judged.the-variants.{Accepted, Refused}
 use Rattle.network.proofs.Handing.{holds-one, blank-one}
+use Rattle.network.proofs.Ruling.{refused-rules, rules-refused}
+use Rattle.listing.proofs.Answering.{listed-out, rules-listable}
 use Rattle.imaging.specs.Renumber.{renumbered}
 use Rattle.renumber.specs.Answers.{toldBy, Told}
 use Rattle.renumber.specs.declared.Renumbered.{Renumbered}
 
-module _ (n : Network) (a : Judged) (j : a ≡ judged n) where
-  refused-by : (b : Bool) (k : ℕ) → a ≡ cond b Accepted (Refused 10) → a ≡ Refused k → (b ≡ false) × (a ≡ Refused 10)
-  refused-by true k p q = let z : Accepted ≡ Refused k = sym p ∙ q in let y : _≡_ {A = ℕ} 0 1 = cc in absurd (omega arith)
-  refused-by false k p q = (refl, p)
-
-  accepted-by : (b : Bool) → a ≡ cond b Accepted (Refused 10) → a ≡ Accepted → b ≡ true
-  accepted-by true p q = refl
-  accepted-by false p q = let z : Refused 10 ≡ Accepted = sym p ∙ q in let y : _≡_ {A = ℕ} 0 1 = cc in absurd (omega arith)
-
+module _ (n : Network) where
   -- a refusal is handed on
-  pub told-refused : (k : ℕ) (r : Renumbered) → a ≡ Refused k → (r .answer ≡ a) × Blank (r .network) → Told n r
-  unfolding judged
-  told-refused k r q (e, z) = let w = refused-by (rules n) k j q in subst (λ b. toldBy b n r) (sym (w .0)) (e ∙ w .1, z)
+  pub told-refused : (k : ℕ) (r : Renumbered) → judged n ≡ Refused k → (r .answer ≡ judged n) × Blank (r .network) → Told n r
+  told-refused k r q (e, z) = let h = refused-rules n k q in subst (λ b. toldBy b n r) (sym h) (e ∙ rules-refused n h, z)
 
-  pub told-rules : a ≡ Accepted → rules n ≡ true
-  unfolding judged
-  told-rules q = accepted-by (rules n) j q
-
--- ---- by the rules the listing is handed out whole
-
+-- by the rules the listing is handed out whole
 module _ (n : Network) (h : rules n ≡ true) where
-  rules-listable : listable n ≡ true
-  unfolding rules lawful listable
-  rules-listable =
-      let a = both (sized n) (lawful (netOf n)) h in
-      let e = both (all expression (nodes (netOf n))) _ (a .1) in
-      let f = both (all (reach (variables (netOf n))) (nodes (netOf n))) _ (e .1) in
-      together (sized n) _ (a .0) (f .0)
-
   pub rules-order : (r : Listed) → r ≡ listedOf n → r .order ≡ padded (listing (netOf n))
-  unfolding listedOf numbersOf
-  rules-order r e = ap (λ (l : Listed). l .order) e ∙ rw rules-listable
+  rules-order r e = listed-out n r (rules-listable n h) e .places
 
   pub told-held : (r : Renumbered) → r .answer ≡ Accepted → Holds (r .network) (renumbered (netOf n)) → Told n r
   told-held r a k = subst (λ b. toldBy b n r) (sym h) (a, k)

@@ -6,13 +6,11 @@ use cube::Variable;
 use network::Judged;
 use network::Network;
 ghost use mathlib.Core.Path.{_≡_};
-ghost use mathlib.Core.List.{[], map};
-ghost use Prim.Native.Nat.{_+_, _<_, _≤_, min};
-ghost use lib.ListN.{length, getD, take};
-ghost use Rattle.sets.specs.Lists.{total};
+ghost use mathlib.Core.List.{map};
+ghost use Prim.Native.Nat.{_+_, _<_, _≤_};
+ghost use lib.ListN.{length};
 ghost use Rattle.cube.specs.Cube.{lits};
-ghost use Rattle.expression.specs.Words.{cubesOf, spareOf, Placed};
-ghost use Rattle.network.specs.Held.{cut};
+ghost use Rattle.expression.specs.Words.{cubesOf, Placed};
 ghost use Rattle.network.specs.Handed.{Holds, Blank};
 ghost use Rattle.network.specs.Parts.{netAt};
 ghost use Rattle.imaging.specs.Renumber.{renumbered};
@@ -111,37 +109,6 @@ fn put_node(f: &[u64], places: &[u32], out: &mut [u64], at: usize)
     sorting::sort_part(out, at, at + expression::number(f));
 }
 
-// Where the cubes of node i begin: after those of the nodes before it, or at the most where that is past it.
-fn start(counts: &[usize], i: usize, most: usize) -> usize
-    requires { ⌜ i ≤ length (now counts) ⌝ }
-    ensures { λ r. ⌜ r ≡ min (total (λ c. c) (take i (now (counts .entry)))) most ⌝ }
-{
-    let mut sum = 0;
-    let mut j = 0;
-    while j < i {
-        let n = counts[j];
-        if n > most - sum {
-            return most;
-        }
-        sum += n;
-        j += 1;
-    }
-    sum
-}
-
-// The cubes of node i, as many of them as there are.
-pub fn node<'a>(words: &'a [u64], counts: &[usize], i: usize) -> &'a [u64]
-    ensures { λ r. ⌜ (cubesOf (now r) ≡ getD (cut (now (counts .entry)) (cubesOf (now (words .entry)))) i []) × (spareOf (now r) ≡ []) ⌝ }
-{
-    if counts.len() <= i {
-        return expression::part(words, 0, 0);
-    }
-    let most = expression::number(words);
-    let a = start(counts, i, most);
-    let e = start(counts, i + 1, most);
-    expression::part(words, a, e)
-}
-
 // The node that comes to stand at place i: outputs as they are, then the divisors in their order.
 fn source(order: &[u32], n: usize, m: usize, i: usize) -> usize
     requires { ⌜ Sourced n m i (now order) ⌝ }
@@ -169,7 +136,7 @@ fn build(n: usize, m: usize, k: usize, words: &[u64], counts: &[usize], order: &
     while i < m + k {
         let j = source(order, n, m, i);
         let size = counts[j];
-        put_node(node(words, counts, j), &places, &mut out, at);
+        put_node(nodes::node(words, counts, j), &places, &mut out, at);
         sizes[i] = size;
         at += size;
         i += 1;
@@ -197,11 +164,11 @@ fn refused(answer: Judged) -> Renumbered
 pub fn renumber(n: Network) -> Renumbered
     ensures { λ r. ⌜ Told n r ⌝ }
 {
-    let answer = network::judge(n);
+    let answer = ruling::judge(n);
     let Judged::Accepted = answer else {
         return refused(answer);
     };
-    let l = network::listing(n);
+    let l = listing::listing(n);
     let order = l.order;
     let words = n.words;
     let counts = n.counts;

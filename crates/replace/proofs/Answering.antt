@@ -19,7 +19,8 @@ use Rattle.network.specs.Held.{netOf, mostVariables, mostCubes, mostLiterals}
 use Rattle.network.specs.Handed.{flat, cubeSlots, Holds}
 use Rattle.network.specs.Parts.{nodesOf, heldIn, netAt, Sized}
 use Rattle.network.specs.declared.Network.{Network}
-use Rattle.network.proofs.Holding.{cut-total, nodes-held, outputs-held, divisors-held}
+use Rattle.network.proofs.Holding.{nodes-held, outputs-held, divisors-held}
+use Rattle.nodes.proofs.Cutting.{cut-total}
 use Rattle.network.proofs.Handing.{cut-flat, flat-length, holds-one, blank-one}
 use Rattle.extraction.specs.Divisor.{own, rewrite}
 use Rattle.extraction.specs.Divisor as extraction
@@ -30,7 +31,8 @@ use Rattle.tidy.specs.Tidy.{arranged}
 use Rattle.tidy.proofs.Arranged.{arranged-parts, arranged-sized}
 use Rattle.divisor.specs.Divisor.{divisorOf}
 use Rattle.divisor.specs.declared.Divisor.{Divisor}
-use Rattle.replace.specs.Replace.{fitting, allowed, outcome, Stepped}
+use Rattle.fitness.specs.Fitness.{fitting}
+use Rattle.replace.specs.Replace.{allowed, outcome, Stepped}
 use Rattle.replace.specs.Parts.{LaidNodes, SourceNodes}
 use Rattle.replace.specs.declared.Next.{Next}
 

@@ -27,10 +27,11 @@ use Rattle.tidy.specs.Tidy.{arranged}
 use Rattle.tidy.proofs.Arranged.{arranged-in}
 use Rattle.divisor.specs.Divisor.{divisorOf}
 use Rattle.divisor.specs.declared.Divisor.{Divisor}
-use Rattle.replace.specs.Replace.{fitting, allowed, outcome, Stepped}
+use Rattle.fitness.specs.Fitness.{fitting}
+use Rattle.replace.specs.Replace.{allowed, outcome, Stepped}
 use Rattle.replace.specs.declared.Outcome.the-variants.{Made}
 use Rattle.replace.specs.declared.Next.{Next}
-use Rattle.replace.proofs.Fitting.{fitting-iff}
+use Rattle.fitness.proofs.Fitting.{fitting-iff}
 
 -- ---- what was made
 

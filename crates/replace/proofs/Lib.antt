@@ -1,4 +1,3 @@
-pub mod Fitting
 pub mod Testing
 pub mod Becoming
 pub mod Filling

@@ -9,9 +9,9 @@ use borrow.Author.Tests.{lt-ltb, le-ltb, ne-eqb}
 use Rattle.sets.specs.Sets.{mem, sub, insert, without}
 use Rattle.cube.specs.Cube.{width, joined}
 use Rattle.extraction.specs.Divisor.{Divisor, pair, part, hit, gone, swap}
-use Rattle.replace.specs.Replace.{fitting}
+use Rattle.fitness.specs.Fitness.{fitting}
 use Rattle.replace.specs.Parts.{fate}
-use Rattle.replace.proofs.Fitting.{pair-below}
+use Rattle.fitness.proofs.Fitting.{pair-below}
 
 -- ---- a pair
 

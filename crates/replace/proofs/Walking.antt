@@ -14,8 +14,10 @@ use Rattle.expression.specs.Words.{cubesOf}
 use Rattle.expression.specs.Expression.{ordered}
 use Rattle.network.specs.Held.{mostCubes}
 use Rattle.network.specs.Parts.{nodesOf}
-use Rattle.network.proofs.Holding.{cut-node}
-use Rattle.network.proofs.Parts.{before, nodes-length, nodes-at, start-next}
+use Rattle.nodes.proofs.Cutting.{cut-node}
+use Rattle.network.proofs.Parts.{nodes-length, nodes-at}
+use Rattle.nodes.specs.Nodes.{countBefore}
+use Rattle.nodes.proofs.Starting.{start-next}
 use Rattle.extraction.specs.Divisor.{Divisor, rewrite}
 use Rattle.replace.specs.Parts.{Appends, LaidNodes, SourceNodes}
 use Rattle.replace.proofs.Filling.{laid-next}
@@ -33,24 +35,24 @@ module _ {words counts : List ℕ} {e : ℕ} (s : SourceNodes words counts e) wh
 
   module _ {i : ℕ} (h : i < e) where
     -- the cubes up to the next node are in use
-    pub node-inside : before i counts + getD counts i 0 ≤ mostCubes
+    pub node-inside : countBefore i counts + getD counts i 0 ≤ mostCubes
     node-inside =
         omega (
           arith,
-          start-next counts i (before i counts) (omega (arith, s .slots, s .free)) refl,
+          start-next counts i (countBefore i counts) (omega (arith, s .slots, s .free)) refl,
           total-front (take e counts) (i + 1),
           ap (total (λ c. c)) (take-take (i + 1) e counts (omega arith)),
           s .cubes,
         )
 
     -- where node i begins and ends
-    pub node-is : {f : List (List ℕ)} {a : ℕ} → a ≡ before i counts → f ≡ take ((a + getD counts i 0) - a) (drop a (cubesOf words)) → f ≡ getD fs i []
+    pub node-is : {f : List (List ℕ)} {a : ℕ} → a ≡ countBefore i counts → f ≡ take ((a + getD counts i 0) - a) (drop a (cubesOf words)) → f ≡ getD fs i []
     node-is {a = a} p q =
         let z : (a + getD counts i 0) - a ≡ getD counts i 0 = omega arith in
         q ∙ ap₂ (λ (n k : ℕ). take n (drop k (cubesOf words))) z p ∙ sym (nodes-at counts words e i h ∙ cut-node counts (cubesOf words) i)
 
     pub node-few : length (getD fs i []) ≤ getD counts i 0
-    node-few = omega (arith, ap length (nodes-at counts words e i h ∙ cut-node counts (cubesOf words) i), length-take (getD counts i 0) (drop (before i counts) (cubesOf words)))
+    node-few = omega (arith, ap length (nodes-at counts words e i h ∙ cut-node counts (cubesOf words) i), length-take (getD counts i 0) (drop (countBefore i counts) (cubesOf words)))
 
     pub node-ordered : ordered (getD fs i []) ≡ true
     node-ordered = all-out ordered (at-in fs i [] (omega (arith, many))) (s .order)

@@ -1,28 +1,20 @@
 -- What the parts of a step promise each other.
-use Prim.Native.Nat.{ℕ, _+_, _-_, _/_, _<_, _≤_}
+use Prim.Native.Nat.{ℕ, _+_, _-_, _<_, _≤_}
 use mathlib.Core.Path.{_≡_}
-use mathlib.Core.Bool.{Bool, true, cond, _&&_}
+use mathlib.Core.Bool.{true, cond}
 use mathlib.Core.List.{List, [], _∷_, _++_, map}
 use mathlib.Core.Option.{Option, none, some}
-use lib.Dec.{ltb}
 use lib.ListN.{length, take, replicate}
 use Rattle.sets.specs.Lists.{all, total}
-use Rattle.sets.specs.Sets.{proper}
 use Rattle.cube.specs.Cube.{lits}
 use Rattle.expression.specs.Words.{cubesOf}
 use Rattle.expression.specs.Expression.{ordered}
 use Rattle.network.specs.Held.{mostCubes}
 use Rattle.network.specs.Handed.{flat, nodeSlots, cubeSlots}
 use Rattle.network.specs.Parts.{nodesOf}
-use Rattle.extraction.specs.Divisor.{Divisor, small, part, hit, gone, swap}
+use Rattle.extraction.specs.Divisor.{Divisor, part, hit, gone, swap}
 use Rattle.replace.specs.declared.Fate.{Fate}
 use Rattle.replace.specs.declared.Fate.the-variants.{Becomes, Goes}
-
--- ---- the parts of a sum
-
--- one or two literals, no variable both ways, each of a variable below v
-abbrev pub fitPart : ℕ → List ℕ → Bool
-fitPart v a = small a && (proper a && all (λ l. ltb (l / 2) v) a)
 
 -- ---- the cubes of a node
 

@@ -1,27 +1,20 @@
 -- What a step answers.
-use Prim.Native.Nat.{ℕ}
 use mathlib.Core.Path.{_≡_}
-use mathlib.Core.Bool.{Bool, cond, _&&_}
+use mathlib.Core.Bool.{cond, _&&_}
 use mathlib.Core.Option.{Option, none, some}
 use lib.Dec.{ltb}
-use Rattle.expression.specs.Expression.{expression}
 use Rattle.network.specs.Net.{Net, variables, literalCount}
-use Rattle.network.specs.Held.{netOf, reach, mostLiterals}
+use Rattle.network.specs.Held.{netOf, mostLiterals}
 use Rattle.network.specs.Handed.{Holds, Blank}
 use Rattle.network.specs.declared.Network.{Network}
-use Rattle.extraction.specs.Divisor as extraction
-use Rattle.extraction.specs.Divisor.{own, sound}
 use Rattle.extraction.specs.Extract.{step}
 use Rattle.extraction.specs.Run.{Move, finished, stuck, take, roomFor, done, asked, numbers, rows}
 use Rattle.tidy.specs.Tidy.{arranged}
 use Rattle.divisor.specs.Divisor.{divisorOf}
 use Rattle.divisor.specs.declared.Divisor.{Divisor}
+use Rattle.fitness.specs.Fitness.{fitting}
 use Rattle.replace.specs.declared.Outcome.the-variants.{Made, Numbers, Rows, Unfit}
 use Rattle.replace.specs.declared.Next.{Next}
-
--- a divisor that a network of v variables can take: its own node is an expression over them, the smaller literal or part first
-unfoldable pub fitting : ℕ → extraction.Divisor → Bool
-fitting v d = sound d && (expression (own d) && reach v (own d))
 
 -- no step is made that passes the most literals
 abbrev pub allowed : Net → Move → Option Move

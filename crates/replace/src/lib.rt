@@ -1,8 +1,6 @@
 // One step: in every use the divisor is replaced by the literal of a new node that holds it.
 use cube::Cube;
-use cube::Found;
 use cube::Literal;
-use cube::Order;
 use cube::Variable;
 use divisor::Divisor;
 use network::Network;
@@ -16,11 +14,12 @@ ghost use Rattle.expression.specs.Words.{cubesOf};
 ghost use Rattle.expression.specs.Expression.{ordered};
 ghost use Rattle.network.specs.Handed.{Blank};
 ghost use Rattle.network.specs.Parts.{nodesOf, heldIn, netAt};
-ghost use Rattle.extraction.specs.Divisor.{pair, sum, own, part, hit, gone, rewrite};
+ghost use Rattle.extraction.specs.Divisor.{own, part, hit, gone, rewrite};
 ghost use Rattle.extraction.specs.Run.{roomFor};
 ghost use Rattle.divisor.specs.Divisor.{divisorOf};
-ghost use Rattle.replace.specs.Replace.{fitting, allowed, Stepped, outcome};
-ghost use Rattle.replace.specs.Parts.{fitPart, fate, fateOf, become, Appends, LaidNodes, SourceNodes};
+ghost use Rattle.fitness.specs.Fitness.{fitting};
+ghost use Rattle.replace.specs.Replace.{allowed, Stepped, outcome};
+ghost use Rattle.replace.specs.Parts.{fate, fateOf, become, Appends, LaidNodes, SourceNodes};
 
 pub enum Outcome {
     Made,
@@ -209,7 +208,7 @@ fn made(words: &[u64], counts: &[usize], n: usize, m: usize, k: usize, d: Diviso
         return refused(Outcome::Rows);
     }
     let end = put_own(d, &mut out, to);
-    if expression::literals(expression::part(&out, 0, end)) > network::LITERAL_COUNT {
+    if survey::literals(expression::part(&out, 0, end)) > network::LITERAL_COUNT {
         return refused(Outcome::Unfit);
     }
     sizes[m + k] = end - to;
@@ -225,77 +224,6 @@ fn made(words: &[u64], counts: &[usize], n: usize, m: usize, k: usize, d: Diviso
     }
 }
 
-// ---- divisors that a network of v variables can take
-
-// Whether two literals are of different variables below v, the smaller first.
-fn is_pair(p: Literal, q: Literal, v: usize) -> bool
-    ensures { λ r. ⌜ r ≡ fitting v (pair (p .0) (q .0)) ⌝ }
-{
-    if p.0 >= q.0 {
-        return false;
-    }
-    let o = cube::opposite(p);
-    if o.0 == q.0 {
-        return false;
-    }
-    let x = cube::variable_of(q);
-    (x.0 as usize) < v
-}
-
-// Whether a part has one or two literals, of different variables below v.
-fn is_part(a: Cube, v: usize) -> bool
-    requires { ⌜ v ≤ 64 ⌝ }
-    ensures { λ r. ⌜ r ≡ fitPart v (lits a) ⌝ }
-{
-    let n = cubes::count(a);
-    if n < 1 {
-        return false;
-    }
-    if n > 2 {
-        return false;
-    }
-    if !cubes::is_proper(a) {
-        return false;
-    }
-    let f = order::first_from(a, cube::plain(Variable(v as u32)));
-    match f {
-        Found::At(_) => false,
-        Found::Nothing => true,
-    }
-}
-
-// Whether two parts are fit, share no literal and stand in cube order.
-fn is_sum(a: Cube, b: Cube, v: usize) -> bool
-    requires { ⌜ v ≤ 64 ⌝ }
-    ensures { λ r. ⌜ r ≡ fitting v (sum (lits a) (lits b)) ⌝ }
-{
-    if !is_part(a, v) {
-        return false;
-    }
-    if !is_part(b, v) {
-        return false;
-    }
-    if !cubes::is_empty(cubes::common(a, b)) {
-        return false;
-    }
-    let o = order::compare(a, b);
-    match o {
-        Order::Before => true,
-        Order::Same => false,
-        Order::After => false,
-    }
-}
-
-fn is_fit(d: Divisor, v: usize) -> bool
-    requires { ⌜ v ≤ 64 ⌝ }
-    ensures { λ r. ⌜ r ≡ fitting v (divisorOf d) ⌝ }
-{
-    match d {
-        Divisor::Pair(p, q) => is_pair(p, q, v),
-        Divisor::Sum(a, b) => is_sum(a, b, v),
-    }
-}
-
 // The network after the step that takes the divisor; or why there is no room for it. Unfit are a network that does not stand in
 // cube order, a divisor whose own node is no expression over the network's variables or that has not the smaller literal or part
 // first, and a step that passes 32,768 literals.
@@ -306,7 +234,7 @@ pub fn step(n: Network, d: Divisor) -> Next
         return refused(Outcome::Unfit);
     }
     let v = n.inputs + n.divisors;
-    if !is_fit(d, v) {
+    if !fitness::is_fit(d, v) {
         return refused(Outcome::Unfit);
     }
     if v >= network::VARIABLES {

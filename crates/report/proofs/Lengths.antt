@@ -13,12 +13,12 @@ use Rattle.sets.proofs.Truth.{both, decided}
 use Rattle.sets.proofs.Lists.{_∈_, all-out}
 use Rattle.sets.proofs.Sets.{of-mem}
 use Rattle.cube.specs.Cube.{width}
-use Rattle.letters.specs.Letters.{cubeText}
+use Rattle.products.specs.Products.{cubeText}
 use Rattle.letters.specs.Laid.{Countable}
 use Rattle.letters.proofs.Numbers.{decimal-length}
-use Rattle.letters.proofs.Texts.{cube-length}
+use Rattle.products.proofs.Texts.{cube-length}
 use Rattle.network.specs.Net.{Net, variables, literalCount}
-use Rattle.text.specs.Text.{onto, linesOf}
+use Rattle.lines.specs.Text.{onto, linesOf}
 use Rattle.extraction.specs.Divisor.{Divisor, pair, sum, own, small}
 use Rattle.extraction.specs.Extract.{weight, step}
 use Rattle.extraction.specs.Run.{Stop, done, asked, numbers, rows, Made, made, run, inOrder}

@@ -7,7 +7,8 @@ use lib.IntN.{ℤ, pos, _-ℤ_}
 use lib.ListN.{length, getD, take, drop, length-map}
 use lib.Seq.{length-take-le, getD-take}
 use Rattle.sets.proofs.Places.{drop-next}
-use Rattle.letters.specs.Letters.{decimal, literalText, cubeText}
+use Rattle.letters.specs.Letters.{decimal}
+use Rattle.products.specs.Products.{literalText, cubeText}
 use Rattle.extraction.specs.Divisor.{Divisor, pair, sum}
 use Rattle.extraction.specs.Run.{Stop, done, asked, numbers, rows, Made}
 use Rattle.divisor.specs.Divisor.{madeOf, noStep}

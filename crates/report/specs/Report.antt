@@ -2,7 +2,8 @@
 use Prim.Native.Nat.{ℕ, suc}
 use mathlib.Core.List.{List, [], _∷_, _++_}
 use lib.IntN.{ℤ, pos, negsuc, _-ℤ_}
-use Rattle.letters.specs.Letters.{decimal, cubeText}
+use Rattle.letters.specs.Letters.{decimal}
+use Rattle.products.specs.Products.{cubeText}
 use Rattle.network.specs.Net.{Net, variables, literalCount}
 use Rattle.extraction.specs.Divisor.{Divisor, pair, sum}
 use Rattle.extraction.specs.Run.{Stop, done, asked, numbers, rows, Made, Result, run}

@@ -59,14 +59,14 @@ fn put_divisor(o: &mut [u8], at: usize, d: Divisor) -> usize
 {
     match d {
         Divisor::Pair(l, m) => {
-            let p = letters::put_literal(o, at, l);
+            let p = products::put_literal(o, at, l);
             let q = letters::put(o, p, b'*');
-            letters::put_literal(o, q, m)
+            products::put_literal(o, q, m)
         }
         Divisor::Sum(a, b) => {
-            let p = letters::put_product(o, at, a);
+            let p = products::put_product(o, at, a);
             let q = letters::put_bytes(o, p, b" + ");
-            letters::put_product(o, q, b)
+            products::put_product(o, q, b)
         }
     }
 }
@@ -203,10 +203,10 @@ fn explore(n: Network) -> Findings
     let extract::Answer::Stopped(stop) = answer else {
         return refused(Answer::Read);
     };
-    let Number::Is(start) = network::literals(n) else {
+    let Number::Is(start) = ruling::literals(n) else {
         return refused(Answer::Read);
     };
-    let Number::Is(end) = network::literals(r.network) else {
+    let Number::Is(end) = ruling::literals(r.network) else {
         return refused(Answer::Read);
     };
     let steps = r.steps;

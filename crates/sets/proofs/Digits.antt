@@ -1,6 +1,6 @@
 -- A bit of a mask: of what `|`, `&`, `^` and `!` give, of a power of two; masks with the same bits are equal. Assumes nothing.
 use mathlib.Core.Path.{_≡_, refl, sym, _∙_, ap, ap₂, subst}
-use mathlib.Core.Bool.{Bool, true, false, not, _&&_, _||_, xor}
+use mathlib.Core.Bool.{Bool, true, false, not, _&&_, _||_, xor, and-false}
 use mathlib.Core.Logic.{_⊎_, inl, inr, ⊎-elim}
 use Prim.Native.Nat.{ℕ, zero, suc, _+_, _-_, _*_, _/_, _%_, _^_, _<_, _≤_}
 use native.Mathlib.Nat.{mod-lt, div-one, zero-lt-suc, pow-suc, zero-div, not-suc-le-zero, le-of-suc-le-suc}
@@ -11,8 +11,9 @@ use lib.Dec.{eqb, eqb·zero-suc, eqb·suc-zero, eqb·suc-suc}
 use lib.Arith.{lt-one}
 use lib.Count.{trailingZeros, under}
 use lib.Pow.{shr-shr, pow-pos, shl-exact}
-use lib.Bits.{bitAnd, bitOr, bitXor, and-shr, or-shr, xor-shr, and-mod, or-mod, xor-mod, and-mask, and-lt, or-lt, xor-lt}
+use lib.Bits.{bitAnd, bitOr, bitXor, and-le-r, and-shr, or-shr, xor-shr, and-mod, or-mod, xor-mod, and-mask, and-lt, or-lt, xor-lt}
 use Rattle.sets.specs.Masks.{bit, nonzero}
+use Rattle.sets.proofs.Truth.{decided}
 
 -- ---- the lowest bit, and the others
 
@@ -134,6 +135,25 @@ shifted-one w v h = shl-exact 1 v w (Prim.Native.Nat.suc-le-suc (zero-lt-suc 0))
 
 pub no-bits : (w m : ℕ) → m < 2 ^ w → ((v : ℕ) → v < w → bit m v ≡ false) → m ≡ 0
 no-bits w m h f = bits-ext w m 0 h (pow-pos w) (λ v k. f v k ∙ sym (bit-none v))
+
+-- `&` with a power of two
+pub bit-mask : (m v : ℕ) → not (eqb (bitAnd m (2 ^ v)) 0) ≡ bit m v
+bit-mask m v = go (decided (bit m v))
+  where
+    only : (u : ℕ) → bit (bitAnd m (2 ^ v)) u ≡ (bit m u && eqb u v)
+    only u = bit-and m (2 ^ v) u ∙ ap (λ (b : Bool). bit m u && b) (bit-pow v u)
+
+    go : (bit m v ≡ true) ⊎ (bit m v ≡ false) → not (eqb (bitAnd m (2 ^ v)) 0) ≡ bit m v
+    go (inl t) =
+        let there : bit (bitAnd m (2 ^ v)) v ≡ true = only v ∙ rw (t, eq-eqb v v refl) in
+        rw (ne-eqb (bitAnd m (2 ^ v)) 0 (λ z. mathlib.Core.Bool.true≢false (sym there ∙ ap (λ (x : ℕ). bit x v) z ∙ bit-none v)), t)
+    go (inr f) =
+        let e : 2 ^ suc v ≡ 2 ^ v * 2 = pow-suc 2 v in
+        rw (eq-eqb (bitAnd m (2 ^ v)) 0 (no-bits (suc v) (bitAnd m (2 ^ v)) (omega (arith, and-le-r m (2 ^ v), pow-pos v)) (λ u h. only u ∙ pick u (decided (eqb u v)))), f)
+      where
+        pick : (u : ℕ) → (eqb u v ≡ true) ⊎ (eqb u v ≡ false) → (bit m u && eqb u v) ≡ false
+        pick u (inl t) = ap (λ (x : ℕ). bit m x && eqb u v) (eqb-true u v t) ∙ rw f
+        pick u (inr t) = rw t (and-false (bit m u))
 
 -- a number below 2 ^ j has no bit from j on
 pub bit-high : (j m v : ℕ) → m < 2 ^ j → j ≤ v → bit m v ≡ false

@@ -10,18 +10,18 @@ use native.Mathlib.Omega.{arith}
 use lib.Dec.{eqb, ltb, leb, leb·zero}
 use lib.ListN.{length}
 use lib.Count.{ones, ones-step}
-use lib.Bits.{bitAnd, bitOr, bitXor, and-lt, or-lt}
+use lib.Bits.{bitAnd, bitOr, bitXor, and-lt, or-lt, and-zero-r, or-zero-l, or-zero-r}
 use lib.Pow.{shr-shr}
 use lib.Arith.{lt-one}
 use borrow.Author.Tests.{eqb-true, eqb-false, ltb-true, eq-eqb, ne-eqb, lt-ltb, le-ltb}
 use Rattle.sets.specs.Lists.{keep, from, isNil}
 use Rattle.sets.specs.Literal.{oppositeOf}
 use Rattle.sets.specs.Sets.{mem, asc, proper, insert, union, without, meet, same}
-use Rattle.sets.specs.Masks.{bit, nonzero, side, test, literals}
+use Rattle.sets.specs.Masks.{bit, nonzero, side, test, literals, single}
 use Rattle.sets.proofs.Truth.{iff, both, together, or-left, or-right, decided, clash, refuted}
 use Rattle.sets.proofs.Lists.{pairwise-keep}
 use Rattle.sets.proofs.Sets.{keep-mem, from-mem, from-asc, insert-mem, union-mem, without-mem, meet-mem, insert-asc, union-asc, without-asc, meet-asc, ext, nil-mem, mem-nil, same-eq, eq-same, proper-in, proper-out}
-use Rattle.sets.proofs.Digits.{bit-or, bit-and, bit-xor, bit-not, bit-pow, bits-ext, bit-none, no-bits, shifted-one}
+use Rattle.sets.proofs.Digits.{bit-or, bit-and, bit-xor, bit-not, bit-pow, bits-ext, bit-none, no-bits, bit-mask}
 
 -- ---- the bit test
 
@@ -135,11 +135,6 @@ literals-without w p n q m hq hm =
 
 -- ---- one literal more
 
--- a mask with one bit more, tested
-module _ (w v : ℕ) (h : v < w) where
-  one-more : (m u : ℕ) → bit (bitOr m ((1 * 2 ^ v) % 2 ^ w)) u ≡ (eqb u v || bit m u)
-  one-more m u = ap (λ (x : ℕ). bit (bitOr m x) u) (shifted-one w v h) ∙ bit-or m (2 ^ v) u ∙ ap (λ (b : Bool). bit m u || b) (bit-pow v u) ∙ or-comm (bit m u) (eqb u v)
-
 -- what is one literal more in the test is one more in the list
 insert-by : (w p n q m x : ℕ) → x < 2 * w → ((l : ℕ) → test q m l ≡ (eqb l x || test p n l)) → literals w q m ≡ insert x (literals w p n)
 insert-by w p n q m x h t =
@@ -151,42 +146,69 @@ insert-by w p n q m x h t =
     bounded l (inl e) = let e′ : l ≡ x = eqb-true l x e in rw (e, lt-ltb l (2 * w) (omega arith))
     bounded l (inr e) = rw e (and-false (ltb l (2 * w)))
 
-module _ (w p n l : ℕ) (h : l / 2 < w) where
-  -- two literals of one polarity are the same where their variables are
-  alike : (k : ℕ) → k % 2 ≡ l % 2 → eqb (k / 2) (l / 2) ≡ eqb k l
-  alike k e = iff (λ t. omega (arith, eqb-true (k / 2) (l / 2) t, eq-eqb)) (λ t. omega (arith, eqb-true k l t, eq-eqb))
+-- two literals of one polarity are the same where their variables are
+alike : (k l : ℕ) → l % 2 ≡ k % 2 → eqb (k / 2) (l / 2) ≡ eqb k l
+alike k l e = iff (λ t. omega (arith, eqb-true (k / 2) (l / 2) t, eq-eqb)) (λ t. omega (arith, eqb-true k l t, eq-eqb))
 
-  unlike : (k : ℕ) → (k % 2 ≡ l % 2 → ⊥) → eqb k l ≡ false
-  unlike k e = ne-eqb k l (λ t. e (ap (λ (x : ℕ). x % 2) t))
+unlike : (k l : ℕ) → (l % 2 ≡ k % 2 → ⊥) → eqb k l ≡ false
+unlike k l e = ne-eqb k l (λ t. e (ap (λ (x : ℕ). x % 2) (sym t)))
 
-  pub insert-even : l % 2 ≡ 0 → literals w (bitOr p ((1 * 2 ^ (l / 2)) % 2 ^ w)) n ≡ insert l (literals w p n)
+side-of : (f : ℕ → ℕ) (k : ℕ) → side (k % 2) (f 0) (f 1) ≡ f (k % 2)
+side-of f k = go (k % 2) (mod-lt k (zero-lt-suc 1))
+  where
+    go : (s : ℕ) → s < 2 → side s (f 0) (f 1) ≡ f s
+    go zero h = refl
+    go (suc s) h = ap f (omega arith)
+
+module _ (w l : ℕ) where
+  -- past the last literal
+  pub single-none : (s : ℕ) → ltb l (2 * w) ≡ false → single w l s ≡ 0
+  unfolding single
+  single-none s t = rw t
+
+  pub single-one : (s : ℕ) → ltb l (2 * w) ≡ true → l % 2 ≡ s → single w l s ≡ 2 ^ (l / 2)
+  unfolding single
+  single-one s t e = rw (t, eq-eqb (l % 2) s e)
+
+  pub single-other : (s : ℕ) → (l % 2 ≡ s → ⊥) → single w l s ≡ 0
+  unfolding single
+  single-other s e = rw (ne-eqb (l % 2) s e, and-false (ltb l (2 * w)))
+
+  single-test : ltb l (2 * w) ≡ true → (k : ℕ) → test (single w l 0) (single w l 1) k ≡ eqb k l
   unfolding test
-  insert-even e = insert-by w p n _ n l (omega arith) (λ k. go k (k % 2) refl)
+  single-test t k = ap (λ (m : ℕ). bit m (k / 2)) (side-of (single w l) k) ∙ go (decided (eqb (l % 2) (k % 2)))
     where
-      go : (k s : ℕ) → k % 2 ≡ s → bit (side s (bitOr p ((1 * 2 ^ (l / 2)) % 2 ^ w)) n) (k / 2) ≡ (eqb k l || bit (side s p n) (k / 2))
-      go k zero q = one-more w (l / 2) h p (k / 2) ∙ ap (λ (b : Bool). b || bit p (k / 2)) (alike k (q ∙ sym e))
-      go k (suc s) q = rw (unlike k (λ t. omega arith))
+      go : (eqb (l % 2) (k % 2) ≡ true) ⊎ (eqb (l % 2) (k % 2) ≡ false) → bit (single w l (k % 2)) (k / 2) ≡ eqb k l
+      go (inl e) = let q = eqb-true (l % 2) (k % 2) e in ap (λ (m : ℕ). bit m (k / 2)) (single-one (k % 2) t q) ∙ bit-pow (l / 2) (k / 2) ∙ alike k l q
+      go (inr e) = let q = eqb-false (l % 2) (k % 2) e in ap (λ (m : ℕ). bit m (k / 2)) (single-other (k % 2) q) ∙ bit-none (k / 2) ∙ sym (unlike k l q)
 
-  pub insert-odd : (l % 2 ≡ 0 → ⊥) → literals w p (bitOr n ((1 * 2 ^ (l / 2)) % 2 ^ w)) ≡ insert l (literals w p n)
-  unfolding test
-  insert-odd e = insert-by w p n p _ l (omega arith) (λ k. go k (k % 2) refl)
-    where
-      go : (k s : ℕ) → k % 2 ≡ s → bit (side s p (bitOr n ((1 * 2 ^ (l / 2)) % 2 ^ w))) (k / 2) ≡ (eqb k l || bit (side s p n) (k / 2))
-      go k zero q = rw (unlike k (λ t. e (sym t ∙ q)))
-      go k (suc s) q = one-more w (l / 2) h n (k / 2) ∙ ap (λ (b : Bool). b || bit n (k / 2)) (alike k (omega arith))
+  module _ (p n : ℕ) where
+    -- `|` with its bits joins a literal
+    pub literals-single : literals w (bitOr p (single w l 0)) (bitOr n (single w l 1)) ≡ cond (ltb l (2 * w)) (insert l (literals w p n)) (literals w p n)
+    literals-single = go (decided (ltb l (2 * w)))
+      where
+        go : (ltb l (2 * w) ≡ true) ⊎ (ltb l (2 * w) ≡ false) → literals w (bitOr p (single w l 0)) (bitOr n (single w l 1)) ≡ cond (ltb l (2 * w)) (insert l (literals w p n)) (literals w p n)
+        go (inl t) =
+            insert-by w p n (bitOr p (single w l 0)) (bitOr n (single w l 1)) l (ltb-true l (2 * w) t)
+            (λ k. op-test bitOr _||_ bit-or p n (single w l 0) (single w l 1) k ∙ ap (λ (b : Bool). test p n k || b) (single-test t k) ∙ or-comm (test p n k) (eqb k l))
+            ∙ rw t
+        go (inr t) = rw (single-none 0 t, single-none 1 t, or-zero-r p, or-zero-r n, t)
 
--- the same, of a number that may be past the last literal
-module _ (w p n l : ℕ) where
-  pub joined-wide : 2 * w ≤ l → literals w p n ≡ cond (ltb l (2 * w)) (insert l (literals w p n)) (literals w p n)
-  joined-wide h = rw (le-ltb l (2 * w) h)
-
-  pub joined-even : l < 2 * w → l % 2 ≡ 0
-      → literals w (bitOr p ((1 * 2 ^ (l / 2)) % 2 ^ w)) n ≡ cond (ltb l (2 * w)) (insert l (literals w p n)) (literals w p n)
-  joined-even h e = insert-even w p n l (omega arith) e ∙ rw (lt-ltb l (2 * w) h)
-
-  pub joined-odd : l < 2 * w → (l % 2 ≡ 0 → ⊥)
-      → literals w p (bitOr n ((1 * 2 ^ (l / 2)) % 2 ^ w)) ≡ cond (ltb l (2 * w)) (insert l (literals w p n)) (literals w p n)
-  joined-odd h e = insert-odd w p n l (omega arith) e ∙ rw (lt-ltb l (2 * w) h)
+    -- `&` with its bits finds it
+    pub mem-single : not (eqb (bitOr (bitAnd p (single w l 0)) (bitAnd n (single w l 1))) 0) ≡ mem l (literals w p n)
+    mem-single = go (decided (ltb l (2 * w))) (decided (eqb (l % 2) 0))
+      where
+        go : (ltb l (2 * w) ≡ true) ⊎ (ltb l (2 * w) ≡ false) → (eqb (l % 2) 0 ≡ true) ⊎ (eqb (l % 2) 0 ≡ false)
+            → not (eqb (bitOr (bitAnd p (single w l 0)) (bitAnd n (single w l 1))) 0) ≡ mem l (literals w p n)
+        go (inr t) d = rw (single-none 0 t, single-none 1 t, and-zero-r p, and-zero-r n) (sym (literals-mem w p n l ∙ rw t))
+        go (inl t) (inl e) =
+            let z = eqb-true (l % 2) 0 e in
+            let h = ltb-true l (2 * w) t in
+            rw (single-one 0 t z, single-other 1 (λ o. omega arith), and-zero-r n, or-zero-r (bitAnd p (2 ^ (l / 2)))) (bit-mask p (l / 2) ∙ sym (mem-even w p n l (omega arith) z))
+        go (inl t) (inr e) =
+            let z = eqb-false (l % 2) 0 e in
+            let h = ltb-true l (2 * w) t in
+            rw (single-other 0 z, single-one 1 t (omega arith), and-zero-r p, or-zero-l (bitAnd n (2 ^ (l / 2)))) (bit-mask n (l / 2) ∙ sym (mem-odd w p n l (omega arith) z))
 
 -- ---- how many
 

@@ -7,11 +7,11 @@ use mathlib.Core.List.{List, [], _∷_, List·Memᴰ·head as here, List·Memᴰ
 use native.Mathlib.Nat.{zero-lt-suc, not-suc-le-zero, le-of-suc-le-suc}
 use native.Mathlib.Numerals.{add-one}
 use native.Mathlib.Omega.{arith}
-use lib.ListN.{length, getD, drop, set, drop-of-length-le}
-use lib.Seq.{drop-cons}
-use Rattle.sets.specs.Lists.{all, pairwise}
+use lib.ListN.{length, getD, take, drop, set, drop-of-length-le}
+use lib.Seq.{take-suc, drop-cons}
+use Rattle.sets.specs.Lists.{all, pairwise, total}
 use Rattle.sets.proofs.Truth.{together}
-use Rattle.sets.proofs.Lists.{_∈_, all-in, all-out, ahead}
+use Rattle.sets.proofs.Lists.{_∈_, all-in, all-out, ahead, total-append}
 
 module _ {A : Type 0} where
   -- ---- members and places
@@ -73,3 +73,7 @@ module _ {A : Type 0} where
     at-pairwise (x ∷ l) k =
         together (all (r x) l) (pairwise r l) (all-in (r x) l (λ y m. let q = in-at d m in rw (← (q .2)) (k 0 (suc (q .0)) (omega arith) (suc-le-suc (q .1)))))
         (at-pairwise l (λ i j b h. k (suc i) (suc j) (suc-le-suc b) (suc-le-suc h)))
+
+-- one element more in a total
+pub total-next : {A : Type 0} (g : A → ℕ) (f : List A) (i : ℕ) (d : A) → i < length f → total g (take (i + 1) f) ≡ total g (take i f) + g (getD f i d)
+total-next g f i d h = rw (add-one i, take-suc f i d h, total-append g (take i f) (getD f i d ∷ [])) (omega arith)

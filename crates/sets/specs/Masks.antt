@@ -2,7 +2,8 @@
 use Prim.Native.Nat.{ℕ, zero, suc, _+_, _*_, _/_, _%_, _^_, _<_}
 use mathlib.Core.Path.{_≡_}
 use mathlib.Core.List.{List, [], _∷_}
-use mathlib.Core.Bool.{Bool, true, false, cond}
+use mathlib.Core.Bool.{Bool, true, false, cond, _&&_}
+use lib.Dec.{eqb, ltb}
 use Rattle.sets.specs.Lists.{keep, from}
 
 abbrev pub nonzero : ℕ → Bool
@@ -25,6 +26,10 @@ test p n l = bit (side (l % 2) p n) (l / 2)
 -- the literals of the masks p and n, of the variables below w
 unfoldable pub literals : ℕ → ℕ → ℕ → List ℕ
 literals w p n = keep (test p n) (from 0 (2 * w))
+
+-- the bit of literal l in the mask of polarity s; a number past the last literal has none
+unfoldable pub single : ℕ → ℕ → ℕ → ℕ
+single w l s = cond (ltb l (2 * w) && eqb (l % 2) s) (2 ^ (l / 2)) 0
 
 -- r is the place of the lowest bit of m, a mask of w bits
 pub record Lowest (w m r : ℕ) : Type 0 where

@@ -8,9 +8,6 @@ ghost use mathlib.Core.Path.{_≡_};
 ghost use Rattle.network.specs.Net.{literalCount};
 ghost use Rattle.network.specs.Held.{netOf, rules};
 
-// Room for a line: a factored text, and what stands beside it.
-const LINE: usize = 266240;
-
 enum Setting {
     Is(u64),
     Wrong,
@@ -29,41 +26,45 @@ fn name_width(n: Network) -> usize {
     2
 }
 
-fn put_count(out: &mut [u8], at: usize, word: &[u8], x: u64) -> usize {
-    let next = wire::put_text(out, at, word);
-    line::put_decimal(out, next, x)
-}
-
 // The literals of the network; 0 where it breaks a rule.
 pub fn literals(n: Network) -> u64
     ensures { λ r. ⌜ r ≡ cond (rules n) (literalCount (netOf n)) 0 ⌝ }
 {
-    let a = network::literals(n);
+    let a = ruling::literals(n);
     match a {
         Number::Is(x) => x,
         Number::No(_) => 0,
     }
 }
 
-fn print_counts(n: Network, out: &mut [u8]) {
-    let at = put_count(out, 0, b"inputs ", n.inputs as u64);
-    let at = put_count(out, at, b" outputs ", n.outputs as u64);
-    let at = put_count(out, at, b" divisors ", n.divisors as u64);
-    let at = put_count(out, at, b" literals ", literals(n));
-    line::end(out, at);
+fn counts(n: Network) -> [u64; 4] {
+    [
+        n.inputs as u64,
+        n.outputs as u64,
+        n.divisors as u64,
+        literals(n),
+    ]
+}
+
+fn print_counts(n: Network) {
+    line::print_filled(b"inputs # outputs # divisors # literals #", counts(n));
+}
+
+// `x15 = `
+fn put_head(letter: u8, number: usize, width: usize) {
+    let at = line::put_name(0, letter, number);
+    line::pad(at, width);
+    line::put(0, b" = ");
 }
 
 // `x15 = x3+x5  literals 2`: node i, by the name of a letter and a number.
-fn print_node(n: Network, i: usize, letter: u8, number: usize, out: &mut [u8]) {
-    let at = line::put_name(out, 0, letter, number);
-    let at = line::pad(out, at, name_width(n));
-    let at = wire::put_text(out, at, b" = ");
-    let at = node::put_text(out, at, n, i);
-    let at = put_count(out, at, b"  literals ", node::literals(n, i));
-    line::end(out, at);
+fn print_node(n: Network, i: usize, letter: u8, number: usize) {
+    put_head(letter, number, name_width(n));
+    node::put_text(0, n, i);
+    line::end_count(b"  literals ", node::literals(n, i));
 }
 
-fn print_divisors(n: Network, out: &mut [u8]) {
+fn print_divisors(n: Network) {
     let mut i = 0;
     while i < n.divisors {
         print_node(
@@ -71,26 +72,24 @@ fn print_divisors(n: Network, out: &mut [u8]) {
             num::wrapping_add_usize(n.outputs, i),
             b'x',
             num::wrapping_add_usize(n.inputs, i),
-            out,
         );
         i += 1;
     }
 }
 
-fn print_outputs(n: Network, out: &mut [u8]) {
+fn print_outputs(n: Network) {
     let mut i = 0;
     while i < n.outputs {
-        print_node(n, i, b'y', i, out);
+        print_node(n, i, b'y', i);
         i += 1;
     }
 }
 
 // The counts, then a line for each divisor and each output.
 pub fn show(n: Network) {
-    let mut out = [0u8; LINE];
-    print_counts(n, &mut out);
-    print_divisors(n, &mut out);
-    print_outputs(n, &mut out);
+    print_counts(n);
+    print_divisors(n);
+    print_outputs(n);
 }
 
 // ---- one setting
@@ -135,15 +134,12 @@ fn complain(inputs: usize) {
 }
 
 fn print_answer(j: usize, is_on: bool) {
-    let mut out = [0u8; 32];
-    let at = line::put_name(&mut out, 0, b'y', j);
+    line::put_name(0, b'y', j);
     if is_on {
-        let end = wire::put_text(&mut out, at, b" on");
-        line::end(&mut out, end);
+        line::print(b" on");
         return;
     }
-    let end = wire::put_text(&mut out, at, b" off");
-    line::end(&mut out, end);
+    line::print(b" off");
 }
 
 fn print_answers(outputs: usize, answer: u64) {
@@ -161,7 +157,7 @@ pub fn ask(n: Network, word: &[u8]) {
         complain(n.inputs);
         return;
     };
-    let a = network::evaluate(n, setting);
+    let a = evaluation::evaluate(n, setting);
     match a {
         Number::Is(answer) => print_answers(n.outputs, answer),
         Number::No(k) => line::refuse(k, 0),

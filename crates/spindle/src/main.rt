@@ -15,41 +15,30 @@ const IMAGE: usize = 5878735;
 // The steps that the program asks for.
 const STEPS: u64 = 64;
 
-// What a file held: a network, the text of a table, or nothing, which has been said.
-enum Kind {
-    Network,
-    Text(usize),
-    Nothing,
-}
-
-struct Loaded {
-    kind: Kind,
-    network: Network,
-}
-
-// The commands on images.
+// The commands of more than one word.
 enum Command {
+    Image,
     Show,
     Ask,
     Map,
+    Other,
 }
 
-fn without(kind: Kind) -> Loaded {
-    let network = network::blank();
-    Loaded { kind, network }
+// A network, where there is one; where there is none, that has been said.
+struct Loaded {
+    ok: bool,
+    network: Network,
 }
 
 fn with(network: Network) -> Loaded {
-    Loaded {
-        kind: Kind::Network,
-        network,
-    }
+    Loaded { ok: true, network }
 }
 
 // A refusal, printed.
 fn refused(number: u32, line: u32) -> Loaded {
     line::refuse(number, line);
-    without(Kind::Nothing)
+    let network = network::blank();
+    Loaded { ok: false, network }
 }
 
 // ---- tables
@@ -80,24 +69,10 @@ fn print_report(text: &[u8]) {
     }
 }
 
-// `spindle TABLE`
-fn on_table(path: &[u8]) {
-    let mut text = [0u8; TABLE];
-    let got = file::read(path, &mut text);
-    let n = got.count;
-    if got.ok {
-        print_report(&text[0..n]);
-    }
-}
-
 // `orchards.image: 164 bytes, 80 literals`
 fn print_written(path: &[u8], bytes: usize, literals: u64) {
-    io::write_all(STDOUT_FILENO, path);
-    io::write_all(STDOUT_FILENO, b": ");
-    io::print_decimal(STDOUT_FILENO, bytes as u64);
-    io::write_all(STDOUT_FILENO, b" bytes, ");
-    io::print_decimal(STDOUT_FILENO, literals);
-    io::write_all(STDOUT_FILENO, b" literals\n");
+    line::put(0, path);
+    line::print_filled(b": # bytes, # literals", [bytes as u64, literals, 0, 0]);
 }
 
 fn store_image(bytes: &[u8], k: usize, path: &[u8], literals: u64) {
@@ -118,20 +93,40 @@ fn write_image(n: Network, path: &[u8]) {
     }
 }
 
-// `spindle image TABLE FILE`
-fn on_image(table: &[u8], path: &[u8]) {
-    let mut text = [0u8; TABLE];
-    let got = file::read(table, &mut text);
-    if !got.ok {
-        return;
-    }
-    let n = got.count;
-    let l = extracted(&text[0..n]);
-    let kind = l.kind;
-    if let Kind::Network = kind {
+// The image of a table's network.
+fn on_image(text: &[u8], path: &[u8]) {
+    let l = extracted(text);
+    if l.ok {
         let network = l.network;
         write_image(network, path);
     }
+}
+
+fn on_text(is_image: bool, text: &[u8], path: &[u8]) {
+    if is_image {
+        on_image(text, path);
+        return;
+    }
+    print_report(text);
+}
+
+fn table_into(is_image: bool, table: &[u8], path: &[u8], text: &mut [u8]) {
+    let got = file::read(table, text);
+    let n = got.count;
+    if got.ok {
+        on_text(is_image, &text[0..n], path);
+    }
+}
+
+// So long an array is lent as one before it is lent as a slice: its length is then known by its type.
+fn table_by(is_image: bool, table: &[u8], path: &[u8], text: &mut [u8; TABLE]) {
+    table_into(is_image, table, path, text);
+}
+
+// `spindle TABLE`, `spindle image TABLE FILE`
+fn on_table(is_image: bool, table: &[u8], path: &[u8]) {
+    let mut text = [0u8; TABLE];
+    table_by(is_image, table, path, &mut text);
 }
 
 // ---- images
@@ -158,42 +153,12 @@ fn opened(bytes: &[u8]) -> Loaded {
     with(network)
 }
 
-// The image of a file; where a table may stand there too, its text, to the front of the room that is lent.
-fn load_into(path: &[u8], is_either: bool, text: &mut [u8], bytes: &mut [u8]) -> Loaded {
-    let got = file::read(path, bytes);
-    if !got.ok {
-        return without(Kind::Nothing);
-    }
-    let n = got.count;
-    if is_either {
-        if !is_image(&bytes[0..n]) {
-            let k = wire::put_text(text, 0, &bytes[0..n]);
-            return without(Kind::Text(k));
-        }
-    }
-    opened(&bytes[0..n])
-}
-
-// So long an array is lent as one before it is lent as a slice: its length is then known by its type.
-fn load_by(path: &[u8], is_either: bool, text: &mut [u8], bytes: &mut [u8; IMAGE]) -> Loaded {
-    load_into(path, is_either, text, bytes)
-}
-
-fn load(path: &[u8], is_either: bool, text: &mut [u8]) -> Loaded {
-    let mut bytes = [0u8; IMAGE];
-    load_by(path, is_either, text, &mut bytes)
-}
-
 // The map of a table.
-fn map_table(text: &[u8], n: usize) {
-    if n > text.len() {
-        return;
-    }
-    let l = extracted(&text[0..n]);
-    let kind = l.kind;
-    if let Kind::Network = kind {
+fn map_table(text: &[u8]) {
+    let l = extracted(text);
+    if l.ok {
         let network = l.network;
-        map::map(network, &text[0..n]);
+        map::map(network, text);
     }
 }
 
@@ -202,29 +167,72 @@ fn on_network(c: Command, n: Network, setting: &[u8]) {
         Command::Show => show::show(n),
         Command::Ask => show::ask(n, setting),
         Command::Map => map::map(n, b""),
+        Command::Image => {}
+        Command::Other => {}
     }
 }
 
-fn may_be_table(c: Command) -> bool {
-    if let Command::Map = c { true } else { false }
+fn on_loaded(c: Command, l: Loaded, setting: &[u8]) {
+    if l.ok {
+        let network = l.network;
+        on_network(c, network, setting);
+    }
+}
+
+// Only the map is made of tables too.
+fn is_table(c: Command, bytes: &[u8]) -> bool {
+    if let Command::Map = c {
+        !is_image(bytes)
+    } else {
+        false
+    }
+}
+
+fn on_bytes(c: Command, bytes: &[u8], setting: &[u8]) {
+    if is_table(c, bytes) {
+        map_table(bytes);
+        return;
+    }
+    on_loaded(c, opened(bytes), setting);
+}
+
+fn file_into(c: Command, path: &[u8], setting: &[u8], bytes: &mut [u8]) {
+    let got = file::read(path, bytes);
+    let n = got.count;
+    if got.ok {
+        on_bytes(c, &bytes[0..n], setting);
+    }
+}
+
+fn file_by(c: Command, path: &[u8], setting: &[u8], bytes: &mut [u8; IMAGE]) {
+    file_into(c, path, setting, bytes);
 }
 
 // `spindle show IMAGE`, `spindle ask IMAGE SETTING`, `spindle map FILE`
 fn on_file(c: Command, path: &[u8], setting: &[u8]) {
-    let mut text = [0u8; TABLE];
-    let l = load(path, may_be_table(c), &mut text);
-    let kind = l.kind;
-    match kind {
-        Kind::Network => {
-            let network = l.network;
-            on_network(c, network, setting);
-        }
-        Kind::Text(n) => map_table(&text, n),
-        Kind::Nothing => {}
-    }
+    let mut bytes = [0u8; IMAGE];
+    file_by(c, path, setting, &mut bytes);
 }
 
 // ---- words
+
+fn image_to(table: &[u8], path: &[u8]) {
+    if check::same(table, path) {
+        line::complain(path, b": the image needs a name of its own");
+        return;
+    }
+    on_table(true, table, path);
+}
+
+fn with_path(table: &[u8]) {
+    let mut path = io::buffer();
+    let k = os::arg(3, &mut path);
+    if os::errno() != 0 {
+        line::fail(b"FILE");
+        return;
+    }
+    image_to(table, &path[..k]);
+}
 
 // A table and a file.
 fn with_two() {
@@ -234,20 +242,17 @@ fn with_two() {
         line::fail(b"TABLE");
         return;
     }
-    let mut path = io::buffer();
-    let k = os::arg(3, &mut path);
-    if os::errno() != 0 {
-        line::fail(b"FILE");
-        return;
-    }
-    if check::same(&table[..n], &path[..k]) {
-        line::complain(&path[..k], b": the image needs a name of its own");
-        return;
-    }
-    on_image(&table[..n], &path[..k]);
+    with_path(&table[..n]);
 }
 
-// A file and, to ask, a setting; one too long to be held is no setting, as an empty one is none.
+// A setting, to ask; one too long to be held is no setting, as an empty one is none.
+fn with_setting(c: Command, path: &[u8]) {
+    let mut setting = [0u8; 64];
+    let k = os::arg(3, &mut setting);
+    on_file(c, path, &setting[..k]);
+}
+
+// A file and, to ask, a setting.
 fn with_file(c: Command) {
     let mut path = io::buffer();
     let n = os::arg(2, &mut path);
@@ -255,47 +260,51 @@ fn with_file(c: Command) {
         line::fail(b"IMAGE");
         return;
     }
-    let mut setting = [0u8; 64];
-    let k = os::arg(3, &mut setting);
-    on_file(c, &path[..n], &setting[..k]);
+    with_setting(c, &path[..n]);
 }
 
-// How many words a command has, and which it is.
-fn on_words(word: &[u8], count: usize) {
-    if count == 4 {
-        if check::same(word, b"image") {
-            with_two();
-            return;
-        }
-        if check::same(word, b"ask") {
-            with_file(Command::Ask);
-            return;
-        }
-    }
-    if count == 3 {
-        if check::same(word, b"show") {
-            with_file(Command::Show);
-            return;
-        }
-        if check::same(word, b"map") {
-            with_file(Command::Map);
-            return;
-        }
-    }
-    help::help(STDERR_FILENO);
-}
-
-fn is_command(word: &[u8]) -> bool {
+fn image_or_show(word: &[u8]) -> Command {
     if check::same(word, b"image") {
-        return true;
+        return Command::Image;
     }
     if check::same(word, b"show") {
-        return true;
+        return Command::Show;
     }
+    Command::Other
+}
+
+// The command that a word names.
+fn which(word: &[u8]) -> Command {
     if check::same(word, b"ask") {
-        return true;
+        return Command::Ask;
     }
-    check::same(word, b"map")
+    if check::same(word, b"map") {
+        return Command::Map;
+    }
+    image_or_show(word)
+}
+
+// How many words a command has.
+fn words(c: Command) -> usize {
+    match c {
+        Command::Image => 4,
+        Command::Ask => 4,
+        Command::Show => 3,
+        Command::Map => 3,
+        Command::Other => 0,
+    }
+}
+
+fn on_command(c: Command, count: usize) {
+    if words(c) != count {
+        help::help(STDERR_FILENO);
+        return;
+    }
+    if let Command::Image = c {
+        with_two();
+        return;
+    }
+    with_file(c);
 }
 
 // One word: help, or a table; a file with the name of a command is written ./show.
@@ -304,11 +313,11 @@ fn on_word(word: &[u8]) {
         help::help(STDOUT_FILENO);
         return;
     }
-    if is_command(word) {
+    if words(which(word)) > 0 {
         help::help(STDERR_FILENO);
         return;
     }
-    on_table(word);
+    on_table(false, word, word);
 }
 
 fn main() {
@@ -320,7 +329,7 @@ fn main() {
         return;
     }
     if count > 2 {
-        on_words(&word[..n], count);
+        on_command(which(&word[..n]), count);
         return;
     }
     if os::errno() != 0 {

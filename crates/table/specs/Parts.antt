@@ -11,7 +11,7 @@ use Rattle.sets.specs.Masks.{bit, packed}
 use Rattle.expression.specs.Words.{cubesOf, Placed}
 use Rattle.expression.specs.Expression.{sort, absorbed}
 use Rattle.network.specs.Net.{Net}
-use Rattle.text.specs.Text.{linesOf}
+use Rattle.lines.specs.Text.{linesOf}
 use Rattle.text.specs.Lines.{CubeLine, rowsIn, cubeOf}
 use Rattle.table.specs.Table as table
 use Rattle.table.specs.Meaning.{Bounded}

@@ -1,7 +1,7 @@
 // Table texts in the Espresso PLA format, read into networks.
 use cube::Cube;
+use kinds::Kind;
 use network::Network;
-use text::Kind;
 use text::Parsed;
 ghost use mathlib.Core.Path.{_≡_};
 ghost use mathlib.Core.Bool.{_&&_};
@@ -13,8 +13,8 @@ ghost use Rattle.sets.specs.Masks.{bit};
 ghost use Rattle.cube.specs.Cube.{lits};
 ghost use Rattle.expression.specs.Words.{cubesOf, Placed};
 ghost use Rattle.network.specs.Handed.{Holds, Blank};
-ghost use Rattle.text.specs.Text.{linesOf};
-ghost use Rattle.text.specs.Lines.{kindOf};
+ghost use Rattle.lines.specs.Text.{linesOf};
+ghost use Rattle.kinds.specs.Kinds.{kindOf};
 ghost use Rattle.table.specs.Table as table;
 ghost use Rattle.table.specs.Table.{start, readLines, readText, cubeLine, byKind, setWide, setTall, setStated, finish};
 ghost use Rattle.table.specs.Answers.{Told};
@@ -178,7 +178,7 @@ fn take_line(c: &[u8], s: State, words: &mut [u64], marks: &mut [u64]) -> Step
     requires { ⌜ Roomy s (now words) (now marks) ⌝ }
     ensures { λ r. ⌜ Leaves (byKind (kindOf (now (c .entry))) (now (c .entry))) s r (now (words .entry)) (now (marks .entry)) (now (words .exit)) (now (marks .exit)) ⌝ }
 {
-    let kind = text::kind_of(c);
+    let kind = kinds::kind_of(c);
     match kind {
         Kind::Empty => Step::Next(s),
         Kind::Inputs(n) => set_inputs(s, n),
@@ -231,8 +231,8 @@ fn scan(text: &[u8], words: &mut [u64], marks: &mut [u64]) -> Scanned
     let mut line: u32 = 1;
     let mut at = 0;
     while at <= text.len() {
-        let e = text::line_end(text, at);
-        let step = take_line(text::content_of(&text[at..e]), s, words, marks);
+        let e = lines::line_end(text, at);
+        let step = take_line(lines::content_of(&text[at..e]), s, words, marks);
         let Step::Next(t) = step else {
             return stopped(step, line, s);
         };

@@ -1,28 +1,27 @@
--- The cube line: its cube is made place by place, its mask mark by mark, and each test that it fails makes it none. Assumes nothing.
+-- The cube line: its cube is made place by place, its mask mark by mark, and the tests of the numbers, of the places and of the marks decide. Assumes nothing.
 use Prim.Native.Nat.{ℕ, suc, _+_, _-_, _*_, _%_, _^_, _<_, _≤_}
 use mathlib.Core.Path.{_≡_, refl, sym, _∙_, ap}
-use mathlib.Core.Bool.{Bool, true, false, cond, _&&_, and-false, or-false}
+use mathlib.Core.Bool.{Bool, true, false, cond, _&&_, _||_, and-false, false≢true}
 use mathlib.Core.List.{List, [], _∷_, _++_, map, append-nil}
 use mathlib.Core.Option.{none, some, Option·some-injective}
 use native.Mathlib.Numerals.{add-one}
 use native.Mathlib.Omega.{arith}
 use lib.Dec.{eqb, leb, ltb}
-use lib.Count.{ones}
-use lib.ListN.{length, getD, take, drop, length-drop, drop-of-length-le, length-map}
+use lib.ListN.{length, getD, take, drop, length-drop, length-map}
 use lib.Pow.{pow-mono}
-use lib.Seq.{take-suc, length-take-le, drop-cons}
-use borrow.Author.Tests.{eq-eqb, ne-eqb, le-leb, lt-leb, lt-ltb, ltb-true, eqb-true}
+use lib.Seq.{take-suc, take-all, length-take-le, drop-cons}
+use borrow.Author.Tests.{eq-eqb, ne-eqb, le-leb, lt-leb, lt-ltb, leb-true, ltb-true, eqb-true}
 use Rattle.sets.specs.Lists.{all}
-use Rattle.sets.specs.Sets.{mem, insert}
+use Rattle.sets.specs.Sets.{insert}
 use Rattle.sets.specs.Masks.{packed}
 use Rattle.sets.proofs.Truth.{both, Stand, below, equal, beyond, stand}
 use Rattle.sets.proofs.Lists.{all-in, all-out, all-cong}
-use Rattle.sets.proofs.Places.{drop-next}
 use Rattle.cube.specs.Cube.{joined}
-use Rattle.text.specs.Text.{isBlank, trimFront}
+use Rattle.lines.specs.Text.{isBlank, trimFront}
+use Rattle.lines.proofs.Ends.{front-le}
 use Rattle.text.specs.Lines.{isPlace, isMark, CubeLine, startsBlank, cubeLineOf, cubeFrom}
 use Rattle.text.specs.Answers.{entryOf, parsing}
-use Rattle.text.specs.Parts.{among, placed}
+use Rattle.text.specs.Parts.{isSign, placed, roomy, hasMarks, entered, markedLine}
 use Rattle.text.proofs.Covering.{from-bounds}
 use Rattle.sets.proofs.Packing.{packed-lt, packed-ones}
 
@@ -113,69 +112,115 @@ marks-lt o i h =
 
 -- ---- the tests
 
-among-place : (b : ℕ) → among (48 ∷ 49 ∷ 45 ∷ []) b ≡ isPlace b
-unfolding mem
-among-place b = rw (or-false (eqb b 45))
+sign-place : (b : ℕ) → isSign true b ≡ isPlace b
+sign-place b = go (eqb b 45) (eqb b 48) (eqb b 49)
+  where
+    go : (z x y : Bool) → cond z true (x || y) ≡ (x || (y || z))
+    go true true y = refl
+    go true false true = refl
+    go true false false = refl
+    go false true y = refl
+    go false false true = refl
+    go false false false = refl
 
-among-mark : (b : ℕ) → among (48 ∷ 49 ∷ []) b ≡ isMark b
-unfolding mem
-among-mark b = rw (or-false (eqb b 49))
+sign-mark : (b : ℕ) → isSign false b ≡ isMark b
+sign-mark b = go (eqb b 45) refl
+  where
+    go : (z : Bool) → eqb b 45 ≡ z → cond z false (isMark b) ≡ isMark b
+    go true e = rw (eqb-true b 45 e)
+    go false e = refl
 
-pub all-places : (l : List ℕ) → all (among (48 ∷ 49 ∷ 45 ∷ [])) l ≡ all isPlace l
-all-places l = all-cong (among (48 ∷ 49 ∷ 45 ∷ [])) isPlace l (λ b m. among-place b)
+pub all-places : (l : List ℕ) → all (isSign true) l ≡ all isPlace l
+all-places l = all-cong (isSign true) isPlace l (λ b m. sign-place b)
 
-pub all-marks : (l : List ℕ) → all (among (48 ∷ 49 ∷ [])) l ≡ all isMark l
-all-marks l = all-cong (among (48 ∷ 49 ∷ [])) isMark l (λ b m. among-mark b)
+pub all-marks : (l : List ℕ) → all (isSign false) l ≡ all isMark l
+all-marks l = all-cong (isSign false) isMark l (λ b m. sign-mark b)
 
-module _ (n m : ℕ) (c : List ℕ) where
-  pub parsing-wide : 32 < n → none ≡ parsing n m c
-  unfolding parsing
-  parsing-wide h = rw (lt-leb n 32 h)
+module _ (k n m : ℕ) where
+  pub roomy-wide : 32 < n → false ≡ roomy k n m
+  roomy-wide h = rw (lt-leb n 32 h)
 
-  pub parsing-many : 32 < m → none ≡ parsing n m c
-  unfolding parsing
-  parsing-many h = rw (lt-leb m 32 h, and-false (leb n 32))
+  pub roomy-many : 32 < m → false ≡ roomy k n m
+  roomy-many h = rw (lt-leb m 32 h, and-false (leb n 32))
 
-  -- no cube line
-  missed : cubeLineOf n m c ≡ none → none ≡ parsing n m c
-  unfolding parsing
-  missed e = rw e (elim (leb n 32 && leb m 32) as (λ b. none ≡ cond b (entryOf none) none) [ true ↦ refl | false ↦ refl ])
+  pub roomy-room : n ≤ 32 → m ≤ 32 → ltb (n + m) k ≡ roomy k n m
+  roomy-room h j = rw (le-leb n 32 h, le-leb m 32 j)
 
-  pub parsing-short : length c ≤ n → none ≡ parsing n m c
-  unfolding cubeLineOf
-  parsing-short h = missed (rw (drop-of-length-le c h, and-false (all isPlace (take n c)), and-false (eqb (length (take n c)) n)))
+  pub roomy-bounds : roomy k n m ≡ true → (n ≤ 32) × (m ≤ 32) × (n ≤ k)
+  roomy-bounds e =
+      let w = both (leb n 32) (leb m 32 && ltb (n + m) k) e in
+      let x = both (leb m 32) (ltb (n + m) k) (w .1) in
+      (leb-true n 32 (w .0), leb-true m 32 (x .0), omega (arith, ltb-true (n + m) k (x .1)))
 
-  pub parsing-stray : all isPlace (take n c) ≡ false → none ≡ parsing n m c
-  unfolding cubeLineOf
-  parsing-stray e = missed (rw (e, and-false (eqb (length (take n c)) n)))
+module _ (m : ℕ) (o : List ℕ) where
+  pub marks-other : (length o ≡ m → ⊥) → false ≡ hasMarks m o
+  marks-other h = rw (ne-eqb (length o) m h)
 
-  -- a byte stands after the places
-  module _ (h : n < length c) where
-    blank-next : startsBlank (drop n c) ≡ isBlank (getD c n 0)
-    blank-next = rw (drop-next c n 0 h)
+  pub marks-read : length o ≡ m → all isMark (take m o) ≡ hasMarks m o
+  marks-read e = rw (eq-eqb (length o) m e, take-all m o (omega arith))
 
-    pub parsing-joined : isBlank (getD c n 0) ≡ false → none ≡ parsing n m c
-    unfolding cubeLineOf
-    parsing-joined e = missed (rw (blank-next ∙ e, and-false (all isPlace (take n c)), and-false (eqb (length (take n c)) n)))
+  pub marks-length : hasMarks m o ≡ true → length o ≡ m
+  marks-length e = eqb-true (length o) m ((both (eqb (length o) m) (all isMark o) e) .0)
 
-    pub parsing-other : (length (trimFront (drop n c)) ≡ m → ⊥) → none ≡ parsing n m c
-    unfolding cubeLineOf
-    parsing-other e = missed (rw (ne-eqb (length (trimFront (drop n c))) m e, and-false (startsBlank (drop n c)), and-false (all isPlace (take n c)), and-false (eqb (length (take n c)) n)))
+-- a blank stands at the front exactly where trimming takes something off
+blank-shorter : (r : List ℕ) → length (trimFront r) < length r → startsBlank r ≡ true
+unfolding trimFront
+blank-shorter [] h = absurd (omega arith)
+blank-shorter (b ∷ r) h = go (isBlank b) h
+  where
+    go : (e : Bool) → length (cond e (trimFront r) (b ∷ r)) < suc (length r) → e ≡ true
+    go true k = refl
+    go false k = absurd (omega arith)
 
-    pub parsing-unmarked : all isMark (trimFront (drop n c)) ≡ false → none ≡ parsing n m c
-    unfolding cubeLineOf
-    parsing-unmarked e = missed (rw (e, and-false (eqb (length (trimFront (drop n c))) m), and-false (startsBlank (drop n c)), and-false (all isPlace (take n c)), and-false (eqb (length (take n c)) n)))
+shorter-blank : (r : List ℕ) → startsBlank r ≡ true → length (trimFront r) < length r
+unfolding trimFront
+shorter-blank [] h = absurd (false≢true h)
+shorter-blank (b ∷ r) h = rw h (omega (arith, front-le r))
 
-    -- what a line that passes every test tells
-    pub parsing-read : (k : List ℕ) (x y : ℕ) → n ≤ 32 → m ≤ 32 → all isPlace (take n c) ≡ true → isBlank (getD c n 0) ≡ true
-        → length (trimFront (drop n c)) ≡ m → all isMark (trimFront (drop n c)) ≡ true
-        → k ≡ cubeFrom 0 (take n c) → x ≡ packed (map (eqb 49) (trimFront (drop n c))) → y ≡ ones x
-        → some (record { cube = k; marks = x; rows = y }) ≡ parsing n m c
-    unfolding parsing cubeLineOf
-    parsing-read k x y hn hm p b o r ek ex ey =
-        let l : length (take n c) ≡ n = length-take-le n c (omega arith) in
-        rw (le-leb n 32 hn, le-leb m 32 hm, eq-eqb (length (take n c)) n l, p, blank-next ∙ b, eq-eqb (length (trimFront (drop n c))) m o, r, ← ek, ← ex)
-        (rw (ey, ex, packed-ones (map (eqb 49) (trimFront (drop n c)))))
+-- the numbers are tested, then the places, and then the marks
+pub parsing-parts : (n m : ℕ) (c : List ℕ)
+    → cond (roomy (length c) n m) (cond (all isPlace (take n c)) (markedLine m (take n c) (trimFront (drop n c))) none) none ≡ parsing n m c
+unfolding parsing cubeLineOf
+parsing-parts n m c = go (leb n 32) (leb m 32) (ltb (n + m) (length c)) (eqb (length p) n) (all isPlace p) (startsBlank r) (eqb (length o) m) (all isMark o) placed-all blank room
+  where
+    p : List ℕ
+    p = take n c
+
+    r : List ℕ
+    r = drop n c
+
+    o : List ℕ
+    o = trimFront r
+
+    line : CubeLine
+    line = record { places = p; marks = map (eqb 49) o }
+
+    placed-all : ltb (n + m) (length c) ≡ true → eqb (length p) n ≡ true
+    placed-all h = eq-eqb (length p) n (length-take-le n c (omega (arith, ltb-true (n + m) (length c) h)))
+
+    blank : ltb (n + m) (length c) ≡ true → eqb (length o) m ≡ true → startsBlank r ≡ true
+    blank h e = blank-shorter r (omega (arith, ltb-true (n + m) (length c) h, eqb-true (length o) m e, length-drop n c))
+
+    room : startsBlank r ≡ true → eqb (length o) m ≡ true → ltb (n + m) (length c) ≡ true
+    room h e = lt-ltb (n + m) (length c) (omega (arith, shorter-blank r h, eqb-true (length o) m e, length-drop n c))
+
+    go : (u v f x y z s t : Bool) → (f ≡ true → x ≡ true) → (f ≡ true → s ≡ true → z ≡ true) → (z ≡ true → s ≡ true → f ≡ true)
+        → cond (u && (v && f)) (cond y (cond (s && t) (entered (cubeFrom 0 p) (packed (map (eqb 49) o))) none) none) none
+        ≡ cond (u && v) (entryOf (cond (x && (y && (z && (s && t)))) (some line) none)) none
+    go false v f x y z s t i j k = refl
+    go true false f x y z s t i j k = refl
+    go true true false false y z s t i j k = refl
+    go true true false true false z s t i j k = refl
+    go true true false true true false s t i j k = refl
+    go true true false true true true false t i j k = refl
+    go true true false true true true true t i j k = absurd (false≢true (k refl refl))
+    go true true true false y z s t i j k = absurd (false≢true (i refl))
+    go true true true true false z s t i j k = refl
+    go true true true true true false false t i j k = refl
+    go true true true true true true false t i j k = refl
+    go true true true true true false true t i j k = absurd (false≢true (j refl refl))
+    go true true true true true true true false i j k = refl
+    go true true true true true true true true i j k = rw (packed-ones (map (eqb 49) o))
 
 -- ---- a cube line's parts
 

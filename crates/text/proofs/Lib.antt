@@ -1,5 +1,2 @@
-pub mod Ends
-pub mod Lining
 pub mod Covering
-pub mod Reading
 pub mod Cubing

@@ -1,34 +1,20 @@
-// Table texts, line by line: where a line ends, what is left of it, its kind, and the cube line that it may be.
+// The cube line that a line of a table text may be: its places and its marks, the cube, the mask and the rows.
 use cube::Cube;
 use cube::Variable;
 ghost use mathlib.Core.Path.{_≡_};
 ghost use mathlib.Core.List.{map};
-ghost use Prim.Native.Nat.{_+_, _<_, _≤_};
+ghost use Prim.Native.Nat.{_<_, _≤_};
 ghost use lib.Dec.{eqb};
-ghost use lib.ListN.{length, drop};
+ghost use lib.ListN.{length, take};
 ghost use Rattle.sets.specs.Lists.{all};
-ghost use Rattle.sets.specs.Sets.{mem, same};
 ghost use Rattle.sets.specs.Masks.{packed};
 ghost use Rattle.cube.specs.Cube.{lits};
-ghost use Rattle.text.specs.Text.{isBlank, lineOf, uncommented, trimFront, trimEnd, content, numberOf};
-ghost use Rattle.text.specs.Lines.{argument, named, kindOf, cubeFrom};
+ghost use Rattle.text.specs.Lines.{cubeFrom};
 ghost use Rattle.text.specs.Answers.{parsedOf, parsing};
-ghost use Rattle.text.specs.Parts.{untilByte, among, numberIn, placed};
+ghost use Rattle.text.specs.Parts.{isSign, placed, roomy, hasMarks, entered, markedLine};
 
 // The most inputs, and the most outputs, of a table.
 const MOST: usize = 32;
-
-// The most digits of a number.
-const DIGITS: usize = 5;
-
-pub enum Kind {
-    Empty,
-    Inputs(u32),
-    Outputs(u32),
-    Products(u32),
-    End,
-    Other,
-}
 
 // A cube line: its cube, the outputs with a 1 as a mask, and how many there are.
 pub enum Parsed {
@@ -36,205 +22,27 @@ pub enum Parsed {
     Nothing,
 }
 
-// A decimal number, where one is written.
-enum Number {
-    Of(u32),
-    Missing,
-}
-
-fn is_blank(b: u8) -> bool
-    ensures { λ r. ⌜ r ≡ isBlank b ⌝ }
+// Whether b is `0` or `1`, or `-` where that may be.
+fn is_sign(b: u8, dash: bool) -> bool
+    ensures { λ r. ⌜ r ≡ isSign dash b ⌝ }
 {
-    if b == b' ' {
+    if b == b'-' {
+        return dash;
+    }
+    if b == b'0' {
         return true;
     }
-    if b == b'\t' {
-        return true;
-    }
-    b == b'\r'
+    b == b'1'
 }
 
-// The first place from `at` on where b stands, or the end.
-fn find(t: &[u8], at: usize, b: u8) -> usize
-    ensures { λ r. ⌜ r ≡ at + length (untilByte b (drop at (now (t .entry)))) ⌝ }
-{
-    let mut i = at;
-    while i < t.len() {
-        if t[i] == b {
-            return i;
-        }
-        i += 1;
-    }
-    i
-}
-
-// Where the line that begins at `at` ends: at LF or at the end of the text.
-pub fn line_end(t: &[u8], at: usize) -> usize
-    ensures { λ r. ⌜ r ≡ at + length (lineOf (drop at (now (t .entry)))) ⌝ }
-{
-    find(t, at, b'\n')
-}
-
-fn uncomment(l: &[u8]) -> &[u8]
-    ensures { λ r. ⌜ now r ≡ uncommented (now (l .entry)) ⌝ }
-{
-    let e = find(l, 0, b'#');
-    &l[..e]
-}
-
-// Without the blanks at the front.
-pub fn trim_front(l: &[u8]) -> &[u8]
-    ensures { λ r. ⌜ now r ≡ trimFront (now (l .entry)) ⌝ }
-{
-    let mut a = 0;
-    while a < l.len() {
-        if !is_blank(l[a]) {
-            return &l[a..];
-        }
-        a += 1;
-    }
-    &l[a..]
-}
-
-// Without the blanks at the end.
-pub fn trim_end(l: &[u8]) -> &[u8]
-    ensures { λ r. ⌜ now r ≡ trimEnd (now (l .entry)) ⌝ }
-{
-    let mut e = l.len();
-    while 0 < e {
-        if !is_blank(l[e - 1]) {
-            return &l[..e];
-        }
-        e -= 1;
-    }
-    &l[..e]
-}
-
-// What is left of a line: the comment and the blanks at both ends are removed.
-pub fn content_of(l: &[u8]) -> &[u8]
-    ensures { λ r. ⌜ now r ≡ content (now (l .entry)) ⌝ }
-{
-    trim_end(trim_front(uncomment(l)))
-}
-
-// Whether two byte strings are the same.
-fn equal(a: &[u8], b: &[u8]) -> bool
-    ensures { λ r. ⌜ r ≡ same (now (a .entry)) (now (b .entry)) ⌝ }
-{
-    if a.len() != b.len() {
-        return false;
-    }
-    let mut i = 0;
-    while i < a.len() {
-        if a[i] != b[i] {
-            return false;
-        }
-        i += 1;
-    }
-    true
-}
-
-fn digit(b: u8) -> u32
-    requires { ⌜ 48 ≤ b ⌝ }
-    ensures { λ r. ⌜ r + 48 ≡ b ⌝ }
-{
-    (b as u32) - 48
-}
-
-// The number of one to five digits and nothing else.
-fn decimal_of(t: &[u8]) -> Number
-    ensures { λ r. ⌜ numberIn r ≡ numberOf (now (t .entry)) ⌝ }
-{
-    if t.len() == 0 || t.len() > DIGITS {
-        return Number::Missing;
-    }
-    let mut n: u32 = 0;
-    let mut i = 0;
-    while i < t.len() {
-        let b = t[i];
-        if b < b'0' || b > b'9' {
-            return Number::Missing;
-        }
-        n = 10 * n + digit(b);
-        i += 1;
-    }
-    Number::Of(n)
-}
-
-// The number after one or more blanks.
-fn argument_of(t: &[u8]) -> Number
-    ensures { λ r. ⌜ numberIn r ≡ argument (now (t .entry)) ⌝ }
-{
-    if t.len() == 0 {
-        return Number::Missing;
-    }
-    if !is_blank(t[0]) {
-        return Number::Missing;
-    }
-    decimal_of(trim_front(&t[1..]))
-}
-
-// `.i`, `.o` or `.p` and a number.
-fn named_of(c: &[u8]) -> Kind
-    ensures { λ r. ⌜ r ≡ named (now (c .entry)) ⌝ }
-{
-    if c.len() < 2 {
-        return Kind::Other;
-    }
-    let a = argument_of(&c[2..]);
-    let Number::Of(n) = a else {
-        return Kind::Other;
-    };
-    let f = &c[..2];
-    if equal(f, b".i") {
-        return Kind::Inputs(n);
-    }
-    if equal(f, b".o") {
-        return Kind::Outputs(n);
-    }
-    if equal(f, b".p") {
-        return Kind::Products(n);
-    }
-    Kind::Other
-}
-
-// The kind of a line by itself.
-pub fn kind_of(c: &[u8]) -> Kind
-    ensures { λ r. ⌜ r ≡ kindOf (now (c .entry)) ⌝ }
-{
-    if c.len() == 0 {
-        return Kind::Empty;
-    }
-    if equal(c, b".e") {
-        return Kind::End;
-    }
-    if equal(c, b".end") {
-        return Kind::End;
-    }
-    named_of(c)
-}
-
-// Whether b is one of the bytes of s.
-fn one_of(b: u8, s: &[u8]) -> bool
-    ensures { λ r. ⌜ r ≡ mem b (now (s .entry)) ⌝ }
+// Whether each of the first n bytes of l is one.
+fn all_of(l: &[u8], n: usize, dash: bool) -> bool
+    requires { ⌜ n ≤ length (now l) ⌝ }
+    ensures { λ r. ⌜ r ≡ all (isSign dash) (take n (now (l .entry))) ⌝ }
 {
     let mut i = 0;
-    while i < s.len() {
-        if s[i] == b {
-            return true;
-        }
-        i += 1;
-    }
-    false
-}
-
-// Whether every byte of l is one of s.
-fn all_of(l: &[u8], s: &[u8]) -> bool
-    ensures { λ r. ⌜ r ≡ all (among (now (s .entry))) (now (l .entry)) ⌝ }
-{
-    let mut i = 0;
-    while i < l.len() {
-        if !one_of(l[i], s) {
+    while i < n {
+        if !is_sign(l[i], dash) {
             return false;
         }
         i += 1;
@@ -256,15 +64,15 @@ fn with_place(c: Cube, v: u32, b: u8) -> Cube
     c
 }
 
-// The literals of the places.
-fn cube_of(p: &[u8]) -> Cube
-    requires { ⌜ length (now p) ≤ 32 ⌝ }
-    ensures { λ r. ⌜ lits r ≡ cubeFrom 0 (now (p .entry)) ⌝ }
+// The literals of the first n places.
+fn cube_of(p: &[u8], n: usize) -> Cube
+    requires { ⌜ (n ≤ 32) × (n ≤ length (now p)) ⌝ }
+    ensures { λ r. ⌜ lits r ≡ cubeFrom 0 (take n (now (p .entry))) ⌝ }
 {
     let mut c = cube::empty();
     let mut v: u32 = 0;
     let mut i = 0;
-    while i < p.len() {
+    while i < n {
         c = with_place(c, v, p[i]);
         v += 1;
         i += 1;
@@ -289,30 +97,53 @@ fn marks_of(o: &[u8]) -> u64
     mask
 }
 
+// Whether n places, a blank and m marks have room in k bytes; n and m are at most 32.
+fn has_room(k: usize, n: usize, m: usize) -> bool
+    ensures { λ r. ⌜ r ≡ roomy k n m ⌝ }
+{
+    if n > MOST || m > MOST {
+        return false;
+    }
+    n + m < k
+}
+
+// Whether m marks and nothing else are left.
+fn has_marks(o: &[u8], m: usize) -> bool
+    ensures { λ r. ⌜ r ≡ hasMarks m (now (o .entry)) ⌝ }
+{
+    if o.len() != m {
+        return false;
+    }
+    all_of(o, m, false)
+}
+
+// The cube and the mask, with the rows: as many as the mask has ones.
+fn counted(c: Cube, marks: u64) -> Parsed
+    ensures { λ r. ⌜ parsedOf r ≡ entered (lits c) marks ⌝ }
+{
+    Parsed::Line(c, marks, u64::count_ones(marks) as u64)
+}
+
+// The cube line of the first n places and of what is left after the blanks, if that is m marks.
+fn marked(c: &[u8], n: usize, o: &[u8], m: usize) -> Parsed
+    requires { ⌜ (n ≤ 32) × (m ≤ 32) × (n ≤ length (now c)) ⌝ }
+    ensures { λ r. ⌜ parsedOf r ≡ markedLine m (take n (now (c .entry))) (now (o .entry)) ⌝ }
+{
+    if !has_marks(o, m) {
+        return Parsed::Nothing;
+    }
+    counted(cube_of(c, n), marks_of(o))
+}
+
 // The cube line of n inputs and m outputs that a line is, if it is one.
 pub fn cube_line(c: &[u8], n: usize, m: usize) -> Parsed
     ensures { λ r. ⌜ parsedOf r ≡ parsing n m (now (c .entry)) ⌝ }
 {
-    if n > MOST || m > MOST {
+    if !has_room(c.len(), n, m) {
         return Parsed::Nothing;
     }
-    if c.len() <= n {
+    if !all_of(c, n, true) {
         return Parsed::Nothing;
     }
-    let p = &c[..n];
-    if !all_of(p, b"01-") {
-        return Parsed::Nothing;
-    }
-    if !is_blank(c[n]) {
-        return Parsed::Nothing;
-    }
-    let o = trim_front(&c[n..]);
-    if o.len() != m {
-        return Parsed::Nothing;
-    }
-    if !all_of(o, b"01") {
-        return Parsed::Nothing;
-    }
-    let marks = marks_of(o);
-    Parsed::Line(cube_of(p), marks, u64::count_ones(marks) as u64)
+    marked(c, n, lines::trim_front(&c[n..]), m)
 }

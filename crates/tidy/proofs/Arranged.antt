@@ -14,7 +14,8 @@ use Rattle.network.specs.Net.{nodes}
 use Rattle.network.specs.Held.{netOf, sized, lawful, rules}
 use Rattle.network.specs.Parts.{nodesOf, Sized}
 use Rattle.network.specs.declared.Network.{Network}
-use Rattle.network.proofs.Holding.{cut-node, nodes-held}
+use Rattle.network.proofs.Holding.{nodes-held}
+use Rattle.nodes.proofs.Cutting.{cut-node}
 use Rattle.network.proofs.Parts.{nodes-at}
 use Rattle.network.proofs.Limits.{sized-out}
 use Rattle.tidy.specs.Tidy.{arranged}

@@ -12,12 +12,12 @@ use Rattle.expression.specs.Words.{cubesOf, Placed}
 use Rattle.expression.specs.Expression.{sort}
 use Rattle.expression.proofs.Sorting.{sort-length}
 use Rattle.expression.proofs.Words.{cubes-length}
-use Rattle.network.specs.Held.{cut}
+use Rattle.nodes.specs.Nodes.{cut}
 use Rattle.network.specs.Handed.{flat}
 use Rattle.network.specs.Parts.{nodesOf, Sized}
-use Rattle.network.proofs.Holding.{cut-length, cut-node, cut-lengths}
+use Rattle.nodes.proofs.Cutting.{cut-length, cut-node, cut-lengths, cut-take}
 use Rattle.network.proofs.Handing.{flat-length, flat-last}
-use Rattle.network.proofs.Parts.{cut-take, start-next}
+use Rattle.nodes.proofs.Starting.{start-next}
 use Rattle.tidy.specs.Parts.{Sortable, Sorts}
 
 -- ---- a front part, and zeros after it
@@ -36,7 +36,7 @@ module _ {A : Type 0} (n : ℕ) (z : A) (l : List A) where
 
 -- within the limits all cubes are there
 pub sized-sortable : {n m k : ℕ} {words counts : List ℕ} → Sized n m k words counts → length words ≡ 2176 → Sortable (m + k) counts words
-sized-sortable {words = words} z p = record { counted = z .lent .counted; there = omega (arith, z .cubes, cubes-length words) }
+sized-sortable {words = words} z p = record { counted = z .counted; there = omega (arith, z .cubes, cubes-length words) }
 
 module _ (counts words : List ℕ) where
   abbrev sorted : ℕ → List (List (List ℕ))

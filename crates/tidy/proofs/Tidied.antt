@@ -1,7 +1,7 @@
 -- A network put in cube order: what it holds, and that this leaves one answer. Assumes nothing.
 use Prim.Native.Nat.{ℕ, _+_, _-_, _*_, _≤_}
 use mathlib.Core.Path.{_≡_, refl, sym, ap, ap₂, _∙_, subst}
-use mathlib.Core.Bool.{Bool, true, false, cond}
+use mathlib.Core.Bool.{Bool, true, false}
 use mathlib.Core.List.{List, [], _∷_, _++_, map}
 use native.Mathlib.Omega.{arith}
 use lib.ListN.{length, take, drop, replicate, length-map, length-drop}
@@ -12,14 +12,14 @@ use Rattle.expression.specs.Expression.{sort}
 use Rattle.expression.proofs.Sorting.{sort-length}
 use Rattle.expression.proofs.Words.{fit, cubes-take, cubes-append, spare-take, zeros}
 use Rattle.network.specs.Net.{nodes, cubeCount}
-use Rattle.network.specs.Held.{cut, used, netOf, rules}
+use Rattle.network.specs.Held.{used, netOf, rules}
+use Rattle.nodes.specs.Nodes.{cut}
 use Rattle.network.specs.Handed.{flat, Holds, Blank}
 use Rattle.network.specs.Parts.{heldIn, Sized}
-use Rattle.network.specs.Answers.{judged}
 use Rattle.network.specs.declared.Network.{Network}
-use Rattle.network.specs.declared.Judged.{Judged}
 use Rattle.network.specs.declared.Judged.the-variants.{Accepted, Refused}
-use Rattle.network.proofs.Holding.{cut-length, nodes-held, rules-outputs, rules-divisors}
+use Rattle.network.proofs.Holding.{nodes-held, rules-outputs, rules-divisors}
+use Rattle.nodes.proofs.Cutting.{cut-length}
 use Rattle.network.proofs.Limits.{rules-sized}
 use Rattle.network.proofs.Handing.{flat-length, holds-one, blank-one}
 use Rattle.extraction.specs.Run.{inOrder}
@@ -59,7 +59,7 @@ module _ (n : Network) (slots : length (n .counts) ≡ 96) (places : length (n .
   nodes-are = in-order-nodes (netOf n) ∙ ap (map sort) (nodes-held n)
 
   size : length (nodes (inOrder (netOf n))) ≡ e
-  size = ap length nodes-are ∙ length-map (cut (used n) (cubesOf (n .words))) sort ∙ cut-length (used n) (cubesOf (n .words)) ∙ length-take-le e (n .counts) (within .lent .counted)
+  size = ap length nodes-are ∙ length-map (cut (used n) (cubesOf (n .words))) sort ∙ cut-length (used n) (cubesOf (n .words)) ∙ length-take-le e (n .counts) (within .counted)
 
   -- the struct holds the network in cube order
   pub sorts-holds : (new : List ℕ) (t : ℕ) → length new ≡ 2176 → Sorts e (n .counts) (n .words) new t
@@ -83,24 +83,6 @@ module _ (n : Network) (slots : length (n .counts) ≡ 96) (places : length (n .
       count = ap (total length) nodes-are ∙ sym (flat-length gs) ∙ whole
 
 -- ---- the answer
-
-module _ (n : Network) (j : Judged) (e : j ≡ judged n) where
-  -- what the judgement says of the rules
-  pub judged-kept : j ≡ Accepted → rules n ≡ true
-  unfolding judged
-  judged-kept q = go (rules n) (sym e ∙ q)
-    where
-      go : (b : Bool) → cond b Accepted (Refused 10) ≡ Accepted → b ≡ true
-      go true p = refl
-      go false p = let z : _≡_ {A = ℕ} 0 1 = cc in absurd (omega arith)
-
-  pub judged-broken : (k : ℕ) → j ≡ Refused k → (rules n ≡ false) × (j ≡ Refused 10)
-  unfolding judged
-  judged-broken k q = go (rules n) refl (sym e ∙ q)
-    where
-      go : (b : Bool) → rules n ≡ b → cond b Accepted (Refused 10) ≡ Refused k → (rules n ≡ false) × (j ≡ Refused 10)
-      go true r p = let z : _≡_ {A = ℕ} 0 1 = cc in absurd (omega arith)
-      go false r p = (r, e ∙ rw r)
 
 pub tidied-kept : (n : Network) (r : Tidy) → rules n ≡ true → r .answer ≡ Accepted → Holds (r .network) (inOrder (netOf n)) → Tidied n r
 tidied-kept n r h a k = subst (λ (b : Bool). tidied b n r) (sym h) (a, k)

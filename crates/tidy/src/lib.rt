@@ -112,7 +112,7 @@ fn front_counts(counts: &[usize], n: usize) -> [usize; network::NODES]
 pub fn in_order(n: Network) -> Tidy
     ensures { λ r. ⌜ Tidied n r ⌝ }
 {
-    let answer = network::judge(n);
+    let answer = ruling::judge(n);
     let Judged::Accepted = answer else {
         return Tidy {
             answer,

@@ -12,7 +12,7 @@ use Rattle.sets.specs.Sets.{sub, same}
 use Rattle.cube.specs.Cube.{lits}
 use Rattle.expression.specs.Words.{cubesOf, spareOf}
 use Rattle.expression.proofs.Words.{cubes-asc}
-use Rattle.expression.proofs.Compacting.{Stands, stands-first, stands-number, stands-end, turn-dropped, turn-kept}
+use Rattle.absorbing.proofs.Compacting.{Stands, stands-first, stands-number, stands-end, turn-dropped, turn-kept}
 use Rattle.absorbing.proofs.absorb.Statement.{statement}
 use Rattle.absorbing.proofs.absorb.Tie as tie
 

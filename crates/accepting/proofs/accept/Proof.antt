@@ -1,7 +1,7 @@
 -- `accepting::accept` meets its contract: each refusal by what the tests before it say. Assumes nothing.
 use mathlib.Core.Path.{sym, _∙_}
 use borrow.Author.Tests.{not-true, not-false}
-use Rattle.expression.proofs.Accepting.{refused-many, refused-spare, refused-else}
+use Rattle.accepting.proofs.Accepting.{refused-many, refused-spare, refused-else}
 use borrow.Author.Needs.{needs}
 use Rattle.accepting.proofs.accept.Statement.{statement}
 use Rattle.accepting.proofs.accept.Tie as tie

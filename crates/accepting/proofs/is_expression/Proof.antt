@@ -2,7 +2,7 @@
 use mathlib.Core.Path.{sym, _∙_}
 use borrow.Author.Needs.{needs}
 use borrow.Author.Tests.{not-true, not-false}
-use Rattle.expression.proofs.Accepting.{cubes-proper}
+use Rattle.accepting.proofs.Accepting.{cubes-proper}
 use Rattle.accepting.proofs.is_expression.Statement.{statement}
 use Rattle.accepting.proofs.is_expression.Tie as tie
 

@@ -10,7 +10,8 @@ use Rattle.cube.specs.Cube.{lits}
 use Rattle.expression.specs.Words.{cubesOf}
 use Rattle.network.specs.Held.{mostCubes}
 use Rattle.network.specs.Parts.{nodesOf}
-use Rattle.network.proofs.Parts.{start-next, nodes-length}
+use Rattle.network.proofs.Parts.{nodes-length}
+use Rattle.nodes.proofs.Starting.{start-next}
 use Rattle.choice.proofs.Counting.{total-take-le, node-part, node-few, node-ordered, uses-few, literals-few, CountingAll, all-none, all-more, all-counted}
 use Rattle.choice.proofs.count_all.Statement.{statement}
 use Rattle.choice.proofs.count_all.Tie as tie

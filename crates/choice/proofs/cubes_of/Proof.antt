@@ -5,7 +5,7 @@ use native.Mathlib.Omega.{arith}
 use borrow.Author.Needs.{needs}
 use lib.ListN.{take}
 use Rattle.sets.specs.Lists.{total}
-use Rattle.network.proofs.Parts.{start-next}
+use Rattle.nodes.proofs.Starting.{start-next}
 use Rattle.choice.proofs.Counting.{total-take-le}
 use Rattle.choice.proofs.cubes_of.Statement.{statement}
 use Rattle.choice.proofs.cubes_of.Tie as tie

@@ -9,7 +9,7 @@ use lib.ListN.{length, drop, getD}
 use Rattle.sets.specs.Lists.{any}
 use Rattle.cube.specs.Cube.{lits}
 use Rattle.expression.specs.Words.{cubesOf}
-use Rattle.network.proofs.Parts.{test-stop, test-on, test-done}
+use Rattle.known.proofs.Testing.{test-stop, test-on, test-done}
 use Rattle.extraction.specs.Divisor.{useOf}
 use Rattle.divisor.proofs.Using.{found-use}
 use Rattle.choice.proofs.is_used.Statement.{statement}

@@ -8,7 +8,8 @@ use Rattle.sets.specs.Sets.{sub}
 use Rattle.cube.specs.Cube.{lits, joined}
 use Rattle.expression.specs.Words.{cubesOf}
 use Rattle.extraction.specs.Divisor.{pair}
-use Rattle.choice.specs.Parts.{taken, Adds, Cubes}
+use Rattle.rank.specs.Rank.{taken}
+use Rattle.choice.specs.Parts.{Adds, Cubes}
 use Rattle.choice.proofs.Counting.{kept-le}
 use Rattle.choice.proofs.Pairs.{two-literals, pair-judged}
 use borrow.Author.Needs.{needs}

@@ -47,7 +47,7 @@ returns c =
     let l = c .before in
     let s = l .before .before in
     let e : l .loop .p ≡ 0 = omega arith in
-    subst (λ (x : ℕ). Adds (Cubes (cubesOf (s .args .s .now))) [] (pairsIn (from x (128 - x))) (s .args .held) (l .loop .r)) e (l .loop .inv .1)
+    subst (λ (x : ℕ). Adds (Cubes (cubesOf (s .args .s .now))) [] (pairsIn (from x (128 - x))) (s .args .held) (l .loop .held)) e (l .loop .inv .1)
 
 pub judge-pairs-spec : {M : Type 1} → statement M
 judge-pairs-spec =

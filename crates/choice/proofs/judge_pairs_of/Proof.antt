@@ -73,7 +73,7 @@ returns-2 c =
     let s = start l in
     let e : l .loop .q ≡ s .args .p + 1 = omega arith in
     let g : 128 - l .loop .q ≡ 127 - s .args .p = omega arith in
-    subst (λ x. Adds (Cubes (cubesOf (s .args .s .now))) [] (map (pair (s .args .p)) x) (s .args .held) (l .loop .r)) (ap₂ from e g) (l .loop .inv .2)
+    subst (λ x. Adds (Cubes (cubesOf (s .args .s .now))) [] (map (pair (s .args .p)) x) (s .args .held) (l .loop .held)) (ap₂ from e g) (l .loop .inv .2)
 
 pub judge-pairs-of-spec : {M : Type 1} → statement M
 judge-pairs-of-spec =

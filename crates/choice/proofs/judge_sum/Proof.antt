@@ -7,7 +7,8 @@ use native.Mathlib.Omega.{arith}
 use Rattle.cube.specs.Cube.{lits}
 use Rattle.network.specs.Parts.{nodesOf}
 use Rattle.extraction.specs.Divisor.{sum}
-use Rattle.choice.specs.Parts.{taken, Adds, Nodes}
+use Rattle.rank.specs.Rank.{taken}
+use Rattle.choice.specs.Parts.{Adds, Nodes}
 use Rattle.choice.proofs.Counting.{uses-few, literals-few}
 use Rattle.choice.proofs.Sums.{small-out, sum-judged}
 use borrow.Author.Needs.{needs}

@@ -9,7 +9,8 @@ use Rattle.sets.specs.Lists.{total}
 use Rattle.sets.proofs.Places.{at-in}
 use Rattle.expression.specs.Words.{cubesOf}
 use Rattle.network.specs.Parts.{nodesOf}
-use Rattle.network.proofs.Parts.{start-next, nodes-length}
+use Rattle.network.proofs.Parts.{nodes-length}
+use Rattle.nodes.proofs.Starting.{start-next}
 use Rattle.extraction.specs.Extract.{gather, sumsIn}
 use Rattle.choice.specs.Parts.{Adds, Nodes}
 use Rattle.choice.proofs.Judging.{adds-none, adds-more}
@@ -99,7 +100,7 @@ returns c =
     let l = c .before in
     let s = start l in
     let e : l .loop .k ≡ 0 = omega arith in
-    subst (λ (x : ℕ). Adds (Nodes (held s)) [] (gather sumsIn (drop x (held s))) (s .args .held) (l .loop .r)) e (l .loop .inv .2)
+    subst (λ (x : ℕ). Adds (Nodes (held s)) [] (gather sumsIn (drop x (held s))) (s .args .held) (l .loop .held)) e (l .loop .inv .2)
 
 pub judge-sums-spec : {M : Type 1} → statement M
 judge-sums-spec =

@@ -25,10 +25,10 @@ use Rattle.choice.proofs.judge_sums_in.Statement.{statement}
 use Rattle.choice.proofs.judge_sums_in.Tie as tie
 
 abbrev Inv-loop : tie.InvT-loop
-Inv-loop words counts e t s n r₀ i₀ r i = (i ≤ length (cubesOf s)) × Adds (Nodes (nodesOf e counts words)) [] (sumsIn (drop i (cubesOf s))) r₀ r
+Inv-loop words counts e t s r₀ n i₀ r i = (i ≤ length (cubesOf s)) × Adds (Nodes (nodesOf e counts words)) [] (sumsIn (drop i (cubesOf s))) r₀ r
 
 abbrev μ-loop : tie.MeasureT-loop
-μ-loop words counts e t s n r₀ i₀ r i = i
+μ-loop words counts e t s r₀ n i₀ r i = i
 
 abbrev start : tie.At-loop Inv-loop μ-loop → tie.Start Inv-loop μ-loop
 start l = l .before .before .before .before .before
@@ -105,7 +105,7 @@ returns c =
     let l = c .before in
     let s = start l in
     let e : l .loop .i ≡ 0 = omega arith in
-    subst (λ (x : ℕ). Adds (Nodes (held s)) [] (sumsIn (drop x (cubesOf (s .args .s .now)))) (s .args .held) (l .loop .r)) e (l .loop .inv .1)
+    subst (λ (x : ℕ). Adds (Nodes (held s)) [] (sumsIn (drop x (cubesOf (s .args .s .now)))) (s .args .held) (l .loop .held)) e (l .loop .inv .1)
 
 pub judge-sums-in-spec : {M : Type 1} → statement M
 judge-sums-in-spec =

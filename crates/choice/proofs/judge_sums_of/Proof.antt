@@ -77,7 +77,7 @@ returns c =
     let l = c .before in
     let s = l .before .before .before .before .before in
     let e : l .loop .j ≡ 0 = omega arith in
-    subst (λ (x : ℕ). Adds (Nodes (held s)) (known s) (gather (sumOf (lits (s .args .c))) (drop x (cubesOf (s .args .s .now)))) (s .args .held) (l .loop .r)) e (l .loop .inv .1)
+    subst (λ (x : ℕ). Adds (Nodes (held s)) (known s) (gather (sumOf (lits (s .args .c))) (drop x (cubesOf (s .args .s .now)))) (s .args .held) (l .loop .held)) e (l .loop .inv .1)
 
 pub judge-sums-of-spec : {M : Type 1} → statement M
 judge-sums-of-spec =

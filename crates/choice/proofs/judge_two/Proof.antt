@@ -1,12 +1,16 @@
 -- `choice::judge_two` meets its contract: a case for each way the tests go. Assumes nothing.
 use Prim.Native.Nat.{ℕ}
 use mathlib.Core.Path.{_≡_, sym, _∙_, ap, ap₂, subst}
+use mathlib.Core.Logic.{inl, inr}
 use mathlib.Core.Bool.{true, false}
 use mathlib.Core.List.{List, [], _∷_}
+use native.Mathlib.Omega.{arith}
 use borrow.Author.Tests.{not-true, not-false}
 use Rattle.sets.specs.Sets.{without, before}
 use Rattle.sets.proofs.Literals.{literals-asc}
-use Rattle.cube.specs.Cube.{lits}
+use Rattle.sets.proofs.Truth.{refuted}
+use Rattle.cube.specs.Cube.{lits, orderOf}
+use Rattle.cube.proofs.Verdict.{is-before, told}
 use Rattle.expression.specs.Words.{cubesOf}
 use Rattle.network.specs.Parts.{nodesOf}
 use Rattle.extraction.specs.Divisor.{Divisor, sum, small}
@@ -19,7 +23,7 @@ use borrow.Author.Needs.{needs}
 use Rattle.choice.proofs.judge_two.Statement.{statement}
 use Rattle.choice.proofs.judge_two.Tie as tie
 
-abbrev start : tie.After-is-before → tie.Start
+abbrev start : tie.After-compare → tie.Start
 start c = c .before .before .before .before .before .before .before .before .before .before
 
 -- the nodes, and the sums that are judged
@@ -42,19 +46,21 @@ right c = ap small (sym (c .before .before .before .without2 .ensures)) ∙ sym 
 right-small : (c : tie.Else2) → small (without (lits (c .before .before .before .before .before .before .before .before .before .args .d)) (lits (c .before .before .before .before .before .before .before .before .before .args .c))) ≡ true
 right-small c = right (c .before) ∙ not-false _ (c .if2 .left)
 
-ordered : (c : tie.After-is-before)
-    → before (without (lits (start c .args .c)) (lits (start c .args .d))) (without (lits (start c .args .d)) (lits (start c .args .c))) ≡ c .is-before .result
-ordered c = ap₂ before (sym (c .before .before .before .before .before .before .without .ensures)) (sym (c .before .before .before .before .before .without2 .ensures)) ∙ sym (c .is-before .ensures)
+-- what the comparison of the parts says
+abbrev first : tie.After-compare → List ℕ
+first c = without (lits (start c .args .c)) (lits (start c .args .d))
 
-in-order : (c : tie.After-is-before) → c .is-before .result ≡ true
-    → (sumOf (lits (start c .args .c)) (lits (start c .args .d)) ≡ sum (without (lits (start c .args .c)) (lits (start c .args .d))) (without (lits (start c .args .d)) (lits (start c .args .c))) ∷ [])
-    × Parts (without (lits (start c .args .c)) (lits (start c .args .d))) (without (lits (start c .args .d)) (lits (start c .args .c)))
-in-order c h = left-first _ _ (left-small (c .before .before .before)) (right-small (c .before)) (literals-asc 64 _ _) (literals-asc 64 _ _) (ordered c ∙ h)
+abbrev second : tie.After-compare → List ℕ
+second c = without (lits (start c .args .d)) (lits (start c .args .c))
 
-turned : (c : tie.After-is-before) → c .is-before .result ≡ false
-    → (sumOf (lits (start c .args .c)) (lits (start c .args .d)) ≡ sum (without (lits (start c .args .d)) (lits (start c .args .c))) (without (lits (start c .args .c)) (lits (start c .args .d))) ∷ [])
-    × Parts (without (lits (start c .args .d)) (lits (start c .args .c))) (without (lits (start c .args .c)) (lits (start c .args .d)))
-turned c h = right-first _ _ (left-small (c .before .before .before)) (right-small (c .before)) (literals-asc 64 _ _) (literals-asc 64 _ _) (ordered c ∙ h)
+told-order : (c : tie.After-compare) → c .compare .result ≡ orderOf (first c) (second c)
+told-order c = c .compare .ensures ∙ ap₂ orderOf (c .before .before .before .before .before .before .without .ensures) (c .before .before .before .before .before .without2 .ensures)
+
+in-order : (c : tie.After-compare) → before (first c) (second c) ≡ true → (sumOf (lits (start c .args .c)) (lits (start c .args .d)) ≡ sum (first c) (second c) ∷ []) × Parts (first c) (second c)
+in-order c h = left-first _ _ (left-small (c .before .before .before)) (right-small (c .before)) (literals-asc 64 _ _) (literals-asc 64 _ _) h
+
+turned : (c : tie.After-compare) → before (first c) (second c) ≡ false → (sumOf (lits (start c .args .c)) (lits (start c .args .d)) ≡ sum (second c) (first c) ∷ []) × Parts (second c) (first c)
+turned c h = right-first _ _ (left-small (c .before .before .before)) (right-small (c .before)) (literals-asc 64 _ _) (literals-asc 64 _ _) h
 
 without-requires : tie.Need-without-requires
 without-requires c κs = search needs
@@ -78,30 +84,39 @@ returns-2 c =
     let s = c .before .before .before .before .before .before .before .before .before in
     subst (λ x. Adds (Nodes (held s)) (known s) x (s .args .held) (s .args .held)) (sym (no-right _ _ (left-small (c .before .before)) (right (c .before) ∙ not-true _ (c .if2 .taken)))) (adds-none (known s) (s .args .held))
 
-is-before-requires : tie.Need-is-before-requires
-is-before-requires c κs = search needs
+compare-requires : tie.Need-compare-requires
+compare-requires c κs = search needs
+
+enum-told : tie.Need-enum-told
+enum-told c = search needs
 
 judge-new-requires : tie.Need-judge-new-requires
 judge-new-requires c κs =
-    let s = start (c .before) in
-    (s .pre .0, s .pre .1, rw (c .before .before .before .before .before .before .before .without .ensures, c .before .before .before .before .before .before .without2 .ensures) (in-order (c .before) (c .if3 .taken) .1))
+    let t = c .before in
+    let s = start t in
+    let n = refuted (λ b. elim (rw (told-order t ∙ sym (is-before _ _ b)) at (c .match .keys2)) [ inl w ↦ omega arith | inr w ↦ omega arith ]) in
+    (s .pre .0, s .pre .1, rw (t .before .before .before .before .before .before .without .ensures, t .before .before .before .before .before .without2 .ensures) (turned t n .1))
 
 returns-3 : tie.Need-returns-3
 returns-3 c =
-    let s = start (c .before .before) in
+    let t = c .before .before in
+    let s = start t in
+    let n = refuted (λ b. elim (rw (told-order t ∙ sym (is-before _ _ b)) at (c .before .match .keys2)) [ inl w ↦ omega arith | inr w ↦ omega arith ]) in
     subst (λ x. Adds (Nodes (held s)) (known s) x (s .args .held) (c .judge-new .result))
-    (ap₂ (λ x y. sum x y ∷ []) (c .before .before .before .before .before .before .before .before .without .ensures) (c .before .before .before .before .before .before .before .without2 .ensures) ∙ sym (in-order (c .before .before) (c .before .if3 .taken) .0)) (c .judge-new .ensures)
+    (ap₂ (λ x y. sum y x ∷ []) (t .before .before .before .before .before .before .without .ensures) (t .before .before .before .before .before .without2 .ensures) ∙ sym (turned t n .0)) (c .judge-new .ensures)
 
 judge-new-requires-2 : tie.Need-judge-new-requires-2
 judge-new-requires-2 c κs =
-    let s = start (c .before) in
-    (s .pre .0, s .pre .1, rw (c .before .before .before .before .before .before .before .without .ensures, c .before .before .before .before .before .before .without2 .ensures) (turned (c .before) (c .if3 .left) .1))
+    let t = c .before .before in
+    let s = start t in
+    (s .pre .0, s .pre .1, rw (t .before .before .before .before .before .before .without .ensures, t .before .before .before .before .before .without2 .ensures) (in-order t (told _ _ .first (sym (told-order t) ∙ c .enum-told .given .1)) .1))
 
 returns-4 : tie.Need-returns-4
 returns-4 c =
-    let s = start (c .before .before) in
+    let t = c .before .before .before in
+    let s = start t in
     subst (λ x. Adds (Nodes (held s)) (known s) x (s .args .held) (c .judge-new2 .result))
-    (ap₂ (λ x y. sum y x ∷ []) (c .before .before .before .before .before .before .before .before .without .ensures) (c .before .before .before .before .before .before .before .without2 .ensures) ∙ sym (turned (c .before .before) (c .before .if3 .left) .0)) (c .judge-new2 .ensures)
+    (ap₂ (λ x y. sum x y ∷ []) (t .before .before .before .before .before .before .without .ensures) (t .before .before .before .before .before .without2 .ensures) ∙ sym (in-order t (told _ _ .first (sym (told-order t) ∙ c .before .enum-told .given .1)) .0)) (c .judge-new2 .ensures)
 
 pub judge-two-spec : {M : Type 1} → statement M
 judge-two-spec =
@@ -113,7 +128,8 @@ judge-two-spec =
     returns
     is-small-requires-2
     returns-2
-    is-before-requires
+    compare-requires
+    enum-told
     judge-new-requires
     returns-3
     judge-new-requires-2

@@ -1,34 +1,25 @@
--- `cube::has` meets its contract. Assumes nothing.
-use mathlib.Core.Path.{sym, _∙_, ap}
-use native.Mathlib.Omega.{arith}
-use Rattle.sets.proofs.Digits.{bit-test}
-use Rattle.sets.proofs.Literals.{mem-even, mem-odd, mem-wide}
+-- `cube::has` meets its contract: a literal is held where its bit is in the mask of its polarity. Assumes nothing.
+use Prim.Native.Nat.{ℕ}
+use mathlib.Core.Path.{_∙_, ap₂}
+use mathlib.Core.Bool.{not}
+use lib.Bits.{bitAnd, bitOr}
+use lib.Dec.{eqb}
 use borrow.Author.Needs.{needs}
+use Rattle.sets.proofs.Literals.{mem-single}
 use Rattle.cube.proofs.has.Statement.{statement}
 use Rattle.cube.proofs.has.Tie as tie
 
+bit-requires : tie.Need-bit-requires
+bit-requires c κs = search needs
+
+bit-requires-2 : tie.Need-bit-requires-2
+bit-requires-2 c κs = search needs
+
 returns : tie.Need-returns
-returns c = sym (mem-wide 64 _ _ _ (c .if1 .taken))
-
-cast-result : tie.Need-cast-result
-cast-result c = search needs
-
-shr-result : tie.Need-shr-result
-shr-result c = search needs
-
-cast-result-2 : tie.Need-cast-result-2
-cast-result-2 c = search needs
-
-shr-result-2 : tie.Need-shr-result-2
-shr-result-2 c = search needs
-
-returns-2 : tie.Need-returns-2
-returns-2 c = bit-test _ _ ∙ sym (mem-even 64 _ _ _ (omega arith) (c .before .if2 .taken))
-
-returns-3 : tie.Need-returns-3
-returns-3 c = bit-test _ _ ∙ sym (mem-odd 64 _ _ _ (omega arith) (c .before .if2 .left))
+returns c =
+    let a = c .before .before .before .before .args in
+    ap₂ (λ (x y : ℕ). not (eqb (bitOr (bitAnd (a .c .plain) x) (bitAnd (a .c .negated) y)) 0)) (c .before .before .before .bit .ensures) (c .before .bit2 .ensures)
+    ∙ mem-single 64 (a .l .0) (a .c .plain) (a .c .negated)
 
 pub has-spec : {M : Type 1} → statement M
-has-spec =
-    tie.close
-    (tie.spec returns cast-result shr-result cast-result-2 shr-result-2 returns-2 returns-3)
+has-spec = tie.close (tie.spec bit-requires bit-requires-2 returns)

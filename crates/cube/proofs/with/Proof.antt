@@ -1,27 +1,24 @@
 -- `cube::with` meets its contract: the bit of the literal is set in the mask of its polarity. Assumes nothing.
-use native.Mathlib.Omega.{arith}
+use Prim.Native.Nat.{ℕ}
+use mathlib.Core.Path.{_∙_, ap₂}
+use lib.Bits.{bitOr}
 use borrow.Author.Needs.{needs}
-use Rattle.sets.proofs.Literals.{joined-wide, joined-even, joined-odd}
+use Rattle.sets.specs.Masks.{literals}
+use Rattle.sets.proofs.Literals.{literals-single}
 use Rattle.cube.proofs.with.Statement.{statement}
 use Rattle.cube.proofs.with.Tie as tie
 
-mul-if1 : tie.Need-mul-if1
-mul-if1 c = search needs
+bit-requires : tie.Need-bit-requires
+bit-requires c κs = search needs
+
+bit-requires-2 : tie.Need-bit-requires-2
+bit-requires-2 c κs = search needs
 
 returns : tie.Need-returns
-returns c = joined-wide 64 _ _ _ (c .if1 .taken)
-
-cast-one : tie.Need-cast-one
-cast-one c = search needs
-
-shl-one : tie.Need-shl-one
-shl-one c = search needs
-
-returns-2 : tie.Need-returns-2
-returns-2 c = joined-even 64 _ _ _ (omega arith) (c .before .if2 .taken)
-
-returns-3 : tie.Need-returns-3
-returns-3 c = joined-odd 64 _ _ _ (omega arith) (c .before .if2 .left)
+returns c =
+    let a = c .before .before .before .before .args in
+    ap₂ (λ (x y : ℕ). literals 64 (bitOr (a .c .plain) x) (bitOr (a .c .negated) y)) (c .before .before .before .bit .ensures) (c .before .bit2 .ensures)
+    ∙ literals-single 64 (a .l .0) (a .c .plain) (a .c .negated)
 
 pub with-spec : {M : Type 1} → statement M
-with-spec = tie.close (tie.spec mul-if1 returns cast-one shl-one returns-2 returns-3)
+with-spec = tie.close (tie.spec bit-requires bit-requires-2 returns)

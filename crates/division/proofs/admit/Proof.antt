@@ -1,11 +1,18 @@
 -- `division::admit` meets its contract: the parts in their order. Assumes nothing.
-use mathlib.Core.Path.{_∙_, ap₂}
+use mathlib.Core.Path.{_≡_, _∙_, ap₂}
 use borrow.Author.Needs.{needs}
-use Rattle.sets.specs.Lists.{orElse}
+use Rattle.expression.specs.Answers.{refusal, refusalOf}
 use Rattle.division.specs.Answers.{either}
-use Rattle.division.specs.Parts.{admitted}
+use Rattle.division.proofs.Refusing.{admitted-early, admitted-late}
 use Rattle.division.proofs.admit.Statement.{statement}
 use Rattle.division.proofs.admit.Tie as tie
+
+abbrev start : tie.After-lesser → tie.Start
+start l = l .before .before .before .before .before
+
+-- the refusal of either
+first : (l : tie.After-lesser) → refusalOf (l .lesser .result) ≡ either (refusal (start l .args .f .now)) (refusal (start l .args .d .now))
+first l = l .lesser .ensures ∙ ap₂ either (l .before .before .accept .ensures) (l .before .accept2 .ensures)
 
 accept-requires : tie.Need-accept-requires
 accept-requires c κs = search needs
@@ -16,17 +23,23 @@ accept-requires-2 c κs = search needs
 lesser-requires : tie.Need-lesser-requires
 lesser-requires c κs = search needs
 
+enum-told : tie.Need-enum-told
+enum-told c = search needs
+
+enum-told-2 : tie.Need-enum-told-2
+enum-told-2 c = search needs
+
+returns : tie.Need-returns
+returns c = let l = c .before .before in admitted-early (start l .args .f .now) (start l .args .d .now) _ (first l) _ (c .enum-told2 .given .1)
+
 accept-divisor-requires : tie.Need-accept-divisor-requires
 accept-divisor-requires c κs = search needs
 
-first-of-requires : tie.Need-first-of-requires
-first-of-requires c κs = search needs
-
-returns : tie.Need-returns
-unfolding admitted
-returns c =
-    let l = c .before .before in
-    c .first-of .ensures ∙ ap₂ orElse (l .lesser .ensures ∙ ap₂ either (l .before .before .accept .ensures) (l .before .accept2 .ensures)) (c .before .accept-divisor .ensures)
+returns-2 : tie.Need-returns-2
+returns-2 c =
+    let e = c .before in
+    let l = e .before .before in
+    admitted-late (start l .args .f .now) (start l .args .d .now) _ (first l) (c .accept-divisor .result) (e .enum-told .given .1) (c .accept-divisor .ensures)
 
 pub admit-spec : {M : Type 1} → statement M
 admit-spec =
@@ -35,6 +48,8 @@ admit-spec =
     accept-requires
     accept-requires-2
     lesser-requires
+    enum-told
+    enum-told-2
+    returns
     accept-divisor-requires
-    first-of-requires
-    returns)
+    returns-2)

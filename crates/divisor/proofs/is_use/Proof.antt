@@ -8,7 +8,7 @@ use Rattle.sets.specs.Sets.{sub, apart, union, without}
 use Rattle.sets.proofs.Sets.{meet-none}
 use Rattle.cube.specs.Cube.{lits}
 use Rattle.expression.specs.Words.{cubesOf}
-use Rattle.expression.specs.Expression.{findIn}
+use Rattle.survey.specs.Search.{findIn}
 use Rattle.expression.specs.Answers.{placeOf}
 use Rattle.divisor.specs.Divisor.{foundUse}
 use Rattle.divisor.proofs.is_use.Statement.{statement}

@@ -1,52 +1,42 @@
 -- `expression::cube_at` meets its contract: the words of a cube are its masks. Assumes nothing.
-use mathlib.Core.Path.{sym, _∙_}
+use Prim.Native.Nat.{ℕ, _+_, _*_, _/_}
+use mathlib.Core.Path.{_≡_, sym, _∙_, ap₂}
+use mathlib.Core.Bool.{true, false, cond}
+use mathlib.Core.List.{List, []}
+use mathlib.Core.Logic.{_⊎_, inl, inr}
 use native.Mathlib.Omega.{arith}
-use Rattle.expression.proofs.Words.{cubes-at, cubes-past}
+use lib.Dec.{ltb}
+use lib.ListN.{length, getD}
 use borrow.Author.Needs.{needs}
+use borrow.Author.Tests.{ltb-true, ltb-false}
+use Rattle.sets.specs.Masks.{literals}
+use Rattle.sets.proofs.Truth.{decided}
+use Rattle.sets.proofs.Literals.{literals-none}
+use Rattle.cube.specs.Cube.{width}
+use Rattle.expression.specs.Words.{cubesOf}
+use Rattle.expression.proofs.Words.{cubes-at, cubes-past}
 use Rattle.expression.proofs.cube_at.Statement.{statement}
 use Rattle.expression.proofs.cube_at.Tie as tie
 
-mul-t7 : tie.Need-mul-t7
-mul-t7 c = search needs
+-- word k of cube i, as it is read
+abbrev word : List ℕ → ℕ → ℕ → ℕ
+word ws i k = cond (ltb i (length ws / 2)) (getD ws (2 * i + k) 0) 0
 
-mul-t8 : tie.Need-mul-t8
-mul-t8 c = search needs
+paired : (ws : List ℕ) (i : ℕ) → literals width (word ws i 0) (word ws i 1) ≡ getD (cubesOf ws) i []
+paired ws i = go (decided (ltb i (length ws / 2)))
+  where
+    go : (ltb i (length ws / 2) ≡ true) ⊎ (ltb i (length ws / 2) ≡ false) → literals width (word ws i 0) (word ws i 1) ≡ getD (cubesOf ws) i []
+    go (inl t) = let z : 2 * i + 0 ≡ 2 * i = omega arith in rw (t, z) (sym (cubes-at ws i (ltb-true i (length ws / 2) t)))
+    go (inr t) = rw t (literals-none width ∙ sym (cubes-past ws i (ltb-false i (length ws / 2) t)))
 
-shared-slice-read-t10 : tie.Need-shared-slice-read-t10
-shared-slice-read-t10 c = search needs
+word-at-requires : tie.Need-word-at-requires
+word-at-requires c κs = search needs
 
-mul-t11 : tie.Need-mul-t11
-mul-t11 c = search needs
-
-add-t12 : tie.Need-add-t12
-add-t12 c = search needs
-
-mul-t13 : tie.Need-mul-t13
-mul-t13 c = search needs
-
-shared-slice-read-t15 : tie.Need-shared-slice-read-t15
-shared-slice-read-t15 c = search needs
-
-empty-requires : tie.Need-empty-requires
-empty-requires c κs = search needs
+word-at-requires-2 : tie.Need-word-at-requires-2
+word-at-requires-2 c κs = search needs
 
 returns : tie.Need-returns
-returns c = sym (cubes-at _ _ (omega arith))
-
-returns-2 : tie.Need-returns-2
-returns-2 c = c .empty .ensures ∙ sym (cubes-past _ _ (omega arith))
+returns c = ap₂ (literals width) (c .before .word-at .ensures) (c .word-at2 .ensures) ∙ paired _ _
 
 pub cube-at-spec : {M : Type 1} → statement M
-cube-at-spec =
-    tie.close
-    (tie.spec
-    mul-t7
-    mul-t8
-    shared-slice-read-t10
-    mul-t11
-    add-t12
-    mul-t13
-    shared-slice-read-t15
-    empty-requires
-    returns
-    returns-2)
+cube-at-spec = tie.close (tie.spec word-at-requires word-at-requires-2 returns)

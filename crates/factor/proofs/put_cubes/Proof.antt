@@ -8,12 +8,11 @@ use lib.ListN.{length, getD}
 use Rattle.cube.specs.Cube.{lits}
 use Rattle.expression.specs.Words.{cubesOf}
 use Rattle.expression.proofs.Words.{cubes-length}
-use Rattle.letters.specs.Letters.{cubeText}
+use Rattle.products.specs.Products.{cubeText}
 use Rattle.factor.specs.Text.{sumText}
 use Rattle.factor.specs.Parts.{cubesFrom}
-use Rattle.letters.proofs.Texts.{marked-nil, marked-cons}
 use Rattle.letters.proofs.Laying.{Due, due-all, due-as, due-next, due-done, due-last, due-trans, due-countable, due-rest}
-use Rattle.factor.proofs.Texts.{plussed, sum-first, sum-none}
+use Rattle.factor.proofs.Texts.{marked-nil, marked-cons, plussed, sum-first, sum-none}
 use Rattle.factor.proofs.Parting.{slice-next, slice-none}
 use Rattle.factor.proofs.put_cubes.Statement.{statement}
 use Rattle.factor.proofs.put_cubes.Tie as tie

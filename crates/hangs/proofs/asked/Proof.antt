@@ -26,7 +26,7 @@ returns : tie.Need-returns
 returns c =
     let t = c .before .before in
     let a = t .before .before .before .args in
-    asked-yes (a .mask) (a .n + a .i) _ _ (t .if1 .taken) (subst (λ f. Marks (c .reads .result) (readsOf f)) (c .before .node .ensures) (c .reads .ensures))
+    asked-yes (a .mask) (a .n + a .i) _ _ (t .if1 .taken) (subst (λ f. Marks (c .reads .result) (readsOf f)) (c .before .node .ensures .0) (c .reads .ensures))
 
 returns-2 : tie.Need-returns-2
 returns-2 c =

@@ -1,15 +1,11 @@
 -- `hangs::found` meets its contract: what the node reads, what is reached from it, and of that the divisors. Assumes nothing.
-use Prim.Native.Nat.{_+_}
-use native.Mathlib.Omega.{arith}
 use borrow.Author.Needs.{needs}
-use Rattle.hangs.proofs.Finding.{begun-less, sized-begun, found-marks}
+use Rattle.hangs.proofs.Finding.{found-marks}
 use Rattle.hangs.proofs.found.Statement.{statement}
 use Rattle.hangs.proofs.found.Tie as tie
 
 node-requires : tie.Need-node-requires
-node-requires c κs =
-    let s = c .before .before in
-    begun-less (s .args .counts .now) (s .args .m + s .args .k) (s .args .i + 1) (omega (arith, s .pre .2)) (sized-begun (s .pre .0))
+node-requires c κs = search needs
 
 reads-requires : tie.Need-reads-requires
 reads-requires c κs = search needs
@@ -23,7 +19,7 @@ above-requires c κs = search needs
 returns : tie.Need-returns
 returns c =
     let s = c .before .before .before .before .before .before in
-    found-marks (s .pre .0) (s .pre .2) (c .before .before .before .node .ensures) (c .before .before .reads .ensures) (c .before .often .ensures) (c .above .ensures)
+    found-marks (s .pre .0) (s .pre .2) (c .before .before .before .node .ensures .0) (c .before .before .reads .ensures) (c .before .often .ensures) (c .above .ensures)
 
 pub found-spec : {M : Type 1} → statement M
 found-spec =

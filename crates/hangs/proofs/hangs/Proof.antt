@@ -7,7 +7,8 @@ use Rattle.network.specs.Held.{rules}
 use Rattle.network.specs.Parts.{Sized}
 use Rattle.network.proofs.Limits.{rules-sized}
 use Rattle.network.proofs.Holding.{rules-iff}
-use Rattle.hangs.proofs.Finding.{accepted-rules, refused-rules, hangs-refused, hangs-past, hangs-found}
+use Rattle.network.proofs.Ruling.{accepted-rules, refused-rules}
+use Rattle.hangs.proofs.Finding.{hangs-refused, hangs-past, hangs-found}
 use Rattle.hangs.proofs.hangs.Statement.{statement}
 use Rattle.hangs.proofs.hangs.Tie as tie
 

@@ -13,7 +13,6 @@ use Rattle.network.proofs.Parts.{divisors-length, divisors-at}
 use Rattle.hangs.specs.Hangs.{readsOf, readBy, Marks}
 use Rattle.hangs.proofs.Marking.{Gathers, gather-more, gather-done}
 use Rattle.hangs.proofs.Reading.{asks, asks-first, asks-next, asks-done}
-use Rattle.hangs.proofs.Finding.{begun-less, sized-begun}
 use Rattle.hangs.proofs.once.Statement.{statement}
 use Rattle.hangs.proofs.once.Tie as tie
 
@@ -32,7 +31,7 @@ abbrev held : tie.At-loop Inv-loop μ-loop → List (List (List ℕ))
 held l = let a = start l .args in divisorsOf (a .m) (a .k) (a .counts .now) (a .words .now)
 
 many : (l : tie.At-loop Inv-loop μ-loop) → length (held l) ≡ start l .args .k
-many l = let a = start l .args in divisors-length (a .counts .now) (a .words .now) (a .m) (a .k) (start l .pre .lent .counted)
+many l = let a = start l .args in divisors-length (a .counts .now) (a .words .now) (a .m) (a .k) (start l .pre .counted)
 
 loop-holds : tie.Need-loop-holds Inv-loop μ-loop
 loop-holds c =
@@ -42,8 +41,7 @@ loop-holds c =
 asked-requires : tie.Need-asked-requires Inv-loop μ-loop
 asked-requires c κs =
     let s = start (c .before) in
-    let a = s .args in
-    (begun-less (a .counts .now) (a .m + a .k) (a .m + c .before .loop .i + 1) (omega arith) (sized-begun (s .pre)), omega (arith, s .pre .variables))
+    (omega (arith, s .pre .counted), omega (arith, s .pre .variables))
 
 add-i : tie.Need-add-i Inv-loop μ-loop
 add-i c = omega arith

@@ -1,25 +1,20 @@
 -- `map::is_any` is safe and ends. Assumes nothing.
-use mathlib.Core.Path.{_≡_}
 use Prim.Native.Nat.{_-_}
-use lib.ListN.{length}
 use borrow.Author.Needs.{needs}
 use Rattle.map.proofs.is_any.Statement.{statement}
 use Rattle.map.proofs.is_any.Tie as tie
 
 abbrev Inv-loop : tie.InvT-loop
-Inv-loop text inputs out₀ i₀ out i = length out ≡ length out₀
+Inv-loop text inputs i₀ i = Unit {0}
 
 abbrev μ-loop : tie.MeasureT-loop
-μ-loop text inputs out₀ i₀ out i = inputs - i
+μ-loop text inputs i₀ i = inputs - i
 
 loop-holds : tie.Need-loop-holds Inv-loop μ-loop
 loop-holds c = search needs
 
-put-name-requires : tie.Need-put-name-requires Inv-loop μ-loop
-put-name-requires c κs = search needs
-
-same-length : tie.Need-same-length Inv-loop μ-loop
-same-length c = search needs
+is-named-requires : tie.Need-is-named-requires Inv-loop μ-loop
+is-named-requires c κs = search needs
 
 returns : tie.Need-returns Inv-loop μ-loop
 returns c = search needs
@@ -33,9 +28,6 @@ loop-less c = search needs
 loop-again : tie.Need-loop-again Inv-loop μ-loop
 loop-again c = search needs
 
-same-length-2 : tie.Need-same-length-2 Inv-loop μ-loop
-same-length-2 c = search needs
-
 returns-2 : tie.Need-returns-2 Inv-loop μ-loop
 returns-2 c = search needs
 
@@ -46,11 +38,9 @@ is-any-spec =
     Inv-loop
     μ-loop
     loop-holds
-    put-name-requires
-    same-length
+    is-named-requires
     returns
     add-i
     loop-less
     loop-again
-    same-length-2
     returns-2)

@@ -1,16 +1,14 @@
 -- `map::print_each_condition` is safe and ends. Assumes nothing.
-use mathlib.Core.Path.{_≡_}
 use Prim.Native.Nat.{_-_}
-use lib.ListN.{length}
 use borrow.Author.Needs.{needs}
 use Rattle.map.proofs.print_each_condition.Statement.{statement}
 use Rattle.map.proofs.print_each_condition.Tie as tie
 
 abbrev Inv-loop : tie.InvT-loop
-Inv-loop n masks wide out₀ i₀ out i = length out ≡ length out₀
+Inv-loop n masks wide i₀ i = Unit {0}
 
 abbrev μ-loop : tie.MeasureT-loop
-μ-loop n masks wide out₀ i₀ out i = n .divisors - i
+μ-loop n masks wide i₀ i = n .divisors - i
 
 loop-holds : tie.Need-loop-holds Inv-loop μ-loop
 loop-holds c = search needs
@@ -27,9 +25,6 @@ loop-less c = search needs
 loop-again : tie.Need-loop-again Inv-loop μ-loop
 loop-again c = search needs
 
-same-length : tie.Need-same-length Inv-loop μ-loop
-same-length c = search needs
-
 returns : tie.Need-returns Inv-loop μ-loop
 returns c = search needs
 
@@ -44,5 +39,4 @@ print-each-condition-spec =
     add-i
     loop-less
     loop-again
-    same-length
     returns)

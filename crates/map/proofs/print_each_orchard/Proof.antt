@@ -1,22 +1,17 @@
 -- `map::print_each_orchard` is safe and ends. Assumes nothing.
-use mathlib.Core.Path.{_≡_}
 use Prim.Native.Nat.{_-_}
-use lib.ListN.{length}
 use borrow.Author.Needs.{needs}
 use Rattle.map.proofs.print_each_orchard.Statement.{statement}
 use Rattle.map.proofs.print_each_orchard.Tie as tie
 
 abbrev Inv-loop : tie.InvT-loop
-Inv-loop n wide out₀ masks j₀ out j = length out ≡ length out₀
+Inv-loop n wide masks j₀ j = Unit {0}
 
 abbrev μ-loop : tie.MeasureT-loop
-μ-loop n wide out₀ masks j₀ out j = n .outputs - j
+μ-loop n wide masks j₀ j = n .outputs - j
 
 loop-holds : tie.Need-loop-holds Inv-loop μ-loop
 loop-holds c = search needs
-
-same-length : tie.Need-same-length Inv-loop μ-loop
-same-length c = search needs
 
 returns : tie.Need-returns Inv-loop μ-loop
 returns c = search needs
@@ -39,9 +34,6 @@ loop-less c = search needs
 loop-again : tie.Need-loop-again Inv-loop μ-loop
 loop-again c = search needs
 
-same-length-2 : tie.Need-same-length-2 Inv-loop μ-loop
-same-length-2 c = search needs
-
 returns-2 : tie.Need-returns-2 Inv-loop μ-loop
 returns-2 c = search needs
 
@@ -52,7 +44,6 @@ print-each-orchard-spec =
     Inv-loop
     μ-loop
     loop-holds
-    same-length
     returns
     mul-print-orchard
     array-read-print-orchard
@@ -60,5 +51,4 @@ print-each-orchard-spec =
     add-j
     loop-less
     loop-again
-    same-length-2
     returns-2)

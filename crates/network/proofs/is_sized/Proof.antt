@@ -4,15 +4,11 @@ use mathlib.Core.Bool.{true}
 use native.Mathlib.Omega.{arith}
 use borrow.Author.Tests.{not-true, not-false}
 use lib.Dec.{leb}
-use lib.ListN.{length}
 use Rattle.network.specs.Held.{upTo, mostCubes, mostInputs, mostOutputs}
 use Rattle.network.proofs.Limits.{up-to-le, sized-inputs, sized-outputs, sized-variables, sized-cubes}
 use borrow.Author.Needs.{needs}
 use Rattle.network.proofs.is_sized.Statement.{statement}
 use Rattle.network.proofs.is_sized.Tie as tie
-
-slots : (s : tie.Start) → length (s .args .n .counts) ≡ 96
-slots s = search needs
 
 -- the numbers of inputs and outputs are within their limits
 inputs : (c : tie.Else1) → upTo mostInputs (c .before .before .args .n .inputs) ≡ true
@@ -52,11 +48,11 @@ add-start c =
     let o = c .before .before .before .before .before .before in
     omega (arith, up-to-le mostOutputs (o .before .before .before .before .args .n .outputs) (outputs o))
 
+add-start-2 : tie.Need-add-start-2
+add-start-2 c = search needs
+
 start-requires : tie.Need-start-requires
-start-requires c κs =
-    let o = c .before .before .before .before .before .before in
-    let s = o .before .before .before .before in
-    omega (arith, slots s, up-to-le mostOutputs (s .args .n .outputs) (outputs o))
+start-requires c κs = search needs
 
 returns-4 : tie.Need-returns-4
 returns-4 c =
@@ -77,5 +73,6 @@ is-sized-spec =
     returns-3
     slice-aggregate-start
     add-start
+    add-start-2
     start-requires
     returns-4)

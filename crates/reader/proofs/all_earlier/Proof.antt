@@ -7,7 +7,7 @@ use borrow.Author.Needs.{needs}
 use borrow.Author.Tests.{not-true, not-false}
 use Rattle.sets.specs.Lists.{total}
 use Rattle.expression.specs.Words.{cubesOf}
-use Rattle.network.specs.Held.{cut}
+use Rattle.nodes.specs.Nodes.{cut}
 use Rattle.imaging.specs.Reading.{readsEarlier}
 use Rattle.reader.proofs.Testing.{sum-next, cut-done, earlier-stop, earlier-on}
 use Rattle.reader.proofs.all_earlier.Statement.{statement}

@@ -7,7 +7,7 @@ use borrow.Author.Needs.{needs}
 use borrow.Author.Tests.{not-true, not-false}
 use Rattle.sets.specs.Lists.{all, total}
 use Rattle.expression.specs.Words.{cubesOf}
-use Rattle.network.specs.Held.{cut}
+use Rattle.nodes.specs.Nodes.{cut}
 use Rattle.reader.specs.Parts.{tidy}
 use Rattle.reader.proofs.Testing.{sum-next, cut-done, tests-stop, tests-on}
 use Rattle.reader.proofs.all_tidy.Statement.{statement}

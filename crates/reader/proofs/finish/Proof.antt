@@ -1,5 +1,5 @@
 -- `reader::finish` meets its contract. The verdict on all that was read, and the network of it. Assumes nothing.
-use mathlib.Core.Path.{_≡_, sym, _∙_}
+use mathlib.Core.Path.{_≡_}
 use native.Mathlib.Omega.{arith}
 use lib.ListN.{length}
 use borrow.Author.Needs.{needs}
@@ -42,20 +42,20 @@ copy-requires : tie.Need-copy-requires
 copy-requires c κs =
     let e = c .before in
     let j = e .before .before in
-    let f = whole-few (start j .pre) (sym (j .judge .ensures) ∙ e .enum-told .given .1) in
+    let f = whole-few (start j .pre) (j .judge .result) (j .judge .ensures) (e .enum-told .given .1) in
     (omega (arith, f), omega (arith, f))
 
 returns : tie.Need-returns
 returns c =
     let a = c .before .before in
     let j = a .before .before in
-    whole-refused (start j .pre) _ (c .refused .result) (sym (j .judge .ensures) ∙ a .a .given .1) (c .refused .ensures)
+    whole-refused (start j .pre) (j .judge .result) _ (c .refused .result) (j .judge .ensures) (a .a .given .1) (c .refused .ensures)
 
 returns-2 : tie.Need-returns-2
 returns-2 c =
     let e = c .before .before .before in
     let j = e .before .before in
-    whole-told (start j .pre) (sym (j .judge .ensures) ∙ e .enum-told .given .1) _ (c .before .copy .ensures) (j .judge .result) (e .enum-told .given .1)
+    whole-told (start j .pre) (j .judge .result) (j .judge .ensures) (e .enum-told .given .1) _ (c .before .copy .ensures)
 
 pub finish-spec : {M : Type 1} → statement M
 finish-spec =

@@ -110,17 +110,21 @@ in-order-requires c κs =
       omega (arith, length-take (s .args .z .outputs + s .args .z .divisors - s .args .z .outputs) (drop (s .args .z .outputs) (s .args .counts .now)), s .pre .sized .variables),
     )
 
+-- what the last test found
+found : (o : tie.After-in-order) (b : Bool) → o .in-order .result ≡ b → sorted (whole (o .before .before .before)) ≡ b
+found o b e = _∙_ {b = o .in-order .result} (sym (o .in-order .ensures ∙ same (whole (o .before .before .before)))) e
+
 returns-4 : tie.Need-returns-4
 returns-4 c =
     let k = c .before .before .before .before in
     let s = whole k in
-    verdict-yes (padded s) (few s) (sorted s) (is-padded k) (is-few k) (sym (c .before .in-order .ensures ∙ same s) ∙ c .if4 .taken)
+    verdict-yes (padded s) (few s) (sorted s) (is-padded k) (is-few k) (found (c .before) _ (c .if4 .taken))
 
 returns-5 : tie.Need-returns-5
 returns-5 c =
     let k = c .before .before .before .before in
     let s = whole k in
-    verdict-13 (padded s) (few s) (sorted s) (is-padded k) (is-few k) (sym (c .before .in-order .ensures ∙ same s) ∙ c .if4 .left)
+    verdict-13 (padded s) (few s) (sorted s) (is-padded k) (is-few k) (found (c .before) _ (c .if4 .left))
 
 pub judge-spec : {M : Type 1} → statement M
 judge-spec =

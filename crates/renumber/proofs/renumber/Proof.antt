@@ -1,9 +1,10 @@
 -- `renumber::renumber` meets its contract: a network by the rules is built anew along its listing. Assumes nothing.
-use mathlib.Core.Path.{_≡_}
+use mathlib.Core.Path.{_≡_, sym, _∙_}
 use mathlib.Core.Bool.{true}
 use borrow.Author.Needs.{needs}
 use Rattle.network.specs.Held.{rules}
-use Rattle.renumber.proofs.Telling.{told-refused, told-rules, rules-order, told-held}
+use Rattle.network.proofs.Ruling.{accepted-rules}
+use Rattle.renumber.proofs.Telling.{told-refused, rules-order, told-held}
 use Rattle.renumber.proofs.renumber.Statement.{statement}
 use Rattle.renumber.proofs.renumber.Tie as tie
 
@@ -20,7 +21,7 @@ refused-requires : tie.Need-refused-requires
 refused-requires c κs = search needs
 
 returns : tie.Need-returns
-returns c = let j = c .before .before .before in told-refused _ _ (j .judge .ensures) _ _ (c .before .enum-told2 .given .1) (c .refused .ensures)
+returns c = let j = c .before .before .before in told-refused _ _ _ (sym (j .judge .ensures) ∙ c .before .enum-told2 .given .1) (c .refused .ensures .0 ∙ j .judge .ensures, c .refused .ensures .1)
 
 listing-requires : tie.Need-listing-requires
 listing-requires c κs = search needs
@@ -36,7 +37,7 @@ slice-aggregate-build-3 c = search needs
 
 -- the network is by the rules
 lawful : (c : tie.After-enum-told) → rules (c .before .before .before .args .n) ≡ true
-lawful c = told-rules _ _ (c .before .before .judge .ensures) (c .enum-told .given .1)
+lawful c = accepted-rules _ (sym (c .before .before .judge .ensures) ∙ c .enum-told .given .1)
 
 build-requires : tie.Need-build-requires
 build-requires c κs =

@@ -3,7 +3,7 @@ use mathlib.Core.Path.{_≡_, _∙_, ap, subst}
 use mathlib.Core.Bool.{true}
 use Rattle.cube.specs.Cube.{joined}
 use Rattle.divisor.specs.Divisor.{divisorOf}
-use Rattle.replace.specs.Replace.{fitting}
+use Rattle.fitness.specs.Fitness.{fitting}
 use Rattle.replace.proofs.Testing.{pair-part}
 use borrow.Author.Needs.{needs}
 use Rattle.replace.proofs.part_of.Statement.{statement}

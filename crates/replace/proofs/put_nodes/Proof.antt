@@ -7,7 +7,8 @@ use lib.ListN.{length, getD, take}
 use lib.Seq.{take-all}
 use Rattle.expression.specs.Words.{cubesOf}
 use Rattle.network.specs.Parts.{nodesOf}
-use Rattle.network.proofs.Parts.{before, start-next}
+use Rattle.nodes.specs.Nodes.{countBefore}
+use Rattle.nodes.proofs.Starting.{start-next}
 use Rattle.extraction.specs.Divisor.{rewrite}
 use Rattle.divisor.specs.Divisor.{divisorOf}
 use Rattle.replace.specs.Parts.{LaidNodes, SourceNodes}
@@ -20,7 +21,7 @@ use Rattle.replace.proofs.put_nodes.Tie as tie
 
 abbrev Inv-loop : tie.InvT-loop
 Inv-loop words counts e d x out₀ sizes₀ at₀ to₀ i₀ out sizes at to i =
-    (i ≤ e) × (at ≡ before i counts) × (to ≤ at) × LaidNodes out sizes to (map (rewrite (x .0) (divisorOf d)) (take i (nodesOf e counts words))) × (length out ≡ length out₀) × (length sizes ≡ length sizes₀)
+    (i ≤ e) × (at ≡ countBefore i counts) × (to ≤ at) × LaidNodes out sizes to (map (rewrite (x .0) (divisorOf d)) (take i (nodesOf e counts words))) × (length out ≡ length out₀) × (length sizes ≡ length sizes₀)
 
 abbrev μ-loop : tie.MeasureT-loop
 μ-loop words counts e d x out₀ sizes₀ at₀ to₀ i₀ out sizes at to i = e - i

@@ -11,8 +11,9 @@ use Rattle.extraction.specs.Run.{roomFor}
 use Rattle.tidy.specs.Tidy.{arranged}
 use Rattle.tidy.proofs.Arranged.{arranged-sized}
 use Rattle.divisor.specs.Divisor.{divisorOf}
-use Rattle.replace.specs.Replace.{fitting, allowed, outcome}
-use Rattle.replace.proofs.Fitting.{fitting-more}
+use Rattle.fitness.specs.Fitness.{fitting}
+use Rattle.replace.specs.Replace.{allowed, outcome}
+use Rattle.fitness.proofs.Fitting.{fitting-more}
 use Rattle.replace.proofs.Answering.{arranged-source, arranged-variables, room-full, unfit-network, unfit-divisor, outcome-room, stepped-as}
 use borrow.Author.Needs.{needs}
 use Rattle.replace.proofs.step.Statement.{statement}
@@ -53,7 +54,7 @@ add-v : tie.Need-add-v
 add-v c = record { fits = omega (arith, few (c .before)) }
 
 is-fit-requires : tie.Need-is-fit-requires
-is-fit-requires c κs = few (c .before)
+is-fit-requires c κs = search needs
 
 refused-requires-2 : tie.Need-refused-requires-2
 refused-requires-2 c κs = search needs

@@ -4,7 +4,7 @@ use mathlib.Core.Path.{_∙_, ap}
 use mathlib.Core.List.{List, [], _∷_, _++_}
 use borrow.Author.Needs.{needs}
 use Rattle.cube.specs.Cube.{lits}
-use Rattle.letters.specs.Letters.{literalText, cubeText}
+use Rattle.products.specs.Products.{literalText, cubeText}
 use Rattle.letters.proofs.Laying.{Due, due-all, due-next, due-last, due-countable, due-rest}
 use Rattle.divisor.specs.Divisor.{divisorOf}
 use Rattle.report.specs.Report.{divisorText}

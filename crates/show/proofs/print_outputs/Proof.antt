@@ -1,16 +1,14 @@
 -- `show::print_outputs` is safe and ends. Assumes nothing.
-use mathlib.Core.Path.{_≡_}
 use Prim.Native.Nat.{_-_}
-use lib.ListN.{length}
 use borrow.Author.Needs.{needs}
 use Rattle.show.proofs.print_outputs.Statement.{statement}
 use Rattle.show.proofs.print_outputs.Tie as tie
 
 abbrev Inv-loop : tie.InvT-loop
-Inv-loop n out₀ i₀ out i = length out ≡ length out₀
+Inv-loop n i₀ i = Unit {0}
 
 abbrev μ-loop : tie.MeasureT-loop
-μ-loop n out₀ i₀ out i = n .outputs - i
+μ-loop n i₀ i = n .outputs - i
 
 loop-holds : tie.Need-loop-holds Inv-loop μ-loop
 loop-holds c = search needs
@@ -27,9 +25,6 @@ loop-less c = search needs
 loop-again : tie.Need-loop-again Inv-loop μ-loop
 loop-again c = search needs
 
-same-length : tie.Need-same-length Inv-loop μ-loop
-same-length c = search needs
-
 returns : tie.Need-returns Inv-loop μ-loop
 returns c = search needs
 
@@ -44,5 +39,4 @@ print-outputs-spec =
     add-i
     loop-less
     loop-again
-    same-length
     returns)

@@ -3,7 +3,6 @@ use mathlib.Core.Path.{_≡_, refl, sym, _∙_, ap, ap₂}
 use Prim.Native.Nat.{_-_, _≤_}
 use native.Mathlib.Omega.{arith}
 use lib.ListN.{length, take, getD}
-use lib.Seq.{take-all}
 use Rattle.cube.specs.Cube.{lits}
 use Rattle.text.specs.Lines.{cubeFrom}
 use Rattle.text.specs.Parts.{placed}
@@ -13,17 +12,17 @@ use Rattle.text.proofs.cube_of.Statement.{statement}
 use Rattle.text.proofs.cube_of.Tie as tie
 
 abbrev Inv-loop : tie.InvT-loop
-Inv-loop p c₀ v₀ i₀ c v i = (i ≤ length p) × (length p ≤ 32) × (v ≡ i) × (lits c ≡ cubeFrom 0 (take i p))
+Inv-loop p n c₀ v₀ i₀ c v i = (i ≤ n) × (n ≤ 32) × (n ≤ length p) × (v ≡ i) × (lits c ≡ cubeFrom 0 (take i p))
 
 abbrev μ-loop : tie.MeasureT-loop
-μ-loop p c₀ v₀ i₀ c v i = length p - i
+μ-loop p n c₀ v₀ i₀ c v i = n - i
 
 empty-requires : tie.Need-empty-requires Inv-loop μ-loop
 empty-requires c κs = search needs
 
 loop-holds : tie.Need-loop-holds Inv-loop μ-loop
 unfolding cubeFrom
-loop-holds c = (omega arith, c .before .before .pre, refl, c .empty .ensures)
+loop-holds c = (omega arith, c .before .before .pre .0, c .before .before .pre .1, refl, c .empty .ensures)
 
 shared-slice-read-with-place : tie.Need-shared-slice-read-with-place Inv-loop μ-loop
 shared-slice-read-with-place c = search needs
@@ -45,17 +44,19 @@ loop-again c = let h = c .before .before .before in
     let p = h .before .before .before .args .p .now in
     let i = h .loop .i in (
       omega arith,
-      omega arith,
+      h .loop .inv .1,
+      h .loop .inv .2,
       omega arith,
       c .with-place .ensures
-          ∙ ap₂ (λ u k. placed u (getD p i 0) k) (h .loop .inv .2) (h .loop .inv .3)
+          ∙ ap₂ (λ u k. placed u (getD p i 0) k) (h .loop .inv .3) (h .loop .inv .4)
           ∙ sym (from-next p i (omega arith) (omega arith)),
     )
 
 returns : tie.Need-returns Inv-loop μ-loop
 returns c = let h = c .before in
     let p = h .before .before .before .args .p .now in
-    h .loop .inv .3 ∙ ap (cubeFrom 0) (take-all (h .loop .i) p (omega arith))
+    let q : h .loop .i ≡ h .before .before .before .args .n = omega arith in
+    h .loop .inv .4 ∙ ap (λ k. cubeFrom 0 (take k p)) q
 
 pub cube-of-spec : {M : Type 1} → statement M
 cube-of-spec =

@@ -12,7 +12,8 @@ use Rattle.expression.specs.Words.{cubesOf}
 use Rattle.expression.specs.Expression.{ordered}
 use Rattle.expression.proofs.Words.{cubes-length}
 use Rattle.network.specs.Parts.{nodesOf}
-use Rattle.network.proofs.Parts.{nodes-length, start-next}
+use Rattle.network.proofs.Parts.{nodes-length}
+use Rattle.nodes.proofs.Starting.{start-next}
 use Rattle.tidy.proofs.Arranged.{node-is}
 use Rattle.tidy.proofs.Sorted.{node-fits}
 use Rattle.tidy.proofs.all_ordered.Statement.{statement}

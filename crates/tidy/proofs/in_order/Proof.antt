@@ -1,6 +1,6 @@
 -- `tidy::in_order` meets its contract: a network by the rules is held with its nodes in cube order, and the slots not in use are zero. Assumes nothing.
 use Prim.Native.Nat.{_≤_}
-use mathlib.Core.Path.{_≡_, sym, ap₂, subst}
+use mathlib.Core.Path.{_≡_, sym, ap₂, _∙_, subst}
 use mathlib.Core.Bool.{true}
 use native.Mathlib.Omega.{arith}
 use lib.ListN.{length}
@@ -8,16 +8,17 @@ use Rattle.network.specs.Held.{netOf, rules}
 use Rattle.network.specs.Handed.{Holds}
 use Rattle.network.specs.Parts.{heldIn, Sized}
 use Rattle.network.proofs.Limits.{rules-sized}
+use Rattle.network.proofs.Ruling.{accepted-rules, refused-rules, rules-refused}
 use Rattle.extraction.specs.Run.{inOrder}
 use Rattle.tidy.proofs.Sorted.{sized-sortable}
-use Rattle.tidy.proofs.Tidied.{sorts-holds, judged-kept, judged-broken, tidied-kept, tidied-broken}
+use Rattle.tidy.proofs.Tidied.{sorts-holds, tidied-kept, tidied-broken}
 use borrow.Author.Needs.{needs}
 use Rattle.tidy.proofs.in_order.Statement.{statement}
 use Rattle.tidy.proofs.in_order.Tie as tie
 
 -- the rules are kept where the network is accepted
 kept : (c : tie.After-enum-told) → rules (c .before .before .before .args .n) ≡ true
-kept c = judged-kept (c .before .before .before .args .n) _ (c .before .before .judge .ensures) (c .enum-told .given .1)
+kept c = accepted-rules _ (sym (c .before .before .judge .ensures) ∙ c .enum-told .given .1)
 
 slots : (s : tie.Start) → (length (s .args .n .counts) ≡ 96) × (length (s .args .n .words) ≡ 2176)
 slots s = search needs
@@ -41,8 +42,8 @@ returns : tie.Need-returns
 returns c =
     let j = c .before .before .before in
     let n = j .before .args .n in
-    let q = judged-broken n _ (j .judge .ensures) _ (c .before .enum-told2 .given .1) in
-    tidied-broken n _ (q .0) (q .1) (c .blank .ensures)
+    let h = refused-rules n _ (sym (j .judge .ensures) ∙ c .before .enum-told2 .given .1) in
+    tidied-broken n _ h (j .judge .ensures ∙ rules-refused n h) (c .blank .ensures)
 
 add-nodes : tie.Need-add-nodes
 add-nodes c = let z = sized (c .before .before .before) in omega (arith, z .narrow, z .variables)
@@ -64,7 +65,7 @@ slice-aggregate-front-counts c = search needs
 front-counts-requires : tie.Need-front-counts-requires
 front-counts-requires c κs =
     let z = sized (c .before .before .before .before .before .before .before .before) in
-    (z .slots, omega (arith, z .slots, z .lent .counted))
+    (z .slots, omega (arith, z .slots, z .counted))
 
 slice-aggregate-front-words : tie.Need-slice-aggregate-front-words
 slice-aggregate-front-words c = search needs

@@ -1,0 +1,61 @@
+-- The literals of a cube from one on: none is left, or the first and those after it. Assumes nothing.
+use Prim.Native.Nat.{ℕ, suc, _+_, _≤_, _<_}
+use mathlib.Core.Path.{_≡_, refl, sym, _∙_, ap}
+use mathlib.Core.Bool.{true, false, cond}
+use mathlib.Core.List.{List, [], _∷_}
+use mathlib.Core.Logic.{_⊎_, inl, inr}
+use mathlib.Core.Option.{none, some}
+use native.Mathlib.Omega.{arith}
+use lib.Dec.{leb, ltb}
+use borrow.Author.Tests.{leb-true, leb-false, le-leb, lt-leb, ltb-true}
+use Rattle.sets.specs.Lists.{keep}
+use Rattle.sets.specs.Sets.{asc, firstFrom}
+use Rattle.sets.proofs.Truth.{decided}
+use Rattle.sets.proofs.Lists.{all-in, all-out, keep-all, ahead}
+use Rattle.sets.proofs.First.{some-not-none}
+use Rattle.sets.proofs.Sets.{tail-asc}
+
+abbrev pub above : ℕ → List ℕ → List ℕ
+above l c = keep (leb l) c
+
+pub above-all : (c : List ℕ) → above 0 c ≡ c
+above-all c = keep-all (leb 0) c (all-in (leb 0) c (λ x m. le-leb 0 x (omega arith)))
+
+pub above-none : (l : ℕ) (c : List ℕ) → firstFrom l c ≡ none → above l c ≡ []
+unfolding firstFrom
+above-none l [] h = refl
+above-none l (x ∷ c) h = go (decided (leb l x)) (above-none l c)
+  where
+    go : (leb l x ≡ true) ⊎ (leb l x ≡ false) → (firstFrom l c ≡ none → above l c ≡ []) → above l (x ∷ c) ≡ []
+    go (inl t) ih = some-not-none {x = x} (cond (leb l x) (some x) (firstFrom l c)) (rw t) h
+    go (inr t) ih = rw t (ih (rw t at h))
+
+-- all that follow are past the first
+past : (l x : ℕ) (c : List ℕ) → asc (x ∷ c) ≡ true → l ≤ suc x → above l c ≡ c
+past l x c a h = keep-all (leb l) c (all-in (leb l) c (λ y m. le-leb l y (omega (arith, ltb-true x y (all-out (ltb x) m ((ahead ltb x c a) .0))))))
+
+pub at-least : (l x : ℕ) (c : List ℕ) → firstFrom l c ≡ some x → l ≤ x
+unfolding firstFrom
+at-least l x [] h = some-not-none {x = x} none h refl
+at-least l x (z ∷ c) h = pick (decided (leb l z)) (at-least l x c)
+  where
+    pick : (leb l z ≡ true) ⊎ (leb l z ≡ false) → (firstFrom l c ≡ some x → l ≤ x) → l ≤ x
+    pick (inl t) ih = let s : some z ≡ some x = rw t at h in let e : z ≡ x = cc in let g : l ≤ z = leb-true l z t in omega arith
+    pick (inr t) ih = ih (rw t at h)
+
+pub above-some : (l x : ℕ) (c : List ℕ) → asc c ≡ true → firstFrom l c ≡ some x → above l c ≡ x ∷ above (x + 1) c
+unfolding firstFrom
+above-some l x [] a h = some-not-none {x = x} none h refl
+above-some l x (y ∷ c) a h = go (decided (leb l y)) (above-some l x c (tail-asc y c a))
+  where
+    go : (leb l y ≡ true) ⊎ (leb l y ≡ false) → (firstFrom l c ≡ some x → above l c ≡ x ∷ above (x + 1) c) → above l (y ∷ c) ≡ x ∷ above (x + 1) (y ∷ c)
+    go (inl t) ih =
+        let s : some y ≡ some x = rw t at h in
+        let e : y ≡ x = cc in
+        let g : l ≤ y = leb-true l y t in
+        rw (t, ← e, lt-leb (y + 1) y (omega arith)) (ap (y ∷_) (past l y c a (omega arith) ∙ sym (past (y + 1) y c a (omega arith))))
+    go (inr t) ih =
+        let s : firstFrom l c ≡ some x = rw t at h in
+        let g : y < l = leb-false l y t in
+        let k : above l c ≡ x ∷ above (x + 1) c = ih s in
+        rw (t, lt-leb (x + 1) y (omega (arith, at-least l x c s))) k

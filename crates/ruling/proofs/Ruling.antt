@@ -1,0 +1,81 @@
+-- The rules, and the literal count: which tests decide them, of the nodes as they are held. Assumes nothing.
+use Prim.Native.Nat.{ℕ, _+_, _≤_}
+use mathlib.Core.Path.{_≡_, refl, sym, ap, ap₂, _∙_}
+use mathlib.Core.Bool.{Bool, true, false, cond, _&&_}
+use mathlib.Core.List.{List}
+use native.Mathlib.Omega.{arith}
+use lib.Dec.{leb, ltb, eqb}
+use lib.ListN.{length}
+use borrow.Author.Tests.{lt-leb, ltb-false}
+use Rattle.sets.specs.Lists.{all, total}
+use Rattle.sets.proofs.Truth.{both, clash}
+use Rattle.expression.specs.Expression.{expression, literalsOf}
+use Rattle.expression.specs.Answers.{capped}
+use Rattle.network.specs.Net.{nodes, variables}
+use Rattle.network.specs.Listing.{listing}
+use Rattle.network.specs.Held.{netOf, sized, reach, lawful, rules, mostLiterals}
+use Rattle.network.specs.Answers.{counted, listable, numbersOf}
+use Rattle.network.specs.Parts.{nodesOf}
+use Rattle.network.specs.declared.Network.{Network}
+use Rattle.network.specs.declared.Number.the-variants.{Is, No}
+use Rattle.network.proofs.Holding.{nodes-held, divisors-held}
+use Rattle.network.proofs.Limits.{sized-out, rules-literals}
+
+pub leb-capped : (t : ℕ) → leb (capped t) mostLiterals ≡ leb t mostLiterals
+leb-capped t = go (ltb t 18446744073709551616) refl
+  where
+    go : (b : Bool) → ltb t 18446744073709551616 ≡ b → leb (cond b t 18446744073709551615) mostLiterals ≡ leb t mostLiterals
+    go true e = refl
+    go false e = sym (lt-leb t mostLiterals (omega (arith, ltb-false t 18446744073709551616 e)))
+
+module _ (n : Network) where
+  -- without a listing the rules are broken
+  pub rules-no : listable n ≡ false → false ≡ rules n
+  unfolding rules lawful listable
+  rules-no h = go (sized n) (all expression (nodes (netOf n))) (all (reach (variables (netOf n))) (nodes (netOf n))) _ h
+    where
+      go : (s x r w : Bool) → (s && r) ≡ false → false ≡ (s && (x && (r && w)))
+      go false x r w e = refl
+      go true false r w e = refl
+      go true true false w e = refl
+      go true true true w e = clash refl e
+
+  module _ (slots : length (n .counts) ≡ 96) where
+    abbrev fs : List (List (List ℕ))
+    fs = nodesOf (n .outputs + n .divisors) (n .counts) (n .words)
+
+    module _ (words : length (n .words) ≡ 2176) (h : listable n ≡ true) where
+      few : n .outputs + n .divisors ≤ 96
+      unfolding listable
+      few = let z = sized-out n slots words ((both (sized n) _ h) .0) in omega (arith, z .slots, z .counted)
+
+      -- the other rules, of the nodes as they are held
+      lawful-held : lawful (netOf n) ≡ (all expression fs && (all (reach (variables (netOf n))) (nodes (netOf n)) && (leb (total literalsOf fs) mostLiterals && eqb (length (listing (netOf n))) (n .divisors))))
+      unfolding lawful
+      lawful-held = rw (nodes-held n, divisors-held n slots few)
+
+      -- with a listing the rest decides
+      pub rules-as : rules n ≡ (eqb (length (numbersOf n)) (n .divisors) && (all expression fs && leb (total literalsOf fs) mostLiterals))
+      unfolding rules listable numbersOf
+      rules-as =
+          let p = both (sized n) (all (reach (variables (netOf n))) (nodes (netOf n))) h in
+          ap₂ _&&_ (p .0) (lawful-held ∙ turn (all expression fs) _ (leb (total literalsOf fs) mostLiterals) (eqb (length (listing (netOf n))) (n .divisors)) (p .1)) ∙ rw (p .0, p .1)
+        where
+          order : (x t w : Bool) → (x && (t && w)) ≡ (w && (x && t))
+          order true true true = refl
+          order true true false = refl
+          order true false true = refl
+          order true false false = refl
+          order false t true = refl
+          order false t false = refl
+
+          turn : (x r t w : Bool) → r ≡ true → (x && (r && (t && w))) ≡ (w && (x && t))
+          turn x r t w e = ap (λ s. x && (s && (t && w))) e ∙ order x t w
+
+    pub counted-is : (t : ℕ) → rules n ≡ true → t ≡ capped (total literalsOf fs) → Is t ≡ counted n
+    unfolding counted
+    counted-is t e q = rw e (ap Is (q ∙ ap (λ l. capped (total literalsOf l)) (sym (nodes-held n)) ∙ rules-literals n slots e))
+
+  pub counted-no : rules n ≡ false → No 10 ≡ counted n
+  unfolding counted
+  counted-no e = rw e
