@@ -16,7 +16,7 @@ fn counts(n: Network) -> [u64; 4] {
         n.inputs as u64,
         n.divisors as u64,
         n.outputs as u64,
-        show::literals(n),
+        form::literals(n),
     ]
 }
 
@@ -178,7 +178,7 @@ fn print_list(mask: u64, letter: u8) {
 // The name and the text of node i, up to the last column.
 fn put_node(n: Network, i: usize, letter: u8, number: usize, wide: usize) {
     let at = put_name(letter, number);
-    line::column(node::put_text(at, n, i), wide);
+    line::column(form::put_text(at, n, i), wide);
 }
 
 // ---- the conditions

@@ -1,4 +1,4 @@
-// The nodes of a network for printing: the factored text of each, and the divisors that each output hangs on.
+// The nodes of a network for printing: the literals and the length of each, and the divisors that each output hangs on.
 use factor::Wrote;
 use network::Network;
 use std::num;
@@ -15,37 +15,8 @@ ghost use Rattle.expression.specs.Answers.{capped};
 ghost use Rattle.nodes.specs.Nodes.{cut};
 ghost use Rattle.hangs.specs.Hangs.{hangsAt, Marks};
 
-// Room for a factored text.
-const ROOM: usize = 266240;
-
 // The longest text that widens a column.
 const COLUMN: usize = 40;
-
-// The factored text of f, by way of the room; the number of its cubes where they are too many for one.
-fn put_factored(at: usize, f: &[u64], room: &mut [u8]) -> usize {
-    let a = factor::factored(f, room);
-    match a {
-        Wrote::Bytes(n) => line::put_front(at, room, n),
-        Wrote::Refused(_) => line::put_count(at, expression::number(f) as u64, b" cubes"),
-    }
-}
-
-// So long an array is lent as one before it is lent as a slice: its length is then known by its type.
-fn put_by(at: usize, f: &[u64], room: &mut [u8; ROOM]) -> usize {
-    put_factored(at, f, room)
-}
-
-fn put_form(at: usize, f: &[u64]) -> usize {
-    let mut room = [0u8; ROOM];
-    put_by(at, f, &mut room)
-}
-
-// The text of node i to standard output; the column after it.
-pub fn put_text(at: usize, n: Network, i: usize) -> usize {
-    let words = n.words;
-    let counts = n.counts;
-    put_form(at, nodes::node(&words, &counts, i))
-}
 
 // The literals of node i.
 pub fn literals(n: Network, i: usize) -> u64

@@ -3,10 +3,6 @@ use libc::STDERR_FILENO;
 use network::Network;
 use network::Number;
 use std::num;
-ghost use mathlib.Core.Bool.{cond};
-ghost use mathlib.Core.Path.{_≡_};
-ghost use Rattle.network.specs.Net.{literalCount};
-ghost use Rattle.network.specs.Held.{netOf, rules};
 
 enum Setting {
     Is(u64),
@@ -26,23 +22,12 @@ fn name_width(n: Network) -> usize {
     2
 }
 
-// The literals of the network; 0 where it breaks a rule.
-pub fn literals(n: Network) -> u64
-    ensures { λ r. ⌜ r ≡ cond (rules n) (literalCount (netOf n)) 0 ⌝ }
-{
-    let a = ruling::literals(n);
-    match a {
-        Number::Is(x) => x,
-        Number::No(_) => 0,
-    }
-}
-
 fn counts(n: Network) -> [u64; 4] {
     [
         n.inputs as u64,
         n.outputs as u64,
         n.divisors as u64,
-        literals(n),
+        form::literals(n),
     ]
 }
 
@@ -60,7 +45,7 @@ fn put_head(letter: u8, number: usize, width: usize) {
 // `x15 = x3+x5  literals 2`: node i, by the name of a letter and a number.
 fn print_node(n: Network, i: usize, letter: u8, number: usize) {
     put_head(letter, number, name_width(n));
-    node::put_text(0, n, i);
+    form::put_text(0, n, i);
     line::end_count(b"  literals ", node::literals(n, i));
 }
 

@@ -88,7 +88,7 @@ fn write_image(n: Network, path: &[u8]) {
     let mut bytes = [0u8; 32768];
     let a = image::write(n, &mut bytes);
     match a {
-        image::Wrote::Bytes(k) => store_image(&bytes, k, path, show::literals(n)),
+        image::Wrote::Bytes(k) => store_image(&bytes, k, path, form::literals(n)),
         image::Wrote::Refused(k) => line::refuse(k, 0),
     }
 }

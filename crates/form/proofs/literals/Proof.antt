@@ -1,4 +1,4 @@
--- `show::literals` meets its contract: the count is answered exactly where the rules are kept. Assumes nothing.
+-- `form::literals` meets its contract: the count is answered exactly where the rules are kept. Assumes nothing.
 use Prim.Native.Nat.{ℕ}
 use mathlib.Core.Path.{_≡_, refl, sym, ap, _∙_}
 use mathlib.Core.Bool.{Bool, true, false, cond}
@@ -9,8 +9,8 @@ use Rattle.network.specs.Answers.{counted}
 use Rattle.network.specs.declared.Network.{Network}
 use Rattle.network.specs.declared.Number.{Number}
 use Rattle.network.specs.declared.Number.the-variants.{Is, No}
-use Rattle.show.proofs.literals.Statement.{statement}
-use Rattle.show.proofs.literals.Tie as tie
+use Rattle.form.proofs.literals.Statement.{statement}
+use Rattle.form.proofs.literals.Tie as tie
 
 abbrev told : Number → ℕ
 told (Is x) = x
