@@ -5,13 +5,10 @@ use cube::Literal;
 use cube::Order;
 use cube::Variable;
 ghost use mathlib.Core.Path.{_≡_};
-ghost use Prim.Native.Nat.{_/_, _^_};
-ghost use lib.Bits.{bitOr};
-ghost use lib.Dec.{eqb};
 ghost use Rattle.sets.specs.Lists.{isSome};
-ghost use Rattle.sets.specs.Literal.{plainOf, variableOf, polarityOf};
+ghost use Rattle.sets.specs.Literal.{plainOf};
 ghost use Rattle.sets.specs.Sets.{firstFrom};
-ghost use Rattle.sets.specs.Masks.{Lowest, bit};
+ghost use Rattle.sets.specs.Masks.{Lowest};
 ghost use Rattle.cube.specs.Cube.{lits, answer, orderOf};
 
 // The place of the lowest bit.
@@ -22,32 +19,27 @@ fn lowest(m: u64) -> u32
     u64::trailing_zeros(m)
 }
 
-// The bits of a mask from v on, moved down.
-fn above(m: u64, v: u32) -> u64
-    ensures { λ r. ⌜ r ≡ m / 2 ^ v ⌝ }
-{
-    if v < cube::VARIABLES { m >> v } else { 0 }
-}
-
-// The first literal of two masks.
-fn lowest_of(p: u64, n: u64) -> u32
-    requires { ⌜ (bitOr p n ≡ 0 → ⊥) ⌝ }
-    ensures { λ r. ⌜ Lowest 64 (bitOr p n) (variableOf r) × (bit p (variableOf r) ≡ eqb (polarityOf r) 0) ⌝ }
-{
-    let t = lowest(p | n);
-    if (p >> t) & 1 == 1 { 2 * t } else { 2 * t + 1 }
-}
-
 // The first literal of the variables from v on.
 fn first_at(c: Cube, v: Variable) -> Found
     ensures { λ r. ⌜ answer r ≡ firstFrom (plainOf (v .0)) (lits c) ⌝ }
 {
-    let p = above(c.plain, v.0);
-    let n = above(c.negated, v.0);
-    if p | n == 0 {
+    let at = v.0;
+    if at >= cube::VARIABLES {
         return Found::Nothing;
     }
-    Found::At(Literal(2 * v.0 + lowest_of(p, n)))
+    let p = c.plain >> at;
+    let n = c.negated >> at;
+    let m = p | n;
+    if m == 0 {
+        return Found::Nothing;
+    }
+    let t = lowest(m);
+    let first = Variable(at + t);
+    if (p >> t) & 1 == 1 {
+        Found::At(cube::plain(first))
+    } else {
+        Found::At(cube::negated(first))
+    }
 }
 
 // The smallest literal that is not below l.
