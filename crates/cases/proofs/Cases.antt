@@ -10,18 +10,18 @@ use Rattle.division.specs.Division.{divides, quotient, product, remainder}
 use Rattle.cokernel.specs.Cokernels.{common, isCokernel, opens}
 use Rattle.factor.specs.Form.{most, formBy}
 use Rattle.letters.specs.Letters.{digits, decimal}
-use Rattle.products.specs.Products.{literalText, cubeText}
+use Rattle.letters_products.specs.Products.{literalText, cubeText}
 use Rattle.factor.specs.Text.{sumText, formText}
 use Rattle.network.specs.Net.{cubesAt}
 use Rattle.network.specs.Listing.{ready, nextReady, listMore, listing}
 use Rattle.network.specs.Held.{numbered}
-use Rattle.extraction.specs.Divisor.{small, useOf, swap, rewrite}
-use Rattle.extraction.specs.Extract.{allUses, basesLiterals, weight, pairsIn, smallerFirst, sumOf, sumsIn, candidates, sooner, better, bestOf, best}
-use Rattle.extraction.specs.Run.{roomFor, choose, move, runFrom, inOrder, run}
-use Rattle.fields.specs.Fields.{bitsOf, valueOf, fieldBits, bytesFrom, bitsIn}
-use Rattle.imaging.specs.Renumber.{indexOf, newNumber, newLiteral, newCube, newNode, renumbered}
-use Rattle.imaging.specs.Image.{cubeFields, nodeFields, headFields, netFields, netBytes, imageOf}
-use Rattle.imaging.specs.Reading.{getField, getMany, getLiterals, getCube, getNode, getNodes, getRaw, padding, summed, inTheOrder, readsEarlier, oneOrder, judgeRaw, readImage}
+use Rattle.extract_laws.specs.Divisor.{small, useOf, swap, rewrite}
+use Rattle.extract_laws.specs.Extract.{allUses, basesLiterals, weight, pairsIn, smallerFirst, sumOf, sumsIn, candidates, sooner, better, bestOf, best}
+use Rattle.extract_laws.specs.Run.{roomFor, choose, move, runFrom, inOrder, run}
+use Rattle.image_fields.specs.Fields.{bitsOf, valueOf, fieldBits, bytesFrom, bitsIn}
+use Rattle.image_laws.specs.Renumber.{indexOf, newNumber, newLiteral, newCube, newNode, renumbered}
+use Rattle.image_laws.specs.Image.{cubeFields, nodeFields, headFields, netFields, netBytes, imageOf}
+use Rattle.image_laws.specs.Reading.{getField, getMany, getLiterals, getCube, getNode, getNodes, getRaw, padding, summed, inTheOrder, readsEarlier, oneOrder, judgeRaw, readImage}
 use Rattle.cases.specs.Tests.{alike, equalCubes, sameInteger, sameDivisor, turn, sameStop, equalNode, sameNet}
 use Rattle.cases.specs.Cases.{Case, begins, finishes, readAs, isRight, f₁, f₆, f₉, f₁₂, image₅, table}
 use Rattle.cases.specs.Meaning.{Says}

@@ -15,11 +15,11 @@ use Rattle.cokernel.specs.Cokernels.{cokernels}
 use Rattle.factor.specs.Form.{formOf}
 use Rattle.factor.specs.Text.{formText}
 use Rattle.network.specs.Net.{Node, Net, literalCount, cubesAt}
-use Rattle.extraction.specs.Divisor.{Divisor, pair, sum, own}
-use Rattle.extraction.specs.Extract.{weight}
-use Rattle.extraction.specs.Run.{Stop, done, asked, numbers, rows, Made, Result, run}
-use Rattle.imaging.specs.Image.{imageOf}
-use Rattle.imaging.specs.Reading.{Outcome, accepted, refused, readImage}
+use Rattle.extract_laws.specs.Divisor.{Divisor, pair, sum, own}
+use Rattle.extract_laws.specs.Extract.{weight}
+use Rattle.extract_laws.specs.Run.{Stop, done, asked, numbers, rows, Made, Result, run}
+use Rattle.image_laws.specs.Image.{imageOf}
+use Rattle.image_laws.specs.Reading.{Outcome, accepted, refused, readImage}
 use Rattle.cases.specs.Tests.{alike, equalCubes, sameInteger, sameDivisor, turn, sameStop, equalNode, sameNet}
 use Rattle.cases.specs.Cases.{Case, hasCokernels, divides, hasText, counts, weighs, takes, ends, hasImage, readsBack, whole, begins, finishes, readAs, isRight}
 use Rattle.cases.specs.Meaning.{Says}

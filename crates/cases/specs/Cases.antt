@@ -11,11 +11,11 @@ use Rattle.cokernel.specs.Cokernels.{cokernels}
 use Rattle.factor.specs.Form.{formOf}
 use Rattle.factor.specs.Text.{formText}
 use Rattle.network.specs.Net.{Net, literalCount, cubesAt}
-use Rattle.extraction.specs.Divisor.{Divisor, sum, own}
-use Rattle.extraction.specs.Extract.{weight}
-use Rattle.extraction.specs.Run.{Stop, done, Made, Result, run}
-use Rattle.imaging.specs.Image.{imageOf}
-use Rattle.imaging.specs.Reading.{Outcome, accepted, refused, readImage}
+use Rattle.extract_laws.specs.Divisor.{Divisor, sum, own}
+use Rattle.extract_laws.specs.Extract.{weight}
+use Rattle.extract_laws.specs.Run.{Stop, done, Made, Result, run}
+use Rattle.image_laws.specs.Image.{imageOf}
+use Rattle.image_laws.specs.Reading.{Outcome, accepted, refused, readImage}
 use Rattle.cases.specs.Tests.{alike, equalCubes, sameInteger, sameDivisor, sameStop, sameNet}
 
 pub data Case : Type 0 where

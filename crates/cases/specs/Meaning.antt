@@ -7,11 +7,11 @@ use Rattle.cokernel.specs.Cokernels.{cokernels}
 use Rattle.factor.specs.Form.{formOf}
 use Rattle.factor.specs.Text.{formText}
 use Rattle.network.specs.Net.{literalCount, cubesAt}
-use Rattle.extraction.specs.Divisor.{own}
-use Rattle.extraction.specs.Extract.{weight}
-use Rattle.extraction.specs.Run.{Made, run}
-use Rattle.imaging.specs.Image.{imageOf}
-use Rattle.imaging.specs.Reading.{accepted, readImage}
+use Rattle.extract_laws.specs.Divisor.{own}
+use Rattle.extract_laws.specs.Extract.{weight}
+use Rattle.extract_laws.specs.Run.{Made, run}
+use Rattle.image_laws.specs.Image.{imageOf}
+use Rattle.image_laws.specs.Reading.{accepted, readImage}
 use Rattle.cases.specs.Cases.{Case, hasCokernels, divides, hasText, counts, weighs, takes, ends, hasImage, readsBack, whole}
 
 abbrev pub Says : Case → Type 0

@@ -6,8 +6,8 @@ use lib.Dec.{eqb}
 use lib.IntN.{ℤ, pos, negsuc}
 use Rattle.sets.specs.Sets.{same}
 use Rattle.network.specs.Net.{Node, Net}
-use Rattle.extraction.specs.Divisor.{Divisor, pair, sum}
-use Rattle.extraction.specs.Run.{Stop, done, asked, numbers, rows}
+use Rattle.extract_laws.specs.Divisor.{Divisor, pair, sum}
+use Rattle.extract_laws.specs.Run.{Stop, done, asked, numbers, rows}
 
 module _ {A : Type 0} where
   -- as many elements, and the test passes place by place

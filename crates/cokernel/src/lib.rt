@@ -45,7 +45,7 @@ fn narrowed(number: usize, m: Cube, d: Cube) -> Cube
     if number == 0 {
         return d;
     }
-    cubes::common(d, m)
+    cube_sets::common(d, m)
 }
 
 // Closes c in one pass, from the last cube to the first.
@@ -58,7 +58,7 @@ fn close(f: &[u64], c: Cube) -> Closure
     while 0 < i {
         i -= 1;
         let d = expression::cube_at(f, i);
-        if cubes::contains(d, c) {
+        if cube_sets::contains(d, c) {
             m = narrowed(number, m, d);
             number += 1;
         }
@@ -73,7 +73,7 @@ fn close(f: &[u64], c: Cube) -> Closure
 fn agrees(m: Cube, c: Cube, j: u32) -> bool
     ensures { λ r. ⌜ r ≡ all (leb j) (without (lits m) (lits c)) ⌝ }
 {
-    let x = order::first_from(cubes::without(m, c), Literal(0));
+    let x = cube_order::first_from(cube_sets::without(m, c), Literal(0));
     match x {
         Found::At(l) => j <= l.0,
         Found::Nothing => true,
@@ -88,7 +88,7 @@ fn is_closed(s: Closure, c: Cube) -> bool
         return false;
     }
     let m = s.common;
-    cubes::same(m, c)
+    cube_sets::same(m, c)
 }
 
 // Whether c, which s closes, opens a branch: no co-kernel goes beyond it where closing adds a literal below j, its last one.
@@ -219,7 +219,7 @@ fn write_all(f: &[u64], o: &mut [u64])
 pub fn cokernels(f: &[u64], o: &mut [u64]) -> Listed
     ensures { λ a. ⌜ Told (refusedBy (now (f .entry)) (now (o .entry))) (now (f .entry)) (now (o .entry)) (now (o .exit)) a ⌝ }
 {
-    let v = accepting::accept(f);
+    let v = expression_accept::accept(f);
     if let Verdict::Refused(k) = v {
         return Listed::Refused(k);
     }

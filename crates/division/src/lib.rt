@@ -51,8 +51,8 @@ fn accept_divisor(d: &[u64]) -> Verdict
 fn admit(f: &[u64], d: &[u64]) -> Verdict
     ensures { λ r. ⌜ refusalOf r ≡ admitted (now (f .entry)) (now (d .entry)) ⌝ }
 {
-    let a = accepting::accept(f);
-    let b = accepting::accept(d);
+    let a = expression_accept::accept(f);
+    let b = expression_accept::accept(d);
     let both = lesser(a, b);
     let Verdict::Accepted = both else {
         return both;
@@ -80,7 +80,7 @@ fn copy_sorted(s: &[u64], to: &mut [u64]) -> usize
     ensures { λ r. ⌜ ListedFront (now (to .entry)) (now (to .exit)) r (sort (cubesOf (now (s .entry)))) ⌝ }
 {
     let n = copy(s, to);
-    sorting::sort_part(to, 0, n);
+    expression_sort::sort_part(to, 0, n);
     n
 }
 
@@ -92,7 +92,7 @@ fn holds(passed: bool, s: &[u64], c: Cube) -> bool
     if !passed {
         return false;
     }
-    let p = survey::find(s, c);
+    let p = expression_survey::find(s, c);
     match p {
         Place::At(_) => true,
         Place::Nothing => false,
@@ -104,7 +104,11 @@ fn fits(f: &[u64], c: Cube, b: Cube) -> bool
     requires { ⌜ ordered (cubesOf (now f)) ≡ true ⌝ }
     ensures { λ r. ⌜ r ≡ (apart (lits c) (lits b) && has (union (lits c) (lits b)) (cubesOf (now (f .entry)))) ⌝ }
 {
-    holds(cubes::is_empty(cubes::common(c, b)), f, cubes::union(c, b))
+    holds(
+        cube_sets::is_empty(cube_sets::common(c, b)),
+        f,
+        cube_sets::union(c, b),
+    )
 }
 
 // Whether c fits each cube of d.
@@ -134,10 +138,10 @@ fn list_quotient(f: &[u64], d: &[u64], to: &mut [u64]) -> usize
     while i < n {
         let e = expression::cube_at(f, i);
         i += 1;
-        if !cubes::contains(e, first) {
+        if !cube_sets::contains(e, first) {
             continue;
         }
-        let c = cubes::without(e, first);
+        let c = cube_sets::without(e, first);
         if !fits_all(f, d, c) {
             continue;
         }
@@ -153,7 +157,7 @@ fn list_quotient_sorted(f: &[u64], d: &[u64], to: &mut [u64]) -> usize
     ensures { λ r. ⌜ ListedFront (now (to .entry)) (now (to .exit)) r (sort (divisors (cubesOf (now (f .entry))) (cubesOf (now (d .entry))))) ⌝ }
 {
     let k = list_quotient(f, d, to);
-    sorting::sort_part(to, 0, k);
+    expression_sort::sort_part(to, 0, k);
     k
 }
 
@@ -162,7 +166,7 @@ fn is_made_with(q: &[u64], b: Cube, e: Cube) -> bool
     requires { ⌜ ordered (cubesOf (now q)) ≡ true ⌝ }
     ensures { λ r. ⌜ r ≡ (sub (lits b) (lits e) && has (without (lits e) (lits b)) (cubesOf (now (q .entry)))) ⌝ }
 {
-    holds(cubes::contains(e, b), q, cubes::without(e, b))
+    holds(cube_sets::contains(e, b), q, cube_sets::without(e, b))
 }
 
 // Whether that is so of no cube of d.
@@ -225,13 +229,13 @@ pub fn divide(f: &[u64], d: &[u64], q: &mut [u64], r: &mut [u64]) -> Division
     if let Verdict::Refused(k) = v {
         return Division::Refused(k);
     }
-    let mut dividend = [0u64; accepting::WORDS];
+    let mut dividend = [0u64; expression_accept::WORDS];
     let n = copy_sorted(f, &mut dividend);
     let cubes = expression::part(&dividend, 0, n);
-    let mut quotient = [0u64; accepting::WORDS];
+    let mut quotient = [0u64; expression_accept::WORDS];
     let k = list_quotient_sorted(cubes, d, &mut quotient);
     let whole = expression::part(&quotient, 0, k);
-    let mut remainder = [0u64; accepting::WORDS];
+    let mut remainder = [0u64; expression_accept::WORDS];
     let m = list_spared(cubes, whole, d, &mut remainder);
     let rest = expression::part(&remainder, 0, m);
     hand_over(whole, rest, q, r)

@@ -136,9 +136,9 @@ fn named(head: &[u8]) -> u8 {
 
 fn counted(op: u8, n: Network, v: u64) -> Told {
     if op == 1 {
-        return nets::told(ruling::literals(n));
+        return nets::told(network_rules::literals(n));
     }
-    nets::told(evaluation::evaluate(n, v))
+    nets::told(network_evaluate::evaluate(n, v))
 }
 
 fn answer_net(op: u8, n: Network, v: u64, out: &mut [u8]) -> usize {

@@ -17,22 +17,22 @@ use Rattle.network.specs.Held.{netOf, mostVariables}
 use Rattle.network.specs.Handed.{Holds}
 use Rattle.network.specs.declared.Network.{Network}
 use Rattle.network.proofs.Holding.{rules-divisors, rules-iff}
-use Rattle.extraction.specs.Divisor as extraction
-use Rattle.extraction.specs.Extract.{step}
-use Rattle.extraction.specs.Run.{Made, made, Result, Move, finished, take as taking, done, asked, move, ended, runFrom}
-use Rattle.extraction.specs.Meaning.{Good, Within, Worth, Allows}
-use Rattle.extraction.specs.Meaning.Allows.{nothing, noNumber, noRows, next}
-use Rattle.extraction.proofs.Running.{from-none, from-finished, from-stuck, from-take}
-use Rattle.extraction.proofs.Moving.{worth-done, move-iff}
-use Rattle.extraction.proofs.Making.{step-variables}
-use Rattle.extraction.proofs.Following.{rules-good, rules-within}
-use Rattle.divisor.specs.Divisor.{divisorOf, madeOf, noStep}
-use Rattle.choice.specs.Choice.{chosenIn, Chosen}
-use Rattle.divisor.specs.declared.Step.{Step}
-use Rattle.replace.specs.Replace.{outcome, Stepped}
-use Rattle.replace.specs.declared.Outcome.the-variants as Outcome
-use Rattle.replace.specs.declared.Next.{Next}
-use Rattle.replace.proofs.Keeping.{Takes, takes-is, takes-rules, takes-arranged}
+use Rattle.extract_laws.specs.Divisor as extraction
+use Rattle.extract_laws.specs.Extract.{step}
+use Rattle.extract_laws.specs.Run.{Made, made, Result, Move, finished, take as taking, done, asked, move, ended, runFrom}
+use Rattle.extract_laws.specs.Meaning.{Good, Within, Worth, Allows}
+use Rattle.extract_laws.specs.Meaning.Allows.{nothing, noNumber, noRows, next}
+use Rattle.extract_laws.proofs.Running.{from-none, from-finished, from-stuck, from-take}
+use Rattle.extract_laws.proofs.Moving.{worth-done, move-iff}
+use Rattle.extract_laws.proofs.Making.{step-variables}
+use Rattle.extract_laws.proofs.Following.{rules-good, rules-within}
+use Rattle.extract_divisor.specs.Divisor.{divisorOf, madeOf, noStep}
+use Rattle.extract_choice.specs.Choice.{chosenIn, Chosen}
+use Rattle.extract_divisor.specs.declared.Step.{Step}
+use Rattle.extract_step.specs.Replace.{outcome, Stepped}
+use Rattle.extract_step.specs.declared.Outcome.the-variants as Outcome
+use Rattle.extract_step.specs.declared.Next.{Next}
+use Rattle.extract_step.proofs.Keeping.{Takes, takes-is, takes-rules, takes-arranged}
 use Rattle.extract.specs.Answers.{stopOf, Lists, Told}
 use Rattle.extract.specs.Parts.{Runnable, endedAt, reasonOf, stoppedWith}
 use Rattle.extract.specs.declared.Stop.{Stop}

@@ -12,12 +12,12 @@ use Rattle.network.specs.Handed.{Holds, Blank}
 use Rattle.network.specs.declared.Network.{Network}
 use Rattle.network.proofs.Ruling.{rules-lawful}
 use Rattle.network.proofs.Handing.{holds-net}
-use Rattle.extraction.specs.Run.{runFrom, inOrder, run}
-use Rattle.extraction.specs.Meaning.{Good, Within}
-use Rattle.extraction.proofs.Arranging.{in-order-inputs, in-order-outputs, in-order-variables, in-order-cubes, in-order-literals, in-order-good, in-order-ordered}
-use Rattle.extraction.proofs.Following.{rules-good, rules-within, holds-rules}
-use Rattle.tidy.proofs.Arranged.{arranged-in}
-use Rattle.divisor.specs.Divisor.{noStep}
+use Rattle.extract_laws.specs.Run.{runFrom, inOrder, run}
+use Rattle.extract_laws.specs.Meaning.{Good, Within}
+use Rattle.extract_laws.proofs.Arranging.{in-order-inputs, in-order-outputs, in-order-variables, in-order-cubes, in-order-literals, in-order-good, in-order-ordered}
+use Rattle.extract_laws.proofs.Following.{rules-good, rules-within, holds-rules}
+use Rattle.extract_tidy.proofs.Arranged.{arranged-in}
+use Rattle.extract_divisor.specs.Divisor.{noStep}
 use Rattle.extract.specs.Answers.{ran, Told}
 use Rattle.extract.specs.Parts.{Runnable}
 use Rattle.extract.specs.declared.Answer.the-variants.{Refused}

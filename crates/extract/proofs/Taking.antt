@@ -10,25 +10,25 @@ use borrow.Author.Tests.{le-ltb}
 use Rattle.network.specs.Net.{Net, literalCount}
 use Rattle.network.specs.Held.{netOf, mostLiterals}
 use Rattle.network.specs.declared.Network.{Network}
-use Rattle.extraction.specs.Divisor as extraction
-use Rattle.extraction.specs.Extract.{weight, best, step}
-use Rattle.extraction.specs.Run.{Made, made, Move, finished, stuck, take, roomFor, choose, move}
-use Rattle.extraction.specs.Meaning.{Good, Worth, Allows}
-use Rattle.extraction.specs.Meaning.Allows.{nothing, noNumber, noRows, next}
-use Rattle.extraction.proofs.Weighing.{step-smaller}
-use Rattle.extraction.proofs.Choosing.{best-iff}
-use Rattle.extraction.proofs.Moving.{worth-done, worth-one, move-iff}
-use Rattle.extraction.proofs.Keeping.{worth-fit}
-use Rattle.tidy.specs.Tidy.{arranged}
-use Rattle.divisor.specs.Divisor.{divisorOf, madeOf}
-use Rattle.choice.specs.Choice.{worthIn, chosenIn, Chosen}
-use Rattle.divisor.specs.declared.Divisor.{Divisor}
-use Rattle.divisor.specs.declared.Step.{Step}
-use Rattle.replace.specs.Replace.{allowed, outcome, Stepped}
-use Rattle.replace.specs.declared.Outcome.the-variants as Outcome
-use Rattle.replace.specs.declared.Next.{Next}
-use Rattle.fitness.proofs.Fitting.{fitting-iff}
-use Rattle.replace.proofs.Keeping.{Takes, stepped-takes}
+use Rattle.extract_laws.specs.Divisor as extraction
+use Rattle.extract_laws.specs.Extract.{weight, best, step}
+use Rattle.extract_laws.specs.Run.{Made, made, Move, finished, stuck, take, roomFor, choose, move}
+use Rattle.extract_laws.specs.Meaning.{Good, Worth, Allows}
+use Rattle.extract_laws.specs.Meaning.Allows.{nothing, noNumber, noRows, next}
+use Rattle.extract_laws.proofs.Weighing.{step-smaller}
+use Rattle.extract_laws.proofs.Choosing.{best-iff}
+use Rattle.extract_laws.proofs.Moving.{worth-done, worth-one, move-iff}
+use Rattle.extract_laws.proofs.Keeping.{worth-fit}
+use Rattle.extract_tidy.specs.Tidy.{arranged}
+use Rattle.extract_divisor.specs.Divisor.{divisorOf, madeOf}
+use Rattle.extract_choice.specs.Choice.{worthIn, chosenIn, Chosen}
+use Rattle.extract_divisor.specs.declared.Divisor.{Divisor}
+use Rattle.extract_divisor.specs.declared.Step.{Step}
+use Rattle.extract_step.specs.Replace.{allowed, outcome, Stepped}
+use Rattle.extract_step.specs.declared.Outcome.the-variants as Outcome
+use Rattle.extract_step.specs.declared.Next.{Next}
+use Rattle.extract_fit.proofs.Fitting.{fitting-iff}
+use Rattle.extract_step.proofs.Keeping.{Takes, stepped-takes}
 use Rattle.extract.specs.Answers.{stopOf}
 use Rattle.extract.specs.Parts.{reasonOf}
 

@@ -20,17 +20,17 @@ use Rattle.network.specs.Answers.{counted, evaluated}
 use Rattle.network.specs.declared.Network.{Network}
 use Rattle.network.specs.declared.Number.the-variants.{Is}
 use Rattle.network.proofs.Handing.{holds-net, holds-one, blank-one}
-use Rattle.extraction.specs.Run as extraction
-use Rattle.extraction.specs.Run.{Made, Result, done, asked, numbers, rows, inOrder, run}
-use Rattle.extraction.specs.Meaning.{Leads, fall}
-use Rattle.extraction.proofs.Running.{run-leads}
-use Rattle.extraction.proofs.Keeping.{run-good, run-literals}
-use Rattle.extraction.proofs.Following.{rules-good, run-rules, run-evaluated}
-use Rattle.tidy.proofs.Tidied.{Shaped}
-use Rattle.divisor.specs.Divisor.{divisorOf, madeOf}
-use Rattle.divisor.specs.declared.Divisor.{Divisor}
-use Rattle.divisor.specs.declared.Divisor.the-variants.{Pair, Sum}
-use Rattle.divisor.specs.declared.Step.{Step}
+use Rattle.extract_laws.specs.Run as extraction
+use Rattle.extract_laws.specs.Run.{Made, Result, done, asked, numbers, rows, inOrder, run}
+use Rattle.extract_laws.specs.Meaning.{Leads, fall}
+use Rattle.extract_laws.proofs.Running.{run-leads}
+use Rattle.extract_laws.proofs.Keeping.{run-good, run-literals}
+use Rattle.extract_laws.proofs.Following.{rules-good, run-rules, run-evaluated}
+use Rattle.extract_tidy.proofs.Tidied.{Shaped}
+use Rattle.extract_divisor.specs.Divisor.{divisorOf, madeOf}
+use Rattle.extract_divisor.specs.declared.Divisor.{Divisor}
+use Rattle.extract_divisor.specs.declared.Divisor.the-variants.{Pair, Sum}
+use Rattle.extract_divisor.specs.declared.Step.{Step}
 use Rattle.extract.specs.Answers.{stopOf, Lists, ran, Told}
 use Rattle.extract.specs.declared.Stop.{Stop}
 use Rattle.extract.specs.declared.Stop.the-variants.{Done, Asked, Numbers, Rows}

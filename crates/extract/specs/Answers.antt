@@ -8,9 +8,9 @@ use lib.ListN.{length, take, drop, replicate}
 use Rattle.network.specs.Held.{netOf, rules, mostVariables}
 use Rattle.network.specs.Handed.{Holds, Blank}
 use Rattle.network.specs.declared.Network.{Network}
-use Rattle.extraction.specs.Run as extraction
-use Rattle.extraction.specs.Run.{Made, Result, done, asked, numbers, rows, run}
-use Rattle.divisor.specs.Divisor.{madeOf, noStep}
+use Rattle.extract_laws.specs.Run as extraction
+use Rattle.extract_laws.specs.Run.{Made, Result, done, asked, numbers, rows, run}
+use Rattle.extract_divisor.specs.Divisor.{madeOf, noStep}
 use Rattle.extract.specs.declared.Stop.{Stop}
 use Rattle.extract.specs.declared.Stop.the-variants.{Done, Asked, Numbers, Rows}
 use Rattle.extract.specs.declared.Answer.the-variants.{Stopped, Refused}

@@ -8,10 +8,10 @@ use lib.Signed.{ltZ}
 use Rattle.network.specs.Held.{netOf, rules}
 use Rattle.network.specs.Handed.{Holds}
 use Rattle.network.specs.declared.Network.{Network}
-use Rattle.divisor.specs.declared.Step.{Step}
-use Rattle.replace.specs.declared.Outcome.{Outcome}
-use Rattle.replace.specs.declared.Outcome.the-variants as Outcome
-use Rattle.tidy.specs.Tidy.{arranged}
+use Rattle.extract_divisor.specs.declared.Step.{Step}
+use Rattle.extract_step.specs.declared.Outcome.{Outcome}
+use Rattle.extract_step.specs.declared.Outcome.the-variants as Outcome
+use Rattle.extract_tidy.specs.Tidy.{arranged}
 use Rattle.extract.specs.declared.Stop.{Stop}
 use Rattle.extract.specs.declared.Stop.the-variants.{Done, Asked, Numbers, Rows}
 use Rattle.extract.specs.declared.Answer.the-variants.{Stopped}

@@ -1,14 +1,14 @@
 // Runs: the best divisor again and again, until the first reason to stop.
-use divisor::Step;
+use extract_divisor::Step;
+use extract_step::Outcome;
 use network::Judged;
 use network::Network;
-use replace::Outcome;
 ghost use mathlib.Core.Path.{_≡_};
 ghost use mathlib.Core.Option.{some};
 ghost use lib.ListN.{replicate};
 ghost use Rattle.network.specs.Held.{netOf, mostVariables};
-ghost use Rattle.extraction.specs.Run.{runFrom};
-ghost use Rattle.divisor.specs.Divisor.{noStep};
+ghost use Rattle.extract_laws.specs.Run.{runFrom};
+ghost use Rattle.extract_divisor.specs.Divisor.{noStep};
 ghost use Rattle.extract.specs.Answers.{Told, ran};
 ghost use Rattle.extract.specs.Parts.{Runnable, endedAt, reasonOf, stoppedWith};
 
@@ -44,7 +44,7 @@ pub struct Ran {
 fn no_steps() -> [Step; STEPS]
     ensures { λ r. ⌜ r ≡ replicate mostVariables noStep ⌝ }
 {
-    [divisor::no_step(); STEPS]
+    [extract_divisor::no_step(); STEPS]
 }
 
 // Why a step that there is no room for is not made.
@@ -88,7 +88,7 @@ fn follow(n: Network, steps: u64) -> Ran
     let mut count = 0;
     let mut left = steps;
     let mut net = n;
-    let mut s = choice::best(n);
+    let mut s = extract_choice::best(n);
     loop {
         if left == 0 {
             return stopped(ended(s.weight), net, count, list);
@@ -97,7 +97,7 @@ fn follow(n: Network, steps: u64) -> Ran
             return stopped(Stop::Done, net, count, list);
         }
         let d = s.divisor;
-        let t = replace::step(net, d);
+        let t = extract_step::step(net, d);
         let made = t.outcome;
         let next = t.network;
         let Outcome::Made = made else {
@@ -106,7 +106,7 @@ fn follow(n: Network, steps: u64) -> Ran
         list[count] = s;
         count += 1;
         left -= 1;
-        s = choice::best(next);
+        s = extract_choice::best(next);
         net = next;
     }
 }
@@ -115,7 +115,7 @@ fn follow(n: Network, steps: u64) -> Ran
 pub fn run(n: Network, steps: u64) -> Ran
     ensures { λ r. ⌜ Told (ran steps n) r ⌝ }
 {
-    let t = tidy::in_order(n);
+    let t = extract_tidy::in_order(n);
     let answer = t.answer;
     let network = t.network;
     let Judged::Accepted = answer else {

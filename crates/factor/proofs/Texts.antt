@@ -4,7 +4,7 @@ use mathlib.Core.Path.{_≡_, refl, sym, _∙_, ap}
 use mathlib.Core.List.{List, [], _∷_, _++_, append-nil}
 use Rattle.sets.proofs.Literals.{literals-none}
 use Rattle.cube.specs.Cube.{width}
-use Rattle.products.specs.Products.{cubeText}
+use Rattle.letters_products.specs.Products.{cubeText}
 use Rattle.expression.specs.Words.{cubesOf}
 use Rattle.expression.specs.Expression.{place, sort}
 use Rattle.factor.specs.Form.{formBy, formOf}

@@ -13,8 +13,8 @@ use Rattle.sets.specs.Sets.{mem, without}
 use Rattle.sets.proofs.Truth.{decided}
 use Rattle.sets.proofs.Lists.{_∈_, keep-out, map-out}
 use Rattle.cube.specs.Cube.{width}
-use Rattle.products.specs.Products.{literalText, cubeText}
-use Rattle.products.proofs.Texts.{literal-short, cube-length}
+use Rattle.letters_products.specs.Products.{literalText, cubeText}
+use Rattle.letters_products.proofs.Texts.{literal-short, cube-length}
 use Rattle.expression.specs.Expression.{literalsOf}
 use Rattle.factor.specs.Form.{usedIn, mostUsed, over, rest, formBy}
 use Rattle.factor.specs.Text.{sumText, formText}

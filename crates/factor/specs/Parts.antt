@@ -4,7 +4,7 @@ use mathlib.Core.Path.{_≡_}
 use mathlib.Core.List.{List, [], _∷_, _++_}
 use lib.ListN.{length, take, drop}
 use lib.Seq.{slice}
-use Rattle.products.specs.Products.{literalText}
+use Rattle.letters_products.specs.Products.{literalText}
 use Rattle.letters.specs.Laid.{Laid}
 use Rattle.expression.specs.Words.{cubesOf}
 use Rattle.expression.specs.Expression.{literalsOf}

@@ -1,7 +1,7 @@
 -- The text of a form, as bytes.
 use Prim.Native.Nat.{ℕ}
 use mathlib.Core.List.{List, [], _∷_, _++_}
-use Rattle.products.specs.Products.{literalText, cubeText}
+use Rattle.letters_products.specs.Products.{literalText, cubeText}
 use Rattle.expression.specs.Words.{cubesOf}
 use Rattle.factor.specs.Form.{Form, sum, times, plus, formOf}
 

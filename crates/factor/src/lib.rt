@@ -27,11 +27,11 @@ fn put_cubes(o: &mut [u8], at: usize, w: &[u64], a: usize, e: usize) -> usize
     if a == e {
         return letters::put(o, at, b'0');
     }
-    let mut p = products::put_product(o, at, expression::cube_at(w, a));
+    let mut p = letters_products::put_product(o, at, expression::cube_at(w, a));
     let mut i = a + 1;
     while i < e {
         p = letters::put(o, p, b'+');
-        p = products::put_product(o, p, expression::cube_at(w, i));
+        p = letters_products::put_product(o, p, expression::cube_at(w, i));
         i += 1;
     }
     p
@@ -85,7 +85,7 @@ fn gather(w: &mut [u64], spare: &mut [u64], a: usize, e: usize, l: Literal) -> u
     while i < e {
         let c = expression::cube_at(w, i);
         if cube::has(c, l) {
-            expression::put_cube(w, m, cubes::without(c, one));
+            expression::put_cube(w, m, cube_sets::without(c, one));
             m += 1;
         } else {
             expression::put_cube(spare, i - m, c);
@@ -150,7 +150,7 @@ fn product(
     requires { ⌜ Spared (now w) (now spare) a e × Countable at (productOf (l .0) (cubesFrom a e (now w))) ⌝ }
     ensures { λ r. ⌜ Wrought (now (w .entry)) (now (w .exit)) (now (o .entry)) (now (o .exit)) a e at r (productOf (l .0) (cubesFrom a e (now (w .entry)))) ⌝ }
 {
-    let p = products::put_literal(o, at, l);
+    let p = letters_products::put_literal(o, at, l);
     let q = letters::put(o, p, b'*');
     let r = letters::put(o, q, b'(');
     let s = sum(w, spare, a, e, o, r);
@@ -164,11 +164,11 @@ fn text(f: &[u64], o: &mut [u8]) -> usize
     requires { ⌜ length (now f) ≤ 2048 ⌝ }
     ensures { λ r. ⌜ Laid (now (o .entry)) (now (o .exit)) 0 r (textOf (now (f .entry))) ⌝ }
 {
-    let mut w = [0u64; accepting::WORDS];
-    let mut spare = [0u64; accepting::WORDS];
+    let mut w = [0u64; expression_accept::WORDS];
+    let mut spare = [0u64; expression_accept::WORDS];
     let n = expression::number(f);
     copy(&mut w, f, 0, n);
-    sorting::sort_part(&mut w, 0, n);
+    expression_sort::sort_part(&mut w, 0, n);
     sum(&mut w, &mut spare, 0, n, o, 0)
 }
 
@@ -176,7 +176,7 @@ fn text(f: &[u64], o: &mut [u8]) -> usize
 pub fn factored(f: &[u64], o: &mut [u8]) -> Wrote
     ensures { λ a. ⌜ Told (refusedBy (now (f .entry)) (now (o .entry))) (now (f .entry)) (now (o .entry)) (now (o .exit)) a ⌝ }
 {
-    let v = accepting::accept(f);
+    let v = expression_accept::accept(f);
     if let Verdict::Refused(k) = v {
         return Wrote::Refused(k);
     }

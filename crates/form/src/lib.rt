@@ -33,14 +33,14 @@ fn put_form(at: usize, f: &[u64]) -> usize {
 pub fn put_text(at: usize, n: Network, i: usize) -> usize {
     let words = n.words;
     let counts = n.counts;
-    put_form(at, nodes::node(&words, &counts, i))
+    put_form(at, network_nodes::node(&words, &counts, i))
 }
 
 // The literals of the network; 0 where it breaks a rule.
 pub fn literals(n: Network) -> u64
     ensures { λ r. ⌜ r ≡ cond (rules n) (literalCount (netOf n)) 0 ⌝ }
 {
-    let a = ruling::literals(n);
+    let a = network_rules::literals(n);
     match a {
         Number::Is(x) => x,
         Number::No(_) => 0,

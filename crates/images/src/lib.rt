@@ -1,7 +1,7 @@
 // Requests for images. As in wire, safety and an end are all that is promised here.
-use image::Wrote;
+use image_read::Answer;
+use image_write::Wrote;
 use network::Network;
-use reader::Answer;
 use wire::Told;
 
 fn wrote(a: Wrote) -> Told {
@@ -12,7 +12,7 @@ fn wrote(a: Wrote) -> Told {
 }
 
 fn write(n: Network, room: &mut [u8], out: &mut [u8]) -> usize {
-    let a = image::write(n, room);
+    let a = image_write::write(n, room);
     wire::put_left(out, wrote(a), room)
 }
 
@@ -32,7 +32,7 @@ fn accepted(a: Answer) -> Told {
 
 // `read BYTES`
 pub fn on_read(bytes: &[u8], out: &mut [u8]) -> usize {
-    let r = reader::read(bytes);
+    let r = image_read::read(bytes);
     let answer = r.answer;
     let network = r.network;
     nets::put_handed(out, accepted(answer), network)

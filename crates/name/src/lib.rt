@@ -23,19 +23,19 @@ fn after_number(line: &[u8], i: usize) -> &[u8] {
 
 // The name of input i in the line; nothing where it gives none.
 fn named(line: &[u8], i: usize) -> &[u8] {
-    let hash = after(lines::trim_front(line), b'#');
-    let letter = after(lines::trim_front(hash), b'x');
+    let hash = after(table_lines::trim_front(line), b'#');
+    let letter = after(table_lines::trim_front(hash), b'x');
     let number = after_number(letter, i);
-    let name = lines::trim_front(number);
+    let name = table_lines::trim_front(number);
     if name.len() == number.len() {
         return &name[0..0];
     }
-    lines::trim_end(name)
+    table_lines::trim_end(name)
 }
 
 // Whether the line begins as a cube line does.
 fn is_cube(line: &[u8]) -> bool {
-    let content = lines::trim_front(line);
+    let content = table_lines::trim_front(line);
     if content.len() == 0 {
         return false;
     }

@@ -11,7 +11,7 @@ use Rattle.expression.specs.Words.{cubesOf, spareOf}
 use Rattle.expression.proofs.Words.{fit, words-ext, cubes-length, spare-length}
 use Rattle.network.specs.Net.{Node, Net, nodes}
 use Rattle.network.specs.Held.{numbered, used, netOf}
-use Rattle.nodes.specs.Nodes.{cut}
+use Rattle.network_nodes.specs.Nodes.{cut}
 use Rattle.network.specs.Handed.{flat, Holds, Blank}
 use Rattle.network.specs.declared.Network.{Network}
 

@@ -21,8 +21,8 @@ use Rattle.network.specs.Listing.{listing}
 use Rattle.network.specs.Evaluation.{settle, answers, evaluate}
 use Rattle.network.specs.Meaning.{Consistent, Distinct, Sound}
 use Rattle.network.specs.Held.{numbered, used, netOf, sized, upTo, reach, lawful, rules, mostInputs, mostOutputs, mostVariables, mostCubes, mostLiterals}
-use Rattle.nodes.specs.Nodes.{cut}
-use Rattle.nodes.proofs.Cutting.{cut-length, cut-total, cut-lengths}
+use Rattle.network_nodes.specs.Nodes.{cut}
+use Rattle.network_nodes.proofs.Cutting.{cut-length, cut-total, cut-lengths}
 use Rattle.network.specs.Rules.{Alike, Follows}
 use Rattle.network.specs.Answers.{judged, counted, evaluated}
 use Rattle.network.specs.declared.Network.{Network}

@@ -11,7 +11,7 @@ use Rattle.sets.specs.Lists.{total}
 use Rattle.sets.proofs.Truth.{both, decided}
 use Rattle.expression.specs.Answers.{capped}
 use Rattle.expression.proofs.Words.{cubes-length}
-use Rattle.nodes.specs.Nodes.{countBefore}
+use Rattle.network_nodes.specs.Nodes.{countBefore}
 use Rattle.network.specs.Net.{literalCount}
 use Rattle.network.specs.Held.{used, netOf, rules, upTo, sized, lawful, mostInputs, mostOutputs, mostVariables, mostCubes}
 use Rattle.network.specs.Parts.{Sized}

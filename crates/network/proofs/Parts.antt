@@ -6,8 +6,8 @@ use native.Mathlib.Omega.{arith}
 use lib.ListN.{length, getD, take, drop, length-drop}
 use lib.Seq.{getD-take, getD-drop, length-take-le, take-take}
 use Rattle.expression.specs.Words.{cubesOf}
-use Rattle.nodes.specs.Nodes.{cut}
-use Rattle.nodes.proofs.Cutting.{cut-length, cut-take}
+use Rattle.network_nodes.specs.Nodes.{cut}
+use Rattle.network_nodes.proofs.Cutting.{cut-length, cut-take}
 use Rattle.network.specs.Parts.{nodesOf}
 
 module _ (cs ws : List ℕ) where

@@ -12,7 +12,7 @@ use Rattle.expression.proofs.Words.{cubes-length}
 use Rattle.network.specs.Net.{Node, Net, nodes, literalCount}
 use Rattle.network.specs.Meaning.{Through}
 use Rattle.network.specs.Held.{numbered, used, netOf, rules}
-use Rattle.nodes.specs.Nodes.{cut}
+use Rattle.network_nodes.specs.Nodes.{cut}
 use Rattle.network.specs.Rules.{Lawful}
 use Rattle.network.specs.Handed.{Holds, nodeSlots}
 use Rattle.network.specs.Answers.{judged}

@@ -7,7 +7,7 @@ use lib.ListN.{length, take, drop}
 use Rattle.sets.specs.Lists.{all, total}
 use Rattle.expression.specs.Words.{cubesOf}
 use Rattle.expression.specs.Expression.{expression}
-use Rattle.nodes.specs.Nodes.{cut}
+use Rattle.network_nodes.specs.Nodes.{cut}
 use Rattle.network.specs.Net.{Node, Net, nodes, variables, literalCount}
 use Rattle.network.specs.Listing.{listing}
 use Rattle.network.specs.declared.Network.{Network}

@@ -5,7 +5,7 @@ use mathlib.Core.List.{List}
 use lib.ListN.{length, take, drop}
 use Rattle.sets.specs.Lists.{total}
 use Rattle.expression.specs.Words.{cubesOf}
-use Rattle.nodes.specs.Nodes.{cut}
+use Rattle.network_nodes.specs.Nodes.{cut}
 use Rattle.network.specs.Net.{Net}
 use Rattle.network.specs.Held.{netOf, mostCubes, mostVariables}
 use Rattle.network.specs.declared.Network.{Network}

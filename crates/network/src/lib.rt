@@ -69,7 +69,7 @@ pub fn is_sized(n: Network) -> bool
         return false;
     }
     let counts = n.counts;
-    nodes::start(&counts, n.outputs + n.divisors, CUBES + 1) <= CUBES
+    network_nodes::start(&counts, n.outputs + n.divisors, CUBES + 1) <= CUBES
 }
 
 // The network of zeros, handed back beside a refusal.

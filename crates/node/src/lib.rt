@@ -12,8 +12,8 @@ ghost use Rattle.sets.specs.Masks.{bit};
 ghost use Rattle.expression.specs.Words.{cubesOf};
 ghost use Rattle.expression.specs.Expression.{literalsOf};
 ghost use Rattle.expression.specs.Answers.{capped};
-ghost use Rattle.nodes.specs.Nodes.{cut};
-ghost use Rattle.hangs.specs.Hangs.{hangsAt, Marks};
+ghost use Rattle.network_nodes.specs.Nodes.{cut};
+ghost use Rattle.network_hangs.specs.Hangs.{hangsAt, Marks};
 
 // The longest text that widens a column.
 const COLUMN: usize = 40;
@@ -24,7 +24,7 @@ pub fn literals(n: Network, i: usize) -> u64
 {
     let words = n.words;
     let counts = n.counts;
-    survey::literals(nodes::node(&words, &counts, i))
+    expression_survey::literals(network_nodes::node(&words, &counts, i))
 }
 
 // The length of the factored text of f, or 0 where that is too long for a column.
@@ -49,7 +49,7 @@ fn widened(most: usize, n: Network, i: usize) -> usize
 {
     let words = n.words;
     let counts = n.counts;
-    let k = length_of(nodes::node(&words, &counts, i));
+    let k = length_of(network_nodes::node(&words, &counts, i));
     if most < k {
         return k;
     }
@@ -75,7 +75,7 @@ fn mask(n: Network, i: usize) -> u64
     ensures { λ r. ⌜ Marks r (cond (ltb i (n .outputs)) (hangsAt n i) []) ⌝ }
 {
     if i < n.outputs {
-        return hangs::hangs(n, i);
+        return network_hangs::hangs(n, i);
     }
     0
 }

@@ -12,18 +12,18 @@ use mir.Syntax.{w32}
 use mir.Val.{SFits, toZ, ofZ}
 use mir.ValLaws.{toZ-ofZ}
 use Rattle.network.specs.Net.{Net, literalCount}
-use Rattle.extraction.specs.Divisor.{Divisor}
-use Rattle.extraction.specs.Extract.{weight, step}
-use Rattle.extraction.specs.Run.{Made, Result, Move, move, made, runFrom, inOrder, run}
-use Rattle.extraction.specs.Meaning.{Good, Worth, Leads, Allows, fall}
-use Rattle.extraction.specs.Meaning.Allows.{nothing, noNumber, noRows, next}
-use Rattle.extraction.specs.Meaning.Leads.{stay, onward}
-use Rattle.extraction.proofs.Weighing.{step-literals}
-use Rattle.extraction.proofs.Stepping.{step-good}
-use Rattle.extraction.proofs.Arranging.{in-order-literals, in-order-good}
-use Rattle.extraction.proofs.Moving.{move-iff}
-use Rattle.extraction.proofs.Running.{from-none, from-finished, from-stuck, from-take, run-leads}
-use Rattle.extraction.proofs.Keeping.{worth-fit, run-literals}
+use Rattle.extract_laws.specs.Divisor.{Divisor}
+use Rattle.extract_laws.specs.Extract.{weight, step}
+use Rattle.extract_laws.specs.Run.{Made, Result, Move, move, made, runFrom, inOrder, run}
+use Rattle.extract_laws.specs.Meaning.{Good, Worth, Leads, Allows, fall}
+use Rattle.extract_laws.specs.Meaning.Allows.{nothing, noNumber, noRows, next}
+use Rattle.extract_laws.specs.Meaning.Leads.{stay, onward}
+use Rattle.extract_laws.proofs.Weighing.{step-literals}
+use Rattle.extract_laws.proofs.Stepping.{step-good}
+use Rattle.extract_laws.proofs.Arranging.{in-order-literals, in-order-good}
+use Rattle.extract_laws.proofs.Moving.{move-iff}
+use Rattle.extract_laws.proofs.Running.{from-none, from-finished, from-stuck, from-take, run-leads}
+use Rattle.extract_laws.proofs.Keeping.{worth-fit, run-literals}
 use Rattle.report.specs.Report.{stepLine, stepLines}
 use Rattle.report.specs.Meaning.{countsOf, linesWith}
 use Rattle.report.specs.Parts.{Off, Falls}

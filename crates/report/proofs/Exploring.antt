@@ -15,12 +15,12 @@ use Rattle.network.specs.declared.Network.{Network}
 use Rattle.network.specs.declared.Number.the-variants.{Is}
 use Rattle.network.proofs.Handing.{holds-net}
 use Rattle.network.proofs.Holding.{rules-divisors}
-use Rattle.extraction.specs.Run.{Made, Result, run}
-use Rattle.extraction.specs.Meaning.{Good, Within}
-use Rattle.extraction.proofs.Running.{run-few}
-use Rattle.extraction.proofs.Keeping.{run-good}
-use Rattle.extraction.proofs.Following.{rules-good, rules-within, run-rules}
-use Rattle.divisor.specs.Divisor.{madeOf}
+use Rattle.extract_laws.specs.Run.{Made, Result, run}
+use Rattle.extract_laws.specs.Meaning.{Good, Within}
+use Rattle.extract_laws.proofs.Running.{run-few}
+use Rattle.extract_laws.proofs.Keeping.{run-good}
+use Rattle.extract_laws.proofs.Following.{rules-good, rules-within, run-rules}
+use Rattle.extract_divisor.specs.Divisor.{madeOf}
 use Rattle.extract.specs.Answers as extract
 use Rattle.extract.specs.Answers.{stopOf, Lists, ran}
 use Rattle.extract.specs.declared.Stop.{Stop}

@@ -9,8 +9,8 @@ use lib.ListN.{length, take, drop}
 use borrow.Author.Tests.{lt-ltb, le-ltb}
 use Rattle.network.specs.Held.{netOf, rules}
 use Rattle.network.specs.Net.{Net}
-use Rattle.extraction.specs.Run.{run}
-use Rattle.divisor.specs.Divisor.{madeOf}
+use Rattle.extract_laws.specs.Run.{run}
+use Rattle.extract_divisor.specs.Divisor.{madeOf}
 use Rattle.table.specs.Table.{State, Outcome, accepted, refused, readText, tableNet}
 use Rattle.table.specs.Answers as table
 use Rattle.table.specs.declared.Answer.the-variants.{Read, Refused}

@@ -13,23 +13,23 @@ use Rattle.sets.proofs.Truth.{both, decided}
 use Rattle.sets.proofs.Lists.{_∈_, all-out}
 use Rattle.sets.proofs.Sets.{of-mem}
 use Rattle.cube.specs.Cube.{width}
-use Rattle.products.specs.Products.{cubeText}
+use Rattle.letters_products.specs.Products.{cubeText}
 use Rattle.letters.specs.Laid.{Countable}
 use Rattle.letters.proofs.Numbers.{decimal-length}
-use Rattle.products.proofs.Texts.{cube-length}
+use Rattle.letters_products.proofs.Texts.{cube-length}
 use Rattle.network.specs.Net.{Net, variables, literalCount}
-use Rattle.lines.specs.Text.{onto, linesOf}
-use Rattle.extraction.specs.Divisor.{Divisor, pair, sum, own, small}
-use Rattle.extraction.specs.Extract.{weight, step}
-use Rattle.extraction.specs.Run.{Stop, done, asked, numbers, rows, Made, made, run, inOrder}
-use Rattle.extraction.specs.Meaning.{Good, Within, Fit, Leads}
-use Rattle.extraction.specs.Meaning.Leads.{stay, onward}
-use Rattle.extraction.proofs.Using.{sum-parts}
-use Rattle.extraction.proofs.Making.{step-variables}
-use Rattle.extraction.proofs.Stepping.{step-good}
-use Rattle.extraction.proofs.Arranging.{in-order-literals, in-order-variables, in-order-good}
-use Rattle.extraction.proofs.Running.{run-leads, run-few}
-use Rattle.extraction.proofs.Keeping.{worth-fit, run-within}
+use Rattle.table_lines.specs.Text.{onto, linesOf}
+use Rattle.extract_laws.specs.Divisor.{Divisor, pair, sum, own, small}
+use Rattle.extract_laws.specs.Extract.{weight, step}
+use Rattle.extract_laws.specs.Run.{Stop, done, asked, numbers, rows, Made, made, run, inOrder}
+use Rattle.extract_laws.specs.Meaning.{Good, Within, Fit, Leads}
+use Rattle.extract_laws.specs.Meaning.Leads.{stay, onward}
+use Rattle.extract_laws.proofs.Using.{sum-parts}
+use Rattle.extract_laws.proofs.Making.{step-variables}
+use Rattle.extract_laws.proofs.Stepping.{step-good}
+use Rattle.extract_laws.proofs.Arranging.{in-order-literals, in-order-variables, in-order-good}
+use Rattle.extract_laws.proofs.Running.{run-leads, run-few}
+use Rattle.extract_laws.proofs.Keeping.{worth-fit, run-within}
 use Rattle.table.specs.Table.{Outcome, accepted, refused, readText, tableNet}
 use Rattle.table.specs.Meaning.{isLine}
 use Rattle.table.proofs.Refusals.{refused-line, text-long, accepted-complete}

@@ -8,11 +8,11 @@ use lib.ListN.{length, getD, take, drop, length-map}
 use lib.Seq.{length-take-le, getD-take}
 use Rattle.sets.proofs.Places.{drop-next}
 use Rattle.letters.specs.Letters.{decimal}
-use Rattle.products.specs.Products.{literalText, cubeText}
-use Rattle.extraction.specs.Divisor.{Divisor, pair, sum}
-use Rattle.extraction.specs.Run.{Stop, done, asked, numbers, rows, Made}
-use Rattle.divisor.specs.Divisor.{madeOf, noStep}
-use Rattle.divisor.specs.declared.Step.{Step}
+use Rattle.letters_products.specs.Products.{literalText, cubeText}
+use Rattle.extract_laws.specs.Divisor.{Divisor, pair, sum}
+use Rattle.extract_laws.specs.Run.{Stop, done, asked, numbers, rows, Made}
+use Rattle.extract_divisor.specs.Divisor.{madeOf, noStep}
+use Rattle.extract_divisor.specs.declared.Step.{Step}
 use Rattle.extract.specs.Answers.{stopOf}
 use Rattle.table.specs.declared.Answer.the-variants.{Read, Refused}
 use Rattle.report.specs.Parts.{madeIn, runOf, unlessRefused, foundText}

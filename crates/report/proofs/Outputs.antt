@@ -6,7 +6,7 @@ use mathlib.Core.List.{List}
 use lib.ListN.{length, getD}
 use Rattle.sets.specs.Lists.{any}
 use Rattle.sets.specs.Masks.{bit}
-use Rattle.text.specs.Lines.{CubeLine, covers}
+use Rattle.table_rows.specs.Lines.{CubeLine, covers}
 use Rattle.network.specs.Answers.{evaluated}
 use Rattle.network.specs.declared.Number.the-variants.{Is}
 use Rattle.table.specs.Table.{State, accepted, readText}

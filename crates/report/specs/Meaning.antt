@@ -2,7 +2,7 @@
 use Prim.Native.Nat.{ℕ, suc}
 use mathlib.Core.List.{List, [], _∷_, _++_}
 use lib.IntN.{ℤ, _-ℤ_}
-use Rattle.extraction.specs.Run.{Made}
+use Rattle.extract_laws.specs.Run.{Made}
 use Rattle.report.specs.Report.{stepLine}
 
 -- the counts that are printed after the steps

@@ -6,8 +6,8 @@ use lib.IntN.{ℤ, pos}
 use lib.ListN.{take}
 use Rattle.network.specs.Held.{netOf, mostVariables}
 use Rattle.network.specs.declared.Network.{Network}
-use Rattle.extraction.specs.Run.{Made, run}
-use Rattle.divisor.specs.Divisor.{madeOf}
+use Rattle.extract_laws.specs.Run.{Made, run}
+use Rattle.extract_divisor.specs.Divisor.{madeOf}
 use Rattle.extract.specs.Answers.{stopOf}
 use Rattle.extract.specs.declared.Steps.{Steps}
 use Rattle.table.specs.declared.Answer.{Answer}

@@ -3,10 +3,10 @@ use Prim.Native.Nat.{ℕ, suc}
 use mathlib.Core.List.{List, [], _∷_, _++_}
 use lib.IntN.{ℤ, pos, negsuc, _-ℤ_}
 use Rattle.letters.specs.Letters.{decimal}
-use Rattle.products.specs.Products.{cubeText}
+use Rattle.letters_products.specs.Products.{cubeText}
 use Rattle.network.specs.Net.{Net, variables, literalCount}
-use Rattle.extraction.specs.Divisor.{Divisor, pair, sum}
-use Rattle.extraction.specs.Run.{Stop, done, asked, numbers, rows, Made, Result, run}
+use Rattle.extract_laws.specs.Divisor.{Divisor, pair, sum}
+use Rattle.extract_laws.specs.Run.{Stop, done, asked, numbers, rows, Made, Result, run}
 use Rattle.table.specs.Table.{Outcome, accepted, refused, readText, tableNet}
 
 -- a pair as a product; the parts of a sum likewise, with ` + ` between them

@@ -1,9 +1,9 @@
 // The report on a table text: the literal count at the start, a line for each step, the count at the end and the stop reason; or the refusal.
 use cube::Literal;
-use divisor::Divisor;
-use divisor::Step;
 use extract::Steps;
 use extract::Stop;
+use extract_divisor::Divisor;
+use extract_divisor::Step;
 use network::Network;
 use network::Number;
 use table::Answer;
@@ -16,7 +16,7 @@ ghost use lib.Signed.{_≤ℤ_};
 ghost use lib.ListN.{length};
 ghost use Rattle.letters.specs.Letters.{decimal};
 ghost use Rattle.letters.specs.Laid.{Countable, Laid};
-ghost use Rattle.divisor.specs.Divisor.{divisorOf};
+ghost use Rattle.extract_divisor.specs.Divisor.{divisorOf};
 ghost use Rattle.network.specs.Held.{rules};
 ghost use Rattle.extract.specs.Answers.{stopOf};
 ghost use Rattle.report.specs.Report.{divisorText, stepLine, stepLines, stopText, refusalText, reportOf};
@@ -59,14 +59,14 @@ fn put_divisor(o: &mut [u8], at: usize, d: Divisor) -> usize
 {
     match d {
         Divisor::Pair(l, m) => {
-            let p = products::put_literal(o, at, l);
+            let p = letters_products::put_literal(o, at, l);
             let q = letters::put(o, p, b'*');
-            products::put_literal(o, q, m)
+            letters_products::put_literal(o, q, m)
         }
         Divisor::Sum(a, b) => {
-            let p = products::put_product(o, at, a);
+            let p = letters_products::put_product(o, at, a);
             let q = letters::put_bytes(o, p, b" + ");
-            products::put_product(o, q, b)
+            letters_products::put_product(o, q, b)
         }
     }
 }
@@ -203,10 +203,10 @@ fn explore(n: Network) -> Findings
     let extract::Answer::Stopped(stop) = answer else {
         return refused(Answer::Read);
     };
-    let Number::Is(start) = ruling::literals(n) else {
+    let Number::Is(start) = network_rules::literals(n) else {
         return refused(Answer::Read);
     };
-    let Number::Is(end) = ruling::literals(r.network) else {
+    let Number::Is(end) = network_rules::literals(r.network) else {
         return refused(Answer::Read);
     };
     let steps = r.steps;

@@ -2,11 +2,11 @@
 use cube::Cube;
 use cube::Found;
 use cube::Literal;
-use divisor::Divisor;
-use divisor::Step;
 use extract::Answer;
 use extract::Steps;
 use extract::Stop;
+use extract_divisor::Divisor;
+use extract_divisor::Step;
 use network::Network;
 
 // A number that no literal has.
@@ -27,7 +27,7 @@ fn literal_from(c: Cube, l: u32) -> u32 {
     if l > 127 {
         return NONE;
     }
-    let found = order::first_from(c, Literal(l));
+    let found = cube_order::first_from(c, Literal(l));
     let Found::At(m) = found else {
         return NONE;
     };

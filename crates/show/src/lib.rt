@@ -142,7 +142,7 @@ pub fn ask(n: Network, word: &[u8]) {
         complain(n.inputs);
         return;
     };
-    let a = evaluation::evaluate(n, setting);
+    let a = network_evaluate::evaluate(n, setting);
     match a {
         Number::Is(answer) => print_answers(n.outputs, answer),
         Number::No(k) => line::refuse(k, 0),

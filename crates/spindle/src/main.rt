@@ -86,10 +86,10 @@ fn store_image(bytes: &[u8], k: usize, path: &[u8], literals: u64) {
 
 fn write_image(n: Network, path: &[u8]) {
     let mut bytes = [0u8; 32768];
-    let a = image::write(n, &mut bytes);
+    let a = image_write::write(n, &mut bytes);
     match a {
-        image::Wrote::Bytes(k) => store_image(&bytes, k, path, form::literals(n)),
-        image::Wrote::Refused(k) => line::refuse(k, 0),
+        image_write::Wrote::Bytes(k) => store_image(&bytes, k, path, form::literals(n)),
+        image_write::Wrote::Refused(k) => line::refuse(k, 0),
     }
 }
 
@@ -144,9 +144,9 @@ fn is_image(bytes: &[u8]) -> bool {
 
 // The network of an image; a refusal is printed.
 fn opened(bytes: &[u8]) -> Loaded {
-    let i = reader::read(bytes);
+    let i = image_read::read(bytes);
     let answer = i.answer;
-    if let reader::Answer::Refused(k) = answer {
+    if let image_read::Answer::Refused(k) = answer {
         return refused(k, 0);
     }
     let network = i.network;

@@ -14,10 +14,10 @@ use Rattle.sets.specs.Lists.{keep, total}
 use Rattle.sets.specs.Masks.{packed}
 use Rattle.sets.proofs.Lists.{total-append}
 use Rattle.expression.specs.Words.{cubesOf, Put}
-use Rattle.text.specs.Lines.{CubeLine, cubeLineOf, cubeOf, rowsIn}
-use Rattle.text.specs.Answers.{Entry, parsedOf, entryOf, parsing}
-use Rattle.text.specs.declared.Parsed.{Parsed}
-use Rattle.text.specs.declared.Parsed.the-variants.{Line, Nothing}
+use Rattle.table_rows.specs.Lines.{CubeLine, cubeLineOf, cubeOf, rowsIn}
+use Rattle.table_rows.specs.Answers.{Entry, parsedOf, entryOf, parsing}
+use Rattle.table_rows.specs.declared.Parsed.{Parsed}
+use Rattle.table_rows.specs.declared.Parsed.the-variants.{Line, Nothing}
 use Rattle.cube.specs.Cube.{lits}
 use Rattle.cube.specs.declared.Cube.{Cube}
 use Rattle.table.specs.Table as table

@@ -24,7 +24,7 @@ use Rattle.network.specs.declared.Number.the-variants.{Is}
 use Rattle.network.proofs.Evaluating.{evaluate-past}
 use Rattle.network.proofs.Handing.{used-held, holds-net}
 use Rattle.network.proofs.Holding.{rules-iff}
-use Rattle.text.specs.Lines.{CubeLine, covers}
+use Rattle.table_rows.specs.Lines.{CubeLine, covers}
 use Rattle.table.specs.Table.{State, cubesFor, outputFor, tableNet, orZero, accepted, readText}
 use Rattle.table.specs.Answers.{Told}
 use Rattle.table.specs.Meaning.{Complete}

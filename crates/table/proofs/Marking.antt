@@ -13,7 +13,7 @@ use Rattle.sets.proofs.Truth.{clash}
 use Rattle.sets.proofs.Lists.{_∈_, total-sum, total-map, map-cong}
 use Rattle.expression.specs.Words.{cubesOf}
 use Rattle.expression.specs.Expression.{sort, absorbed}
-use Rattle.text.specs.Lines.{CubeLine, rowsIn, cubeOf}
+use Rattle.table_rows.specs.Lines.{CubeLine, rowsIn, cubeOf}
 use Rattle.sets.proofs.Packing.{packed-bit}
 use Rattle.table.specs.Table as table
 use Rattle.table.specs.Table.{cubesFor, outputFor, tableNet, orZero}

@@ -19,8 +19,8 @@ use Rattle.expression.proofs.Sorting.{sort-out, value-sort, total-sort, express
 use Rattle.network.specs.Listing.{listMore, listing}
 use Rattle.network.specs.Evaluation.{settle, evaluate}
 use Rattle.network.proofs.Evaluating.{evaluate-bit}
-use Rattle.text.specs.Lines.{CubeLine, cubeFrom, cubeOf, covers}
-use Rattle.text.proofs.Covering.{covers-value, from-bounds, from-asc, from-proper}
+use Rattle.table_rows.specs.Lines.{CubeLine, cubeFrom, cubeOf, covers}
+use Rattle.table_rows.proofs.Covering.{covers-value, from-bounds, from-asc, from-proper}
 use Rattle.table.specs.Table.{State, cubesFor, outputFor, tableNet, orZero}
 use Rattle.table.specs.Meaning.{Shaped, Complete}
 

@@ -13,11 +13,11 @@ use Rattle.sets.specs.Lists.{total, isNil}
 use Rattle.sets.specs.Sets.{mem}
 use Rattle.sets.proofs.Truth.{both, clash}
 use Rattle.network.specs.Held.{mostInputs, mostOutputs, upTo}
-use Rattle.lines.specs.Text.{content}
-use Rattle.kinds.specs.Kinds.{kindOf}
-use Rattle.text.specs.Lines.{CubeLine, cubeLineOf, rowsIn}
-use Rattle.kinds.specs.declared.Kind.{Kind}
-use Rattle.kinds.specs.declared.Kind.the-variants.{Empty, Inputs, Outputs, Products, End, Other}
+use Rattle.table_lines.specs.Text.{content}
+use Rattle.table_kinds.specs.Kinds.{kindOf}
+use Rattle.table_rows.specs.Lines.{CubeLine, cubeLineOf, rowsIn}
+use Rattle.table_kinds.specs.declared.Kind.{Kind}
+use Rattle.table_kinds.specs.declared.Kind.the-variants.{Empty, Inputs, Outputs, Products, End, Other}
 use Rattle.table.specs.Table.{State, Step, next, done, refuse, inTime, missing, rightCount, withLine, numberLine, setWide, setTall, setStated, finish, addLine, cubeLine, byKind, readLine, mostProducts, mostRows}
 use Rattle.table.specs.Meaning.{isLine, Late, Early, Closes, Refuses, lateInputs, lateOutputs, lateProducts, earlyEnd, earlyCube, noKind, outInputs, outOutputs, outProducts, differs, over}
 

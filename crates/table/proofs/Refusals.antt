@@ -12,7 +12,7 @@ use borrow.Author.Tests.{leb-true, ltb-true, ltb-false, lt-ltb, le-ltb}
 use Rattle.sets.specs.Sets.{mem}
 use Rattle.sets.proofs.Truth.{both, clash}
 use Rattle.network.specs.Held.{mostInputs, mostOutputs}
-use Rattle.lines.specs.Text.{linesOf, content}
+use Rattle.table_lines.specs.Text.{linesOf, content}
 use Rattle.table.specs.Table.{State, start, Step, next, done, refuse, missing, readLine, Outcome, accepted, refused, readLines, readText, orZero, mostBytes}
 use Rattle.table.specs.Meaning.{Shaped, within, Bounded, SoundStep, isLine, Complete, Read, nothing, line, Closes, Ended, whole, stopped, short}
 use Rattle.table.proofs.Turns.{line-turn}

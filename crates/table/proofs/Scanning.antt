@@ -11,9 +11,9 @@ use borrow.Author.Tests.{le-leb, lt-leb}
 use Rattle.sets.proofs.Truth.{Stand, below, equal, beyond, stand}
 use Rattle.expression.proofs.Words.{cubes-length}
 use Rattle.network.specs.Handed.{Blank}
-use Rattle.lines.specs.Text.{lineOf, linesOf, content}
-use Rattle.kinds.specs.Kinds.{kindOf}
-use Rattle.lines.proofs.Lining.{line-take, line-le, lines-next, lines-last}
+use Rattle.table_lines.specs.Text.{lineOf, linesOf, content}
+use Rattle.table_kinds.specs.Kinds.{kindOf}
+use Rattle.table_lines.proofs.Lining.{line-take, line-le, lines-next, lines-last}
 use Rattle.table.specs.Table as table
 use Rattle.table.specs.Table.{start, byKind, readLine, readLines, readText}
 use Rattle.table.specs.Meaning.{Bounded, SoundStep}

@@ -11,7 +11,7 @@ use borrow.Author.Tests.{leb-true, eq-eqb, ne-eqb}
 use Rattle.sets.specs.Lists.{isNil}
 use Rattle.sets.proofs.Truth.{both, clash}
 use Rattle.network.specs.Held.{mostInputs, mostOutputs}
-use Rattle.text.specs.Lines.{CubeLine}
+use Rattle.table_rows.specs.Lines.{CubeLine}
 use Rattle.table.specs.Table as table
 use Rattle.table.specs.Table.{missing, rightCount, orZero}
 use Rattle.table.specs.Meaning.{within, Bounded}

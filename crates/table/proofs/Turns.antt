@@ -14,12 +14,12 @@ use Rattle.sets.specs.Sets.{mem}
 use Rattle.sets.proofs.Truth.{both, clash}
 use Rattle.sets.proofs.Lists.{_∈_, total-append}
 use Rattle.network.specs.Held.{mostInputs, mostOutputs, upTo}
-use Rattle.lines.specs.Text.{content}
-use Rattle.kinds.specs.Kinds.{kindOf}
-use Rattle.text.specs.Lines.{CubeLine, cubeLineOf, rowsIn}
-use Rattle.kinds.specs.declared.Kind.{Kind}
-use Rattle.kinds.specs.declared.Kind.the-variants.{Empty, Inputs, Outputs, Products, End, Other}
-use Rattle.text.proofs.Cubing.{line-whole}
+use Rattle.table_lines.specs.Text.{content}
+use Rattle.table_kinds.specs.Kinds.{kindOf}
+use Rattle.table_rows.specs.Lines.{CubeLine, cubeLineOf, rowsIn}
+use Rattle.table_kinds.specs.declared.Kind.{Kind}
+use Rattle.table_kinds.specs.declared.Kind.the-variants.{Empty, Inputs, Outputs, Products, End, Other}
+use Rattle.table_rows.proofs.Cubing.{line-whole}
 use Rattle.table.specs.Table.{State, next, done, refuse, inTime, missing, rightCount, withWide, withTall, withStated, withLine, numberLine, setWide, setTall, setStated, finish, addLine, cubeLine, byKind, readLine, orZero, mostProducts, mostRows}
 use Rattle.table.specs.Meaning.{Shaped, Bounded, SoundStep, isLine}
 

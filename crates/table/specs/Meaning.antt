@@ -9,10 +9,10 @@ use lib.ListN.{length}
 use Rattle.sets.specs.Lists.{all, total, isNil}
 use Rattle.sets.specs.Sets.{mem}
 use Rattle.network.specs.Held.{mostInputs, mostOutputs, upTo}
-use Rattle.lines.specs.Text.{content}
-use Rattle.kinds.specs.Kinds.{kindOf}
-use Rattle.text.specs.Lines.{CubeLine, isPlace, cubeLineOf, rowsIn}
-use Rattle.kinds.specs.declared.Kind.the-variants.{Inputs, Outputs, Products, End, Other}
+use Rattle.table_lines.specs.Text.{content}
+use Rattle.table_kinds.specs.Kinds.{kindOf}
+use Rattle.table_rows.specs.Lines.{CubeLine, isPlace, cubeLineOf, rowsIn}
+use Rattle.table_kinds.specs.declared.Kind.the-variants.{Inputs, Outputs, Products, End, Other}
 use Rattle.table.specs.Table.{State, Step, next, done, refuse, readLine, missing, rightCount, Outcome, accepted, refused, orZero, mostProducts, mostRows}
 
 -- n places, each one of `0 1 -`, and m marks

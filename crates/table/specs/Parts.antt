@@ -11,8 +11,8 @@ use Rattle.sets.specs.Masks.{bit, packed}
 use Rattle.expression.specs.Words.{cubesOf, Placed}
 use Rattle.expression.specs.Expression.{sort, absorbed}
 use Rattle.network.specs.Net.{Net}
-use Rattle.lines.specs.Text.{linesOf}
-use Rattle.text.specs.Lines.{CubeLine, rowsIn, cubeOf}
+use Rattle.table_lines.specs.Text.{linesOf}
+use Rattle.table_rows.specs.Lines.{CubeLine, rowsIn, cubeOf}
 use Rattle.table.specs.Table as table
 use Rattle.table.specs.Meaning.{Bounded}
 use Rattle.table.specs.declared.Answer.the-variants as Answer

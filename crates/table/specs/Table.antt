@@ -9,11 +9,11 @@ use Rattle.sets.specs.Lists.{keep, total, isNil, from}
 use Rattle.expression.specs.Expression.{sort, absorbed}
 use Rattle.network.specs.Net.{Net}
 use Rattle.network.specs.Held.{mostInputs, mostOutputs, upTo}
-use Rattle.lines.specs.Text.{linesOf, content}
-use Rattle.kinds.specs.Kinds.{kindOf}
-use Rattle.text.specs.Lines.{CubeLine, cubeLineOf, rowsIn, cubeOf}
-use Rattle.kinds.specs.declared.Kind.{Kind}
-use Rattle.kinds.specs.declared.Kind.the-variants.{Empty, Inputs, Outputs, Products, End, Other}
+use Rattle.table_lines.specs.Text.{linesOf, content}
+use Rattle.table_kinds.specs.Kinds.{kindOf}
+use Rattle.table_rows.specs.Lines.{CubeLine, cubeLineOf, rowsIn, cubeOf}
+use Rattle.table_kinds.specs.declared.Kind.{Kind}
+use Rattle.table_kinds.specs.declared.Kind.the-variants.{Empty, Inputs, Outputs, Products, End, Other}
 
 abbrev pub mostBytes : ℕ
 mostBytes = 65536

@@ -1,8 +1,8 @@
 // Table texts in the Espresso PLA format, read into networks.
 use cube::Cube;
-use kinds::Kind;
 use network::Network;
-use text::Parsed;
+use table_kinds::Kind;
+use table_rows::Parsed;
 ghost use mathlib.Core.Path.{_≡_};
 ghost use mathlib.Core.Bool.{_&&_};
 ghost use mathlib.Core.List.{[]};
@@ -13,8 +13,8 @@ ghost use Rattle.sets.specs.Masks.{bit};
 ghost use Rattle.cube.specs.Cube.{lits};
 ghost use Rattle.expression.specs.Words.{cubesOf, Placed};
 ghost use Rattle.network.specs.Handed.{Holds, Blank};
-ghost use Rattle.lines.specs.Text.{linesOf};
-ghost use Rattle.kinds.specs.Kinds.{kindOf};
+ghost use Rattle.table_lines.specs.Text.{linesOf};
+ghost use Rattle.table_kinds.specs.Kinds.{kindOf};
 ghost use Rattle.table.specs.Table as table;
 ghost use Rattle.table.specs.Table.{start, readLines, readText, cubeLine, byKind, setWide, setTall, setStated, finish};
 ghost use Rattle.table.specs.Answers.{Told};
@@ -164,7 +164,7 @@ fn add_line(c: &[u8], s: State, words: &mut [u64], marks: &mut [u64]) -> Step
     if s.outputs == 0 {
         return Step::Refused(2);
     }
-    let Parsed::Line(cube, mask, rows) = text::cube_line(c, s.inputs, s.outputs) else {
+    let Parsed::Line(cube, mask, rows) = table_rows::cube_line(c, s.inputs, s.outputs) else {
         return Step::Refused(2);
     };
     if rows > ROWS - s.rows {
@@ -178,7 +178,7 @@ fn take_line(c: &[u8], s: State, words: &mut [u64], marks: &mut [u64]) -> Step
     requires { ⌜ Roomy s (now words) (now marks) ⌝ }
     ensures { λ r. ⌜ Leaves (byKind (kindOf (now (c .entry))) (now (c .entry))) s r (now (words .entry)) (now (marks .entry)) (now (words .exit)) (now (marks .exit)) ⌝ }
 {
-    let kind = kinds::kind_of(c);
+    let kind = table_kinds::kind_of(c);
     match kind {
         Kind::Empty => Step::Next(s),
         Kind::Inputs(n) => set_inputs(s, n),
@@ -231,8 +231,8 @@ fn scan(text: &[u8], words: &mut [u64], marks: &mut [u64]) -> Scanned
     let mut line: u32 = 1;
     let mut at = 0;
     while at <= text.len() {
-        let e = lines::line_end(text, at);
-        let step = take_line(lines::content_of(&text[at..e]), s, words, marks);
+        let e = table_lines::line_end(text, at);
+        let step = take_line(table_lines::content_of(&text[at..e]), s, words, marks);
         let Step::Next(t) = step else {
             return stopped(step, line, s);
         };
@@ -297,8 +297,8 @@ fn fill_output(
     ensures { λ r. ⌜ Filled (formed (now (words .entry)) (now (marks .entry)) kept j) (now (out .entry)) (now (out .exit)) at r ⌝ }
 {
     let n = collect(words, marks, kept, j, out, at);
-    let k = absorbing::absorb_part(out, at, at + n);
-    sorting::sort_part(out, at, at + k);
+    let k = expression_absorb::absorb_part(out, at, at + n);
+    expression_sort::sort_part(out, at, at + k);
     clear(out, at + k, at + n);
     k
 }

@@ -7,7 +7,7 @@ use Rattle.cube.specs.Cube.{lits}
 use Rattle.expression.specs.Words.{cubesOf}
 use Rattle.expression.specs.Expression.{has}
 use Rattle.expression.specs.Answers.{placeOf}
-use Rattle.survey.proofs.Searching.{find-has}
+use Rattle.expression_survey.proofs.Searching.{find-has}
 use Rattle.division.proofs.holds.Statement.{statement}
 use Rattle.division.proofs.holds.Tie as tie
 

@@ -14,8 +14,8 @@ use mir.Syntax.{w32}
 use mir.Val.{toZ, ofZ}
 use mir.Facts.{toZ-ofZ}
 use Rattle.network.specs.Held.{netOf, mostVariables}
-use Rattle.extraction.specs.Run.{runFrom}
-use Rattle.replace.specs.declared.Outcome.the-variants as Outcome
+use Rattle.extract_laws.specs.Run.{runFrom}
+use Rattle.extract_step.specs.declared.Outcome.the-variants as Outcome
 use Rattle.extract.specs.Answers.{Told}
 use Rattle.extract.specs.Parts.{endedAt, stoppedWith}
 use Rattle.extract.specs.declared.Stop.{Stop}

@@ -4,8 +4,8 @@ use mathlib.Core.Bool.{true}
 use lib.ListN.{length}
 use Rattle.network.specs.Held.{netOf, rules}
 use Rattle.network.specs.Handed.{Holds}
-use Rattle.extraction.specs.Run.{inOrder}
-use Rattle.tidy.proofs.Tidied.{tidied-accepted, tidied-refused}
+use Rattle.extract_laws.specs.Run.{inOrder}
+use Rattle.extract_tidy.proofs.Tidied.{tidied-accepted, tidied-refused}
 use Rattle.extract.proofs.Starting.{start-ready, start-told, refused-told}
 use borrow.Author.Needs.{needs}
 use Rattle.extract.proofs.run.Statement.{statement}

@@ -9,7 +9,7 @@ use Rattle.sets.specs.Lists.{isNil}
 use Rattle.expression.specs.Words.{cubesOf}
 use Rattle.expression.specs.Expression.{literalsOf}
 use Rattle.factor.specs.Form.{usedIn, mostUsed}
-use Rattle.products.specs.Products.{literalText}
+use Rattle.letters_products.specs.Products.{literalText}
 use Rattle.factor.specs.Text.{sumText}
 use Rattle.factor.specs.Parts.{cubesFrom, Elsewhere, writtenSum, productOf}
 use Rattle.letters.proofs.Laying.{Due, due-all, due-as, due-next, due-done, due-last, due-countable, due-rest}
@@ -28,7 +28,7 @@ use Rattle.factor.proofs.+product+sum.Lts-sum as sum-lts
 use Rattle.factor.proofs.most_used.Reads as most-used-reads
 use Rattle.letters.proofs.put.Reads as put-reads
 use Rattle.factor.proofs.put_cubes.Reads as put-cubes-reads
-use Rattle.products.proofs.put_literal.Reads as put-literal-reads
+use Rattle.letters_products.proofs.put_literal.Reads as put-literal-reads
 use Rattle.factor.proofs.split.Reads as split-reads
 use Rattle.factor.proofs.uses.Reads as uses-reads
 use Rattle.factor.proofs.+product+sum.{statement}

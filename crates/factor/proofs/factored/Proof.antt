@@ -7,7 +7,7 @@ use native.Mathlib.Omega.{arith}
 use borrow.Author.Needs.{needs}
 use lib.ListN.{length}
 use Rattle.expression.specs.Answers.{refusal, refusalOf}
-use Rattle.accepting.proofs.Accepting.{accepted-iff}
+use Rattle.expression_accept.proofs.Accepting.{accepted-iff}
 use Rattle.factor.specs.Text.{textOf}
 use Rattle.letters.specs.Laid.{Laid}
 use Rattle.letters.proofs.Laying.{laid-whole, laid-nowhere}

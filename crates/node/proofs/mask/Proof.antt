@@ -1,7 +1,7 @@
 -- `node::mask` meets its contract: nothing past the last output. Assumes nothing.
 use borrow.Author.Needs.{needs}
 use borrow.Author.Tests.{lt-ltb, le-ltb}
-use Rattle.hangs.proofs.Marking.{marks-none}
+use Rattle.network_hangs.proofs.Marking.{marks-none}
 use Rattle.node.proofs.mask.Statement.{statement}
 use Rattle.node.proofs.mask.Tie as tie
 

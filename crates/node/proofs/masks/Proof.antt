@@ -11,7 +11,7 @@ use lib.Seq.{getD-set-same, getD-set-other}
 use borrow.Author.Needs.{needs}
 use borrow.Author.Tests.{ltb-true, ltb-false}
 use Rattle.sets.proofs.Truth.{decided}
-use Rattle.hangs.specs.Hangs.{hangsAt, Marks}
+use Rattle.network_hangs.specs.Hangs.{hangsAt, Marks}
 use Rattle.node.proofs.masks.Statement.{statement}
 use Rattle.node.proofs.masks.Tie as tie
 

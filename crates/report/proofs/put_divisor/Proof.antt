@@ -4,9 +4,9 @@ use mathlib.Core.Path.{_∙_, ap}
 use mathlib.Core.List.{List, [], _∷_, _++_}
 use borrow.Author.Needs.{needs}
 use Rattle.cube.specs.Cube.{lits}
-use Rattle.products.specs.Products.{literalText, cubeText}
+use Rattle.letters_products.specs.Products.{literalText, cubeText}
 use Rattle.letters.proofs.Laying.{Due, due-all, due-next, due-last, due-countable, due-rest}
-use Rattle.divisor.specs.Divisor.{divisorOf}
+use Rattle.extract_divisor.specs.Divisor.{divisorOf}
 use Rattle.report.specs.Report.{divisorText}
 use Rattle.report.proofs.Lines.{plusWord, pair-start, sum-start}
 use Rattle.report.proofs.put_divisor.Statement.{statement}

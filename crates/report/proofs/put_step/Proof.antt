@@ -4,7 +4,7 @@ use mathlib.Core.List.{List, _++_}
 use lib.IntN.{pos}
 use borrow.Author.Needs.{needs}
 use Rattle.letters.proofs.Laying.{Due, due-all, due-next, due-last, due-countable, due-rest}
-use Rattle.divisor.specs.Divisor.{divisorOf}
+use Rattle.extract_divisor.specs.Divisor.{divisorOf}
 use Rattle.report.specs.Report.{divisorText, stepLine}
 use Rattle.report.proofs.Lines.{field, lineEnd, variableWord, equalsWord, weightWord, nowWord, step-start}
 use Rattle.report.proofs.put_step.Statement.{statement}

@@ -9,8 +9,8 @@ use lib.Seq.{length-take-le}
 use mir.Syntax.{w32}
 use mir.Val.{toZ, ofZ}
 use Rattle.letters.proofs.Laying.{Due, due-all, due-as, due-next, due-done, due-countable}
-use Rattle.extraction.specs.Run.{Made}
-use Rattle.divisor.specs.Divisor.{madeOf, noStep}
+use Rattle.extract_laws.specs.Run.{Made}
+use Rattle.extract_divisor.specs.Divisor.{madeOf, noStep}
 use Rattle.report.specs.Report.{stepLines, stepLine}
 use Rattle.report.specs.Parts.{Off, Falls}
 use Rattle.report.proofs.Lines.{lines-none, lines-next, made-next}

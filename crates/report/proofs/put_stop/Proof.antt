@@ -4,7 +4,7 @@ use mathlib.Core.Path.{ap}
 use mathlib.Core.List.{List}
 use borrow.Author.Needs.{needs}
 use Rattle.letters.proofs.Laying.{Due, due-all, due-as, due-last, due-rest}
-use Rattle.extraction.specs.Run as extraction
+use Rattle.extract_laws.specs.Run as extraction
 use Rattle.extract.specs.Answers.{stopOf}
 use Rattle.report.specs.Report.{stopText}
 use Rattle.report.proofs.Lines.{stop-done, stop-asked, stop-numbers, stop-rows}

@@ -5,7 +5,7 @@ use mathlib.Core.Logic.{_⊎_, inl, inr}
 use native.Mathlib.Omega.{arith}
 use lib.ListN.{length}
 use denote.Enum.Declared.{tagOf}
-use Rattle.lines.specs.Text.{linesOf}
+use Rattle.table_lines.specs.Text.{linesOf}
 use Rattle.table.specs.Table.{start, readLines}
 use Rattle.table.specs.Parts.{Scans}
 use Rattle.table.specs.declared.State.{State}

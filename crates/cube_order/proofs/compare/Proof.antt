@@ -1,0 +1,57 @@
+-- `cube_order::compare` meets its contract. Assumes nothing.
+use Rattle.sets.proofs.Ordering.{none-odd, left-before, left-after, right-before, right-after}
+use Rattle.cube.proofs.Verdict.{is-before, is-same, is-after}
+use Rattle.cube.specs.Cube.{answer}
+use mathlib.Core.Path.{sym, _∙_, ap}
+use borrow.Author.Needs.{needs}
+use Rattle.cube_order.proofs.compare.Statement.{statement}
+use Rattle.cube_order.proofs.compare.Tie as tie
+
+first-at-requires : tie.Need-first-at-requires
+first-at-requires c κs = search needs
+
+enum-told : tie.Need-enum-told
+enum-told c = search needs
+
+enum-known-f : tie.Need-enum-known-f
+enum-known-f c = search needs
+
+has-requires : tie.Need-has-requires
+has-requires c κs = search needs
+
+goes-on-requires : tie.Need-goes-on-requires
+goes-on-requires c κs = search needs
+
+returns : tie.Need-returns
+returns c = is-before _ _ (left-before 64 _ _ _ _ _ (ap answer (sym (c .before .before .before .before .before .f .given .1)) ∙ c .before .before .before .before .before .before .before .first-at .ensures) (sym (c .before .before .before .has .ensures) ∙ c .before .before .if1 .taken) (sym (c .before .goes-on .ensures) ∙ c .if2 .taken))
+
+returns-2 : tie.Need-returns-2
+returns-2 c = is-after _ _ (left-after 64 _ _ _ _ _ (ap answer (sym (c .before .before .before .before .before .f .given .1)) ∙ c .before .before .before .before .before .before .before .first-at .ensures) (sym (c .before .before .before .has .ensures) ∙ c .before .before .if1 .taken) (sym (c .before .goes-on .ensures) ∙ c .if2 .left))
+
+goes-on-requires-2 : tie.Need-goes-on-requires-2
+goes-on-requires-2 c κs = search needs
+
+returns-3 : tie.Need-returns-3
+returns-3 c = is-after _ _ (right-after 64 _ _ _ _ _ (ap answer (sym (c .before .before .before .before .before .f .given .1)) ∙ c .before .before .before .before .before .before .before .first-at .ensures) (sym (c .before .before .before .has .ensures) ∙ c .before .before .if1 .left) (sym (c .before .goes-on2 .ensures) ∙ c .if3 .taken))
+
+returns-4 : tie.Need-returns-4
+returns-4 c = is-same _ _ (none-odd 64 _ _ _ _ (ap answer (sym (c .enum-told .given .1)) ∙ c .before .before .first-at .ensures))
+
+returns-5 : tie.Need-returns-5
+returns-5 c = is-before _ _ (right-before 64 _ _ _ _ _ (ap answer (sym (c .before .before .before .before .before .f .given .1)) ∙ c .before .before .before .before .before .before .before .first-at .ensures) (sym (c .before .before .before .has .ensures) ∙ c .before .before .if1 .left) (sym (c .before .goes-on2 .ensures) ∙ c .if3 .left))
+
+pub compare-spec : {M : Type 1} → statement M
+compare-spec =
+    tie.close
+    (tie.spec
+    first-at-requires
+    enum-told
+    enum-known-f
+    has-requires
+    goes-on-requires
+    returns
+    returns-2
+    goes-on-requires-2
+    returns-3
+    returns-4
+    returns-5)

@@ -1,0 +1,19 @@
+-- `cube_sets::contains` meets its contract. Assumes nothing.
+use Rattle.sets.specs.Lists.{isNil}
+use mathlib.Core.Path.{sym, _∙_, ap}
+use Rattle.sets.proofs.Sets.{without-none}
+use borrow.Author.Needs.{needs}
+use Rattle.cube_sets.proofs.contains.Statement.{statement}
+use Rattle.cube_sets.proofs.contains.Tie as tie
+
+without-requires : tie.Need-without-requires
+without-requires c κs = search needs
+
+is-empty-requires : tie.Need-is-empty-requires
+is-empty-requires c κs = search needs
+
+returns : tie.Need-returns
+returns c = c .is-empty .ensures ∙ ap isNil (c .before .without .ensures) ∙ without-none _ _
+
+pub contains-spec : {M : Type 1} → statement M
+contains-spec = tie.close (tie.spec without-requires is-empty-requires returns)

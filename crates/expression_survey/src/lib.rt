@@ -1,0 +1,53 @@
+// What is asked of lent cubes as a whole: how many literals, and where a cube stands.
+use cube::Cube;
+use cube::Order;
+use expression::Place;
+ghost use mathlib.Core.Path.{_≡_};
+ghost use Rattle.cube.specs.Cube.{lits};
+ghost use Rattle.expression.specs.Words.{cubesOf};
+ghost use Rattle.expression.specs.Expression.{literalsOf};
+ghost use Rattle.expression.specs.Answers.{placeOf, capped};
+ghost use Rattle.expression_survey.specs.Search.{findIn};
+
+// The number of literals of all cubes.
+pub fn literals(s: &[u64]) -> u64
+    ensures { λ r. ⌜ r ≡ capped (literalsOf (cubesOf (now (s .entry)))) ⌝ }
+{
+    let most: u64 = 18446744073709551615;
+    let mut sum: u64 = 0;
+    let mut i = 0;
+    while i < expression::number(s) {
+        let n = cube_sets::count(expression::cube_at(s, i)) as u64;
+        if n <= most - sum {
+            sum += n;
+        } else {
+            sum = most;
+        }
+        i += 1;
+    }
+    sum
+}
+
+// Where c stands among cubes in cube order, by halving.
+pub fn find(s: &[u64], c: Cube) -> Place
+    ensures { λ r. ⌜ placeOf r ≡ findIn (lits c) (cubesOf (now (s .entry))) ⌝ }
+{
+    let mut low = 0;
+    let mut high = expression::number(s);
+    while low < high {
+        let m = low + (high - low) / 2;
+        let o = cube_order::compare(expression::cube_at(s, m), c);
+        match o {
+            Order::Before => {
+                low = m + 1;
+            }
+            Order::Same => {
+                return Place::At(m);
+            }
+            Order::After => {
+                high = m;
+            }
+        }
+    }
+    Place::Nothing
+}

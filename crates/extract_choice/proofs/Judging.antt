@@ -1,0 +1,118 @@
+-- Divisors judged one after the other: the step that is held leads those judged so far. Assumes nothing.
+use mathlib.Core.Path.{_≡_, refl, sym, ap, _∙_, subst}
+use mathlib.Core.Logic.{inl, inr}
+use mathlib.Core.Bool.{Bool, true, false, cond, not, _&&_}
+use mathlib.Core.List.{List, [], _∷_, _++_, append-assoc, List·Memᴰ·head as here, List·Memᴰ·tail as there, List·Memᴰ·not-nil, List·Memᴰ·eq-of-singleton, List·Memᴰ·cases-cons, Memᴰ·append-left, Memᴰ·append-right, List·Memᴰ·append-cases}
+use lib.IntN.{pos}
+use lib.Signed.{ltZ}
+use Rattle.sets.specs.Sets.{lex}
+use Rattle.sets.proofs.Truth.{decided, clash}
+use Rattle.sets.proofs.Lists.{_∈_}
+use Rattle.sets.proofs.Orders.{asym, not-after}
+use Rattle.network.specs.Net.{Net}
+use Rattle.extract_laws.specs.Divisor as extraction
+use Rattle.extract_laws.specs.Extract.{weight, sooner, better}
+use Rattle.extract_laws.specs.Run.{Made, made}
+use Rattle.extract_laws.proofs.Choosing.{heavier-order, better-order}
+use Rattle.extract_divisor.specs.Divisor.{divisorOf, madeOf}
+use Rattle.extract_divisor.specs.declared.Step.{Step}
+use Rattle.extract_rank.specs.Rank.{outweighs, taken}
+use Rattle.extract_choice.specs.Parts.{Wins, Adds}
+use Rattle.extract_choice.specs.Parts.Wins.{nothing, first}
+
+-- ---- what is taken
+
+module _ (s t : Step) where
+  pub taken-low : ltZ (pos 0) (t .weight) ≡ false → s ≡ taken s t
+  unfolding taken outweighs
+  taken-low h = rw h
+
+  module _ (h : ltZ (pos 0) (t .weight) ≡ true) where
+    pub taken-more : ltZ (s .weight) (t .weight) ≡ true → t ≡ taken s t
+    unfolding taken outweighs
+    taken-more k = rw (h, k)
+
+-- ---- what is held leads
+
+module _ (n : Net) where
+  -- a divisor whose weight is not above 0 is no better than one whose weight is
+  low-not-better : (e d : extraction.Divisor) → ltZ (pos 0) (weight n e) ≡ false → ltZ (pos 0) (weight n d) ≡ true → better n e d ≡ false
+  unfolding better
+  low-not-better e d h k =
+      let less : ltZ (weight n e) (weight n d) ≡ true = elim (decided (ltZ (weight n e) (weight n d))) [
+        | inl q ↦ q
+        | inr q ↦ clash k (not-after (λ u v. ltZ v u) heavier-order (weight n d) (weight n e) (pos 0) q h)
+      ] in
+      rw (asym (λ u v. ltZ v u) heavier-order (weight n d) (weight n e) less, less)
+
+  -- of divisors in any order, and with others whose weight is not above 0
+  pub leads-same : (l m : List extraction.Divisor) (s : Step)
+      → ((e : extraction.Divisor) → e ∈ l → ltZ (pos 0) (weight n e) ≡ true → e ∈ m) → ((e : extraction.Divisor) → e ∈ m → ltZ (pos 0) (weight n e) ≡ true → e ∈ l)
+      → Wins n l s → Wins n m s
+  leads-same l m s to back (nothing e h) = nothing e (λ g i. elim (decided (ltZ (pos 0) (weight n g))) [ inl a ↦ h g (back g i a) | inr a ↦ a ])
+  leads-same l m s to back (first d i e a h) =
+      first d (to d i a) e a (λ g j. elim (decided (ltZ (pos 0) (weight n g))) [ inl b ↦ h g (back g j b) | inr b ↦ low-not-better g d b a ])
+
+  -- divisors whose weight is not above 0 change nothing
+  pub leads-low : (new l : List extraction.Divisor) (s : Step) → ((e : extraction.Divisor) → e ∈ new → ltZ (pos 0) (weight n e) ≡ false) → Wins n l s → Wins n (new ++ l) s
+  leads-low new l s k =
+      leads-same l (new ++ l) s (λ e m a. Memᴰ·append-right new m) (λ e m a. elim (List·Memᴰ·append-cases new m) [ inl i ↦ clash a (k e i) | inr i ↦ i ])
+
+  -- nor do divisors that are there already
+  pub leads-known : (new l : List extraction.Divisor) (s : Step) → ((e : extraction.Divisor) → e ∈ new → e ∈ l) → Wins n l s → Wins n (new ++ l) s
+  leads-known new l s k = leads-same l (new ++ l) s (λ e m a. Memᴰ·append-right new m) (λ e m a. elim (List·Memᴰ·append-cases new m) [ inl i ↦ k e i | inr i ↦ i ])
+
+  -- the better of the two leads the divisors judged so far and the new one
+  module _ (d : extraction.Divisor) (l : List extraction.Divisor) (s t : Step) (e : madeOf t ≡ made n d) where
+    tw : t .weight ≡ weight n d
+    tw = ap (λ (m : Made). m .weight) e
+
+    td : divisorOf (t .divisor) ≡ d
+    td = ap (λ (m : Made). m .divisor) e
+
+    -- the new one is taken
+    fresh : ltZ (pos 0) (weight n d) ≡ true → ((g : extraction.Divisor) → g ∈ l → better n g d ≡ false) → Wins n (d ∷ l) t
+    fresh a h = first d (here refl) e a (λ g i. elim (List·Memᴰ·cases-cons i) [ inl q ↦ rw q (better-order n .irrefl d) | inr j ↦ h g j ])
+
+    against : (g : extraction.Divisor) → g ∈ l → madeOf s ≡ made n g → ltZ (pos 0) (weight n g) ≡ true → ((x : extraction.Divisor) → x ∈ l → better n x g ≡ false)
+        → ltZ (pos 0) (weight n d) ≡ true → (b : Bool) → better n d g ≡ b → Wins n (d ∷ l) (cond b t s)
+    against g i q a h k true p = fresh k (λ x j. not-after (better n) (better-order n) x g d (h x j) (asym (better n) (better-order n) d g p))
+    against g i q a h k false p = first g (there i) q a (λ x j. elim (List·Memᴰ·cases-cons j) [ inl y ↦ rw y p | inr y ↦ h x y ])
+
+    above : ltZ (pos 0) (t .weight) ≡ true → ltZ (pos 0) (weight n d) ≡ true
+    above k = ap (ltZ (pos 0)) (sym tw) ∙ k
+
+    taken-better : ltZ (pos 0) (t .weight) ≡ true → (g : extraction.Divisor) → madeOf s ≡ made n g → cond (better n d g) t s ≡ taken s t
+    unfolding taken better outweighs
+    taken-better k g q =
+        let sw : s .weight ≡ weight n g = ap (λ (m : Made). m .weight) q in
+        let sd : divisorOf (s .divisor) ≡ g = ap (λ (m : Made). m .divisor) q in
+        sym ((λ i. cond (ltZ (pos 0) (tw i) && lex (λ u v. ltZ v u) (tw i) (sw i) (sooner (td i) (sd i))) t s) ∙ rw (above k))
+
+    pub leads-taken : Wins n l s → Wins n (d ∷ l) (taken s t)
+    leads-taken h = elim (decided (ltZ (pos 0) (t .weight))) [
+      | inr k ↦ subst (Wins n (d ∷ l)) (taken-low s t k) (leads-low (d ∷ []) l s (λ g i. ap (λ x. ltZ (pos 0) (weight n x)) (List·Memᴰ·eq-of-singleton i) ∙ ap (ltZ (pos 0)) (sym tw) ∙ k) h)
+      | inl k ↦ go k h
+    ]
+      where
+        go : ltZ (pos 0) (t .weight) ≡ true → Wins n l s → Wins n (d ∷ l) (taken s t)
+        go k (nothing q z) = subst (Wins n (d ∷ l)) (taken-more s t k (rw q k)) (fresh (above k) (λ g i. low-not-better g d (z g i) (above k)))
+        go k (first g i q a z) = subst (Wins n (d ∷ l)) (taken-better k g q) (against g i q a z (above k) (better n d g) refl)
+
+-- ---- one after the other
+
+module _ {p : Net → Type 0} where
+  pub adds-none : (known : List extraction.Divisor) (s : Step) → Adds p known [] s s
+  adds-none known s = record { leads = λ n c l k h. h }
+
+  -- first some, then others that may be known by those
+  pub adds-then : {known one two : List extraction.Divisor} {s r t : Step} → Adds p known one s r → Adds p one two r t → Adds p known (two ++ one) s t
+  adds-then {one = one} f g = record { leads = λ n c l k h. rw append-assoc (g .leads n c (one ++ l) (λ d m. Memᴰ·append-left l m) (f .leads n c l k h)) }
+
+  -- first some, then others, all with the same known
+  pub adds-more : {known one two : List extraction.Divisor} {s r t : Step} → Adds p known one s r → Adds p known two r t → Adds p known (two ++ one) s t
+  adds-more {one = one} f g = record { leads = λ n c l k h. rw append-assoc (g .leads n c (one ++ l) (λ d m. Memᴰ·append-right one (k d m)) (f .leads n c l k h)) }
+
+  -- what needs nothing known
+  pub adds-any : (known : List extraction.Divisor) {new : List extraction.Divisor} {s r : Step} → Adds p [] new s r → Adds p known new s r
+  adds-any known f = record { leads = λ n c l k h. f .leads n c l (λ d m. absurd (List·Memᴰ·not-nil m)) h }

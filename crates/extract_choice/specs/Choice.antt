@@ -1,0 +1,28 @@
+-- What the choice of the best divisor answers.
+use mathlib.Core.Path.{_≡_}
+use mathlib.Core.Bool.{cond}
+use mathlib.Core.Option.{Option, none, some}
+use lib.IntN.{pos}
+use lib.Signed.{ltZ}
+use Rattle.network.specs.Net.{Net}
+use Rattle.network.specs.Held.{netOf}
+use Rattle.network.specs.declared.Network.{Network}
+use Rattle.extract_laws.specs.Divisor as extraction
+use Rattle.extract_laws.specs.Extract.{weight, best}
+use Rattle.extract_laws.specs.Run.{Made, made}
+use Rattle.extract_tidy.specs.Tidy.{arranged}
+use Rattle.extract_divisor.specs.Divisor.{madeOf, noStep}
+use Rattle.extract_divisor.specs.declared.Step.{Step}
+
+-- the best divisor, where its weight is above 0, with its weight and uses
+unfoldable pub worthIn : Net → Option extraction.Divisor → Option Made
+worthIn n none = none
+worthIn n (some d) = cond (ltZ (pos 0) (weight n d)) (some (made n d)) none
+
+-- a network that does not stand in cube order has no choice
+unfoldable pub chosenIn : Network → Option Made
+chosenIn n = cond (arranged n) (worthIn (netOf n) (best (netOf n))) none
+
+abbrev pub Chosen : Option Made → Step → Type 0
+Chosen (some m) s = madeOf s ≡ m
+Chosen none s = s ≡ noStep

@@ -1,0 +1,69 @@
+-- Words for the contracts of the private functions: divisors judged one after the other, and what words and counts hold.
+use Prim.Native.Nat.{ℕ, _≤_}
+use mathlib.Core.Path.{_≡_}
+use mathlib.Core.Bool.{true, false}
+use mathlib.Core.List.{List, [], _∷_, _++_, List·Memᴰ}
+use lib.ListN.{length, take}
+use lib.IntN.{pos, _-ℤ_}
+use lib.Signed.{ltZ}
+use Rattle.sets.specs.Lists.{all, keep, total}
+use Rattle.sets.specs.Sets.{sub}
+use Rattle.expression.specs.Words.{cubesOf}
+use Rattle.expression.specs.Expression.{ordered, literalsOf}
+use Rattle.network.specs.Net.{Net, nodes}
+use Rattle.network.specs.Held.{mostCubes}
+use Rattle.network.specs.Handed.{flat}
+use Rattle.network.specs.Parts.{nodesOf}
+use Rattle.extract_laws.specs.Divisor as extraction
+use Rattle.extract_laws.specs.Divisor.{sum, uses, bases}
+use Rattle.extract_laws.specs.Extract.{weight, better}
+use Rattle.extract_laws.specs.Run.{made}
+use Rattle.extract_divisor.specs.Divisor.{madeOf, noStep}
+use Rattle.extract_divisor.specs.declared.Divisor.{Divisor}
+use Rattle.extract_divisor.specs.declared.Step.{Step}
+
+-- ---- judging
+
+-- a step whose weight is a difference
+abbrev pub stepOf : Divisor → ℕ → ℕ → ℕ → Step
+stepOf d gain cost u = record { divisor = d; weight = pos gain -ℤ pos cost; uses = u }
+
+-- the step is that of the best of these divisors, where its weight is above 0, and else the step of zeros
+pub data Wins (n : Net) (l : List extraction.Divisor) (s : Step) : Type 0 where
+  nothing : s ≡ noStep → ((e : extraction.Divisor) → List·Memᴰ e l → ltZ (pos 0) (weight n e) ≡ false) → Wins n l s
+  first : (d : extraction.Divisor) → List·Memᴰ d l → madeOf s ≡ made n d → ltZ (pos 0) (weight n d) ≡ true
+      → ((e : extraction.Divisor) → List·Memᴰ e l → better n e d ≡ false) → Wins n l s
+
+-- where s leads some divisors, the known ones among them, r leads those and the new ones, in each network that passes the test
+pub record Adds (p : Net → Type 0) (known new : List extraction.Divisor) (s r : Step) : Type 0 where
+  pub leads : (n : Net) → p n → (l : List extraction.Divisor) → ((d : extraction.Divisor) → List·Memᴰ d known → List·Memᴰ d l) → Wins n l s → Wins n (new ++ l) r
+
+-- ---- what words and counts hold
+
+-- the network has these nodes
+abbrev pub Nodes : List (List (List ℕ)) → Net → Type 0
+Nodes fs n = nodes n ≡ fs
+
+-- the cubes of its nodes, one node after the other, are these
+abbrev pub Cubes : List (List ℕ) → Net → Type 0
+Cubes f n = flat (nodes n) ≡ f
+
+-- there are e counts, as many cubes as they say, no more than a network may have, and each node is in cube order
+pub record Orderly (words counts : List ℕ) (e : ℕ) : Type 0 where
+  pub counted : e ≤ length counts
+  pub enough : total (λ c. c) (take e counts) ≤ length (cubesOf words)
+  pub few : length (cubesOf words) ≤ mostCubes
+  pub sorted : all ordered (nodesOf e counts words) ≡ true
+
+-- each cube is one of these nodes'
+abbrev pub Inside : List (List (List ℕ)) → List (List ℕ) → Type 0
+Inside fs f = (c : List ℕ) → List·Memᴰ c f → List·Memᴰ c (flat fs)
+
+-- of the cubes of these nodes c alone contains c
+abbrev pub Alone : List (List (List ℕ)) → List ℕ → Type 0
+Alone fs c = keep (sub c) (flat fs) ≡ c ∷ []
+
+-- the uses of a sum in these nodes, and the literals in its bases
+pub record Counts (a b : List ℕ) (fs : List (List (List ℕ))) (u l : ℕ) : Type 0 where
+  pub uses : u ≡ total (uses (sum a b)) fs
+  pub literals : l ≡ total (λ f. literalsOf (bases (sum a b) f)) fs

@@ -1,0 +1,194 @@
+-- Which divisors a network can take: the test in the words of the laws of extraction, and as the code makes it. Assumes nothing.
+use Prim.Native.Nat.{ℕ, _*_, _/_, _<_, _≤_}
+use mathlib.Core.Path.{_≡_, refl, sym, subst}
+use mathlib.Core.Logic.{_↔_}
+use mathlib.Core.Bool.{Bool, true, false, cond, _&&_}
+use mathlib.Core.List.{List, [], _∷_, List·Memᴰ·head as here, List·Memᴰ·tail as there, List·Memᴰ·eq-of-singleton}
+use mathlib.Core.Option.{none, some}
+use native.Mathlib.Omega.{arith}
+use lib.Dec.{ltb}
+use lib.ListN.{length}
+use borrow.Author.Tests.{ltb-true, lt-ltb, le-ltb, ne-eqb}
+use Rattle.sets.specs.Lists.{all}
+use Rattle.sets.specs.Literal.{oppositeOf}
+use Rattle.sets.specs.Sets.{mem, apart, asc, proper, firstFrom, before}
+use Rattle.sets.proofs.Truth.{both, iff, clash, refuted, stand, below, equal, beyond}
+use Rattle.sets.proofs.Lists.{_∈_, all-in}
+use Rattle.sets.proofs.Sets.{mem-of, all-mem, mem-all, proper-out}
+use Rattle.sets.proofs.First.{none-first, some-first}
+use Rattle.cube.specs.Cube.{orderOf}
+use Rattle.cube.specs.declared.Order.{Order}
+use Rattle.cube.specs.declared.Order.the-variants.{Before, Same, After}
+use Rattle.expression.specs.Expression.{expression}
+use Rattle.expression.proofs.Absorbing.{loose-in}
+use Rattle.network.specs.Net.{Net, variables}
+use Rattle.network.specs.Held.{reach}
+use Rattle.network.specs.Meaning.{Reads}
+use Rattle.network.proofs.Numbering.{reach-out, reach-in}
+use Rattle.extract_laws.specs.Divisor.{Divisor, pair, sum, own, small, sound}
+use Rattle.extract_laws.specs.Meaning.{Fit}
+use Rattle.extract_laws.proofs.Using.{cube-proper, sum-parts, small-sub, apart-flip}
+use Rattle.extract_fit.specs.Fitness.{fitting}
+use Rattle.extract_fit.specs.Parts.{allBelow, fitPart}
+
+-- ---- the test
+
+-- the divisor's own node is an expression over v variables
+record Taking (v : ℕ) (d : Divisor) : Type 0 where
+  pub whole : sound d ≡ true
+  pub formed : expression (own d) ≡ true
+  pub known : (x : ℕ) → Reads (own d) x → x < v
+
+module _ (v : ℕ) (d : Divisor) where
+  fitting-out : fitting v d ≡ true → Taking v d
+  unfolding fitting
+  fitting-out h =
+      let p = both (sound d) (expression (own d) && reach v (own d)) h in
+      let q = both (expression (own d)) (reach v (own d)) (p .1) in
+      record { whole = p .0; formed = q .0; known = reach-out v (own d ∷ []) (rw (q .1)) (own d) (here refl) }
+
+  fitting-in : Taking v d → fitting v d ≡ true
+  unfolding fitting
+  fitting-in t = rw (t .whole, t .formed) (both (reach v (own d)) true (reach-in v (own d ∷ []) (λ f m x r. t .known x (subst (λ g. Reads g x) (List·Memᴰ·eq-of-singleton m) r))) .0)
+
+-- what more variables are there for
+pub fitting-more : (v w : ℕ) (d : Divisor) → v ≤ w → fitting v d ≡ true → fitting w d ≡ true
+fitting-more v w d l h =
+    let t = fitting-out v d h in
+    fitting-in w d (record { whole = t .whole; formed = t .formed; known = λ x r. omega (arith, t .known x r) })
+
+-- the test is passed by exactly the divisors that a network of so many variables can take
+pub fitting-iff : (n : Net) (d : Divisor) → (fitting (variables n) d ≡ true) ↔ Fit n d
+fitting-iff n d = (
+  λ h. let t = fitting-out (variables n) d h in record { whole = t .whole; formed = t .formed; known = t .known },
+  λ f. fitting-in (variables n) d (record { whole = f .whole; formed = f .formed; known = f .known }),
+)
+
+-- ---- pairs
+
+module _ (v p q : ℕ) where
+  -- the second literal is of a variable below v, and the first is smaller
+  pub pair-below : fitting v (pair p q) ≡ true → (p < q) × (q / 2 < v)
+  pair-below h =
+      let t = fitting-out v (pair p q) h in
+      (ltb-true p q (t .whole), t .known (q / 2) (p ∷ q ∷ [], here refl, (q, there (here refl), refl)))
+
+  pub pair-falls : q ≤ p → false ≡ fitting v (pair p q)
+  pair-falls l = sym (refuted (λ h. let b = pair-below h .0 in omega arith))
+
+  pub pair-both-ways : oppositeOf p ≡ q → false ≡ fitting v (pair p q)
+  pair-both-ways e = sym (refuted (λ h. clash (mem-of (there (here refl)))
+      (subst (λ x. mem x (p ∷ q ∷ []) ≡ false) e (proper-out (p ∷ q ∷ []) p (cube-proper (own (pair p q)) (fitting-out v (pair p q) h .formed) (here refl)) (mem-of (here refl))))))
+
+  module _ (l : p < q) (k : oppositeOf p ≡ q → ⊥) where
+    pair-proper : proper (p ∷ q ∷ []) ≡ true
+    unfolding proper mem
+    pair-proper = rw (ne-eqb (oppositeOf p) p (λ e. omega arith), ne-eqb (oppositeOf p) q k, ne-eqb (oppositeOf q) p (λ e. k (omega arith)), ne-eqb (oppositeOf q) q (λ e. omega arith))
+
+    pub pair-fits : ltb (q / 2) v ≡ fitting v (pair p q)
+    unfolding fitting
+    pair-fits = iff
+        (λ e. let h = ltb-true (q / 2) v e in rw (lt-ltb p q l, pair-proper, lt-ltb (p / 2) v (omega arith), e))
+        (λ h. lt-ltb (q / 2) v (pair-below h .1))
+
+-- ---- the parts of a sum
+
+module _ (v : ℕ) (a : List ℕ) where
+  -- no literal, or more than two
+  pub part-none : length a < 1 → false ≡ fitPart v a
+  unfolding small
+  part-none h = rw (le-ltb 0 (length a) (omega arith))
+
+  pub part-many : 2 < length a → false ≡ fitPart v a
+  unfolding small
+  part-many h = rw (lt-ltb 0 (length a) (omega arith), le-ltb (length a) 3 (omega arith))
+
+  module _ (one : 1 ≤ length a) (few : length a ≤ 2) where
+    part-small : small a ≡ true
+    unfolding small
+    part-small = rw (lt-ltb 0 (length a) (omega arith)) (lt-ltb (length a) 3 (omega arith))
+
+    pub part-both-ways : proper a ≡ false → false ≡ fitPart v a
+    part-both-ways e = rw (part-small, e)
+
+    pub part-rest : proper a ≡ true → allBelow v a ≡ fitPart v a
+    part-rest e = rw (part-small, e)
+
+  pub some-beyond : (x : ℕ) → asc a ≡ true → firstFrom (2 * v) a ≡ some x → false ≡ allBelow v a
+  some-beyond x s f =
+      let w = some-first (2 * v) a x s f in
+      sym (refuted (λ h. let k = ltb-true (x / 2) v (mem-all (λ l. ltb (l / 2) v) a x h (w .isIn)) in omega (arith, w .notBelow)))
+
+  pub none-beyond : ((x : ℕ) → mem x a ≡ true → x < 2 * v) → true ≡ allBelow v a
+  none-beyond h = sym (all-mem (λ l. ltb (l / 2) v) a (λ x m. lt-ltb (x / 2) v (omega (arith, h x m))))
+
+  pub none-found : firstFrom (2 * v) a ≡ none → true ≡ allBelow v a
+  none-found f = none-beyond (λ x m. elim (stand x (2 * v)) [
+    | below l _ _ ↦ l
+    | equal l _ _ ↦ clash m (none-first (2 * v) a f x (omega arith))
+    | beyond l _ _ ↦ clash m (none-first (2 * v) a f x (omega arith))
+  ])
+
+  part-out : fitPart v a ≡ true → (small a ≡ true) × (proper a ≡ true) × (allBelow v a ≡ true)
+  part-out h =
+      let p = both (small a) (proper a && allBelow v a) h in
+      let q = both (proper a) (allBelow v a) (p .1) in
+      (p .0, q .0, q .1)
+
+-- ---- sums
+
+-- the answer that says so
+abbrev pub isFirst : Order → Bool
+isFirst Before = true
+isFirst Same = false
+isFirst After = false
+
+pub first-before : (a b : List ℕ) → isFirst (orderOf a b) ≡ before a b
+unfolding orderOf
+first-before a b = go (before a b) (before b a)
+  where
+    go : (p q : Bool) → isFirst (cond p Before (cond q After Same)) ≡ p
+    go true q = refl
+    go false true = refl
+    go false false = refl
+
+-- what is left to test of two parts that are cubes
+pub sum-fits : (v : ℕ) (a b : List ℕ) → asc a ≡ true → asc b ≡ true → fitting v (sum a b) ≡ (fitPart v a && (fitPart v b && (apart a b && before a b)))
+unfolding fitting
+sum-fits v a b sa sb = iff into back
+  where
+    into : fitting v (sum a b) ≡ true → (fitPart v a && (fitPart v b && (apart a b && before a b))) ≡ true
+    into h =
+        let t = fitting-out v (sum a b) h in
+        let w = sum-parts a b (t .whole) in
+        let known : (c : List ℕ) → c ∈ own (sum a b) → allBelow v c ≡ true = λ c m. all-in (λ l. ltb (l / 2) v) c (λ l i. lt-ltb (l / 2) v (t .known (l / 2) (c, m, (l, i, refl)))) in
+        rw (
+          w .small-a,
+          cube-proper (own (sum a b)) (t .formed) (here refl),
+          known a (here refl),
+          w .small-b,
+          cube-proper (own (sum a b)) (t .formed) (there (here refl)),
+          known b (there (here refl)),
+          w .disjoint,
+        ) (w .ordered)
+
+    back : (fitPart v a && (fitPart v b && (apart a b && before a b))) ≡ true → fitting v (sum a b) ≡ true
+    back h =
+        let p = both (fitPart v a) _ h in
+        let q = both (fitPart v b) _ (p .1) in
+        let r = both (apart a b) (before a b) (q .1) in
+        let c = part-out v a (p .0) in
+        let d = part-out v b (q .0) in
+        rw (
+          sa,
+          sb,
+          r .0,
+          c .0,
+          d .0,
+          r .1,
+          c .1,
+          d .1,
+          loose-in a b (small-sub a b (c .0) (r .0)) (small-sub b a (d .0) (apart-flip a b (r .0))),
+          c .2,
+          d .2,
+        )

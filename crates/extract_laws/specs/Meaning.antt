@@ -1,0 +1,135 @@
+-- What the laws of extraction speak of: good networks, uses and bases, the best divisor, what a network allows, and how a run goes.
+use Prim.Native.Nat.{ℕ, _<_, _≤_}
+use mathlib.Core.Path.{_≡_}
+use mathlib.Core.Logic.{_⊎_}
+use mathlib.Core.Bool.{true, false}
+use mathlib.Core.List.{List, [], _∷_, map, List·Memᴰ}
+use lib.IntN.{ℤ, pos, _+ℤ_}
+use lib.Signed.{ltZ}
+use Rattle.sets.specs.Sets.{mem, sub, apart, asc, union, without, meet, before}
+use Rattle.expression.specs.Expression.{expression}
+use Rattle.network.specs.Net.{Node, Net, nodes, variables, cubeCount, literalCount}
+use Rattle.network.specs.Meaning.{Reads, Through}
+use Rattle.network.specs.Held.{numbered, mostVariables, mostCubes, mostLiterals}
+use Rattle.extract_laws.specs.Divisor.{Divisor, pair, sum, own, small, sound, useOf, hit}
+use Rattle.extract_laws.specs.Extract.{weight, candidates, sooner, step}
+use Rattle.extract_laws.specs.Run.{Stop, done, asked, numbers, rows, Made, Move, finished, stuck, take, made}
+
+-- ---- networks that a step can be made on: what the rules on networks say, but for the limits
+
+pub record Good (n : Net) : Type 0 where
+  -- every node has an expression, over the inputs and the divisors
+  pub expressions : (f : List (List ℕ)) → List·Memᴰ f (nodes n) → expression f ≡ true
+  pub known : (f : List (List ℕ)) → List·Memᴰ f (nodes n) → (v : ℕ) → Reads f v → v < variables n
+  -- the divisors are numbered in turn, from the inputs on
+  pub inTurn : n .divisors ≡ numbered (n .inputs) (map (λ (e : Node). e .cubes) (n .divisors))
+  -- no divisor reads itself through others
+  pub acyclic : (v : ℕ) → Through n v v → ⊥
+
+-- the limits on a network's size
+pub record Within (n : Net) : Type 0 where
+  pub variables : variables n ≤ mostVariables
+  pub cubes : cubeCount n ≤ mostCubes
+  pub literals : literalCount n ≤ mostLiterals
+
+-- ---- divisors, their uses and bases
+
+-- what a sound sum is, part by part
+pub record Parts (a b : List ℕ) : Type 0 where
+  pub asc-a : asc a ≡ true
+  pub asc-b : asc b ≡ true
+  pub disjoint : apart a b ≡ true
+  pub small-a : small a ≡ true
+  pub small-b : small b ≡ true
+  pub ordered : before a b ≡ true
+
+-- the other cube of a use: the same base with b in place of a
+abbrev pub other : List ℕ → List ℕ → List ℕ → List ℕ
+other a b c = union (without c a) b
+
+-- c is one of the two cubes of a use
+pub record Use (a b : List ℕ) (f : List (List ℕ)) (c : List ℕ) : Type 0 where
+  pub inside : sub a c ≡ true
+  pub free : apart (without c a) b ≡ true
+  pub partner : List·Memᴰ (other a b c) f
+
+-- the other of the two is one the other way about, and leads back
+pub record Partner (a b : List ℕ) (f : List (List ℕ)) (c : List ℕ) : Type 0 where
+  pub inside : List·Memᴰ (other a b c) f
+  pub turned : useOf b a f (other a b c) ≡ true
+  pub base : without (other a b c) b ≡ without c a
+  pub back : other b a (other a b c) ≡ c
+
+-- c shares no literal with the parts, and with either it is a cube of f
+pub record Base (a b : List ℕ) (f : List (List ℕ)) (c : List ℕ) : Type 0 where
+  pub ascending : asc c ≡ true
+  pub off-a : apart c a ≡ true
+  pub off-b : apart c b ≡ true
+  pub with-a : List·Memᴰ (union c a) f
+  pub with-b : List·Memᴰ (union c b) f
+
+-- c is a cube of a use: it has both literals, or it is a base with one of the parts
+abbrev pub InUse : Divisor → List (List ℕ) → List ℕ → Type 0
+InUse (pair p q) f c = (mem p c ≡ true) × (mem q c ≡ true)
+InUse (sum a b) f c = (z : List ℕ) × Base a b f z × ((c ≡ union z a) ⊎ (c ≡ union z b))
+
+-- a node of the network has a use of the divisor
+abbrev pub Used : Net → Divisor → Type 0
+Used n d = (f : List (List ℕ)) × List·Memᴰ f (nodes n) × ((c : List ℕ) × List·Memᴰ c f × (hit d f c ≡ true))
+
+-- the divisors of a network, in the paper's words
+pub data Divides (n : Net) : Divisor → Type 0 where
+  -- two literals of one cube
+  literals : {f : List (List ℕ)} {c : List ℕ} {p q : ℕ} → List·Memᴰ f (nodes n) → List·Memᴰ c f → List·Memᴰ p c → List·Memᴰ q c → p < q → Divides n (pair p q)
+  -- two cubes of one node less their common base, where both parts have one or two literals, the smaller part first
+  parts : {f : List (List ℕ)} {c e a b : List ℕ} → List·Memᴰ f (nodes n) → List·Memᴰ c f → List·Memᴰ e f
+      → a ≡ without c (meet c e) → b ≡ without e (meet c e) → small a ≡ true → small b ≡ true → before a b ≡ true → Divides n (sum a b)
+
+-- a divisor that a network can take: its own node is an expression over known variables
+pub record Fit (n : Net) (d : Divisor) : Type 0 where
+  pub whole : sound d ≡ true
+  pub formed : expression (own d) ≡ true
+  pub known : (v : ℕ) → Reads (own d) v → v < variables n
+
+-- ---- the choice
+
+-- the divisor has the greatest weight, and of those that have it it is the first
+pub record Best (n : Net) (d : Divisor) : Type 0 where
+  pub chosen : List·Memᴰ d (candidates n)
+  pub heaviest : (e : Divisor) → List·Memᴰ e (candidates n) → ltZ (weight n d) (weight n e) ≡ false
+  pub first : (e : Divisor) → List·Memᴰ e (candidates n) → weight n e ≡ weight n d → sooner e d ≡ false
+
+-- it is the best one, and its weight is above 0
+pub record Worth (n : Net) (d : Divisor) : Type 0 where
+  pub best : Best n d
+  pub above : ltZ (pos 0) (weight n d) ≡ true
+
+-- no divisor has a weight above 0
+abbrev pub Done : Net → Type 0
+Done n = (e : Divisor) → List·Memᴰ e (candidates n) → ltZ (pos 0) (weight n e) ≡ false
+
+-- ---- what a network allows, and how a run goes
+
+-- the best step alone is judged: first by the numbers, then by the rows
+pub data Allows (n : Net) : Move → Type 0 where
+  nothing : Done n → Allows n finished
+  noNumber : {d : Divisor} → Worth n d → mostVariables ≤ variables n → Allows n (stuck numbers)
+  noRows : {d : Divisor} → Worth n d → variables n < mostVariables → mostCubes < cubeCount (step n d) → Allows n (stuck rows)
+  next : {d : Divisor} → Worth n d → variables n < mostVariables → cubeCount (step n d) ≤ mostCubes → Allows n (take d)
+
+-- steps lead from a network to another: each takes the best divisor of the network that it is made on
+pub data Leads : Net → List Made → Net → Type 0 where
+  stay : {n : Net} → Leads n [] n
+  onward : {n m : Net} {l : List Made} (d : Divisor) → Worth n d → variables n < mostVariables → cubeCount (step n d) ≤ mostCubes → Leads (step n d) l m → Leads n (made n d ∷ l) m
+
+-- why a run of k steps ends at a network after j of them: the first reason that applies
+pub data Ends (k j : ℕ) (n : Net) : Stop → Type 0 where
+  isDone : Done n → Ends k j n done
+  isAsked : {d : Divisor} → Worth n d → j ≡ k → Ends k j n asked
+  isNumbers : {d : Divisor} → Worth n d → j < k → mostVariables ≤ variables n → Ends k j n numbers
+  isRows : {d : Divisor} → Worth n d → j < k → variables n < mostVariables → mostCubes < cubeCount (step n d) → Ends k j n rows
+
+-- the sum of the weights of steps
+unfoldable pub fall : List Made → ℤ
+fall [] = pos 0
+fall (s ∷ l) = s .weight +ℤ fall l

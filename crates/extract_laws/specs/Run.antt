@@ -1,0 +1,74 @@
+-- A run of a number of steps, and why it stops.
+use mathlib.Core.Bool.{cond}
+use mathlib.Core.List.{List, [], _∷_, map}
+use mathlib.Core.Option.{Option, none, some}
+use Prim.Native.Nat.{ℕ, zero, suc}
+use lib.Dec.{ltb}
+use lib.IntN.{ℤ, pos}
+use lib.Signed.{ltZ}
+use Rattle.expression.specs.Expression.{sort}
+use Rattle.network.specs.Net.{Node, Net, variables, cubeCount}
+use Rattle.network.specs.Held.{mostVariables, mostCubes}
+use Rattle.extract_laws.specs.Divisor.{Divisor}
+use Rattle.extract_laws.specs.Extract.{allUses, weight, best, step}
+
+pub data Stop : Type 0 where
+  done asked numbers rows : Stop
+
+-- a step made: its divisor, weight and uses
+pub record Made : Type 0 where
+  pub divisor : Divisor
+  pub weight : ℤ
+  pub uses : ℕ
+
+pub record Result : Type 0 where
+  pub network : Net
+  pub stop : Stop
+  pub steps : List Made
+
+-- what a network allows: nothing, a divisor that there is no room for, or a divisor
+pub data Move : Type 0 where
+  finished : Move
+  stuck : Stop → Move
+  take : Divisor → Move
+
+-- numbers: 64 variables; rows: the step would pass 1,088 cubes
+unfoldable pub roomFor : Net → Divisor → Move
+roomFor n d = cond (ltb (variables n) mostVariables) (cond (ltb mostCubes (cubeCount (step n d))) (stuck rows) (take d)) (stuck numbers)
+
+-- done: no divisor with weight above 0
+unfoldable pub choose : Net → Option Divisor → Move
+choose n none = finished
+choose n (some d) = cond (ltZ (pos 0) (weight n d)) (roomFor n d) finished
+
+unfoldable pub move : Net → Move
+move n = choose n (best n)
+
+-- no step is left to make: done comes before asked, and asked before the others
+abbrev pub ended : Move → Stop
+ended finished = done
+ended (stuck r) = asked
+ended (take d) = asked
+
+abbrev pub made : Net → Divisor → Made
+made n d = record { divisor = d; weight = weight n d; uses = allUses n d }
+
+unfoldable pub runFrom : ℕ → Net → Result
+runFrom zero n = record { network = n; stop = ended (move n); steps = [] }
+runFrom (suc k) n = elim (move n) [
+  | finished ↦ record { network = n; stop = done; steps = [] }
+  | stuck r ↦ record { network = n; stop = r; steps = [] }
+  | take d ↦ let r = runFrom k (step n d) in record { network = r .network; stop = r .stop; steps = made n d ∷ r .steps }
+]
+
+-- the cubes of every node in cube order
+unfoldable pub inOrder : Net → Net
+inOrder n = record {
+  inputs = n .inputs;
+  outputs = map sort (n .outputs);
+  divisors = map (λ (e : Node). record { number = e .number; cubes = sort (e .cubes) }) (n .divisors);
+}
+
+-- a run of k steps
+unfoldable pub run : ℕ → Net → Result
+run k n = runFrom k (inOrder n)

@@ -1,0 +1,48 @@
+-- `extract_rank::better_of` meets its contract: the weights decide, and on a tie the order of the divisors. Assumes nothing.
+use mathlib.Core.Path.{_≡_, sym, _∙_, ap}
+use mathlib.Core.Bool.{true, false, cond}
+use mir.Syntax.{w32}
+use mir.Val.{toZ, ofZ}
+use mir.Facts.{toZ-ofZ}
+use Rattle.extract_rank.specs.Rank.{outweighs, taken}
+use borrow.Author.Needs.{needs}
+use Rattle.extract_rank.proofs.better_of.Statement.{statement}
+use Rattle.extract_rank.proofs.better_of.Tie as tie
+
+abbrev start : tie.After-is-better → tie.Start
+start c = c .before .before .before .before
+
+-- the weights read are those of the steps
+read-new : (c : tie.After-is-better) → toZ w32 (ofZ w32 (start c .args .s .weight)) ≡ start c .args .s .weight
+read-new c = toZ-ofZ {w = w32} {z = start c .args .s .weight} (search needs)
+
+read-held : (c : tie.After-is-better) → toZ w32 (ofZ w32 (start c .args .held .weight)) ≡ start c .args .held .weight
+read-held c = toZ-ofZ {w = w32} {z = start c .args .held .weight} (search needs)
+
+-- what the test decides
+decided : (c : tie.After-is-better) → let s = start c in cond (c .is-better .result) (s .args .s) (s .args .held) ≡ taken (s .args .held) (s .args .s)
+unfolding taken
+decided c =
+    let s = start c .args in
+    ap (λ b. cond b (s .s) (s .held)) (c .is-better .ensures ∙ (λ i. outweighs (read-new c i) (read-held c i) (c .before .before .before .is-sooner .ensures i)))
+
+is-sooner-requires : tie.Need-is-sooner-requires
+is-sooner-requires c κs = search needs
+
+is-better-requires : tie.Need-is-better-requires
+is-better-requires c κs = search needs
+
+returns : tie.Need-returns
+returns c =
+    let s = start (c .before) .args in
+    ap (λ b. cond b (s .s) (s .held)) (sym (c .if1 .taken)) ∙ decided (c .before)
+
+returns-2 : tie.Need-returns-2
+returns-2 c =
+    let s = start (c .before) .args in
+    ap (λ b. cond b (s .s) (s .held)) (sym (c .if1 .left)) ∙ decided (c .before)
+
+pub better-of-spec : {M : Type 1} → statement M
+better-of-spec =
+    tie.close
+    (tie.spec is-sooner-requires is-better-requires returns returns-2)

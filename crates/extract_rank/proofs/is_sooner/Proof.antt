@@ -1,0 +1,69 @@
+-- `extract_rank::is_sooner` meets its contract: a case for each two kinds. Assumes nothing.
+use mathlib.Core.Path.{sym, _∙_, ap₂}
+use mathlib.Core.Bool.{Bool}
+use Rattle.extract_laws.specs.Extract.{sooner}
+use Rattle.extract_divisor.specs.Divisor.{divisorOf}
+use Rattle.extract_divisor.specs.declared.Divisor.{Divisor}
+use borrow.Author.Needs.{needs}
+use Rattle.extract_rank.proofs.is_sooner.Statement.{statement}
+use Rattle.extract_rank.proofs.is_sooner.Tie as tie
+
+abbrev order : Divisor → Divisor → Bool
+order d e = sooner (divisorOf d) (divisorOf e)
+
+enum-known-d : tie.Need-enum-known-d
+enum-known-d c = search needs
+
+enum-known-e : tie.Need-enum-known-e
+enum-known-e c = search needs
+
+is-pair-before-requires : tie.Need-is-pair-before-requires
+is-pair-before-requires c κs = search needs
+
+enum-told : tie.Need-enum-told
+enum-told c = search needs
+
+enum-known-d-2 : tie.Need-enum-known-d-2
+enum-known-d-2 c = search needs
+
+enum-told-2 : tie.Need-enum-told-2
+enum-told-2 c = search needs
+
+enum-known-e-2 : tie.Need-enum-known-e-2
+enum-known-e-2 c = search needs
+
+is-sum-before-requires : tie.Need-is-sum-before-requires
+is-sum-before-requires c κs = search needs
+
+returns : tie.Need-returns
+unfolding sooner
+returns c = c .is-pair-before .ensures ∙ ap₂ order (sym (c .before .before .before .before .before .d .given .1)) (sym (c .before .before .e .given .1))
+
+returns-2 : tie.Need-returns-2
+unfolding sooner
+returns-2 c = ap₂ order (sym (c .before .before .before .d .given .1)) (sym (c .enum-told .given .1))
+
+returns-3 : tie.Need-returns-3
+unfolding sooner
+returns-3 c = ap₂ order (sym (c .before .before .before .d2 .given .1)) (sym (c .enum-told2 .given .1))
+
+returns-4 : tie.Need-returns-4
+unfolding sooner
+returns-4 c = c .is-sum-before .ensures ∙ ap₂ order (sym (c .before .before .before .before .before .d2 .given .1)) (sym (c .before .before .e2 .given .1))
+
+pub is-sooner-spec : {M : Type 1} → statement M
+is-sooner-spec =
+    tie.close
+    (tie.spec
+    enum-known-d
+    enum-known-e
+    is-pair-before-requires
+    enum-told
+    enum-known-d-2
+    enum-told-2
+    enum-known-e-2
+    is-sum-before-requires
+    returns
+    returns-2
+    returns-3
+    returns-4)

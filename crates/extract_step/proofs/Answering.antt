@@ -1,0 +1,163 @@
+-- What a step answers: its cases, the network handed back, and that one answer is left. Assumes nothing.
+use Prim.Native.Nat.{ℕ, _+_, _-_, _*_, _<_, _≤_}
+use mathlib.Core.Path.{_≡_, refl, sym, ap, ap₂, _∙_, subst}
+use mathlib.Core.Bool.{Bool, true, false, cond}
+use mathlib.Core.List.{List, [], _∷_, _++_, map}
+use mathlib.Core.Option.{Option, none, some}
+use native.Mathlib.Omega.{arith}
+use lib.Dec.{ltb}
+use lib.ListN.{length, take as front, drop, replicate, length-append, length-map}
+use borrow.Author.Tests.{ltb-false, lt-ltb, le-ltb}
+use Rattle.sets.specs.Lists.{all, total}
+use Rattle.sets.proofs.Lists.{total-append, total-map}
+use Rattle.expression.specs.Expression.{ordered, literalsOf}
+use Rattle.expression.specs.Words.{cubesOf}
+use Rattle.expression.specs.Answers.{capped}
+use Rattle.expression.proofs.Words.{fit}
+use Rattle.network.specs.Net.{Net, nodes, variables, cubeCount, literalCount}
+use Rattle.network.specs.Held.{netOf, mostVariables, mostCubes, mostLiterals}
+use Rattle.network.specs.Handed.{flat, cubeSlots, Holds}
+use Rattle.network.specs.Parts.{nodesOf, heldIn, netAt, Sized}
+use Rattle.network.specs.declared.Network.{Network}
+use Rattle.network.proofs.Holding.{nodes-held, outputs-held, divisors-held}
+use Rattle.network_nodes.proofs.Cutting.{cut-total}
+use Rattle.network.proofs.Handing.{cut-flat, flat-length, holds-one, blank-one}
+use Rattle.extract_laws.specs.Divisor.{own, rewrite}
+use Rattle.extract_laws.specs.Divisor as extraction
+use Rattle.extract_laws.specs.Extract.{redo, step}
+use Rattle.extract_laws.specs.Run.{Move, finished, stuck, take as taken, roomFor, done, asked, numbers, rows}
+use Rattle.extract_laws.proofs.Making.{step-nodes}
+use Rattle.extract_tidy.specs.Tidy.{arranged}
+use Rattle.extract_tidy.proofs.Arranged.{arranged-parts, arranged-sized}
+use Rattle.extract_divisor.specs.Divisor.{divisorOf}
+use Rattle.extract_divisor.specs.declared.Divisor.{Divisor}
+use Rattle.extract_fit.specs.Fitness.{fitting}
+use Rattle.extract_step.specs.Replace.{allowed, outcome, Stepped}
+use Rattle.extract_step.specs.Parts.{LaidNodes, SourceNodes}
+use Rattle.extract_step.specs.declared.Next.{Next}
+
+-- ---- the network of a step, from the nodes laid
+
+capped-over : (t : ℕ) → ltb mostLiterals (capped t) ≡ ltb mostLiterals t
+capped-over t = go (ltb t 18446744073709551616) refl
+  where
+    go : (b : Bool) → ltb t 18446744073709551616 ≡ b → ltb mostLiterals (cond b t 18446744073709551615) ≡ ltb mostLiterals t
+    go true e = refl
+    go false e = sym (lt-ltb mostLiterals t (omega (arith, ltb-false t 18446744073709551616 e)))
+
+module _ (n m k : ℕ) (words counts : List ℕ) (s : SourceNodes words counts (m + k)) where
+  abbrev net : Net
+  net = netAt n m k counts words
+
+  few : m + k ≤ 96
+  few = omega (arith, s .free)
+
+  numbered : variables net ≡ n + k
+  numbered = ap (n +_) (divisors-held (heldIn n m k counts words) (s .slots) few)
+
+  module _ (d : extraction.Divisor) where
+    -- the nodes that the code lays, and the divisor's own
+    pub laid-nodes : map (rewrite (2 * (n + k)) d) (nodesOf (m + k) counts words) ++ (own d ∷ []) ≡ nodes (step net d)
+    laid-nodes =
+        sym (step-nodes net d
+        ∙ ap₂ (λ (v : ℕ) (fs : List (List (List ℕ))). map (rewrite (2 * v) d) fs ++ (own d ∷ [])) numbered (nodes-held (heldIn n m k counts words)))
+
+    pub laid-count : {ws sizes : List ℕ} {t : ℕ} → LaidNodes ws sizes t (map (rewrite (2 * (n + k)) d) (nodesOf (m + k) counts words)) → cubeCount (step net d) ≡ t + length (own d)
+    laid-count l =
+        let fs = map (rewrite (2 * (n + k)) d) (nodesOf (m + k) counts words) in
+        omega (arith, ap (total length) laid-nodes, total-append length fs (own d ∷ []), flat-length fs, l .front .number)
+
+    -- the literals in the words are those of the network
+    pub laid-literals : {ws sizes : List ℕ} {t : ℕ} {f : List (List ℕ)} → LaidNodes ws sizes t (nodes (step net d)) → f ≡ front (t - 0) (drop 0 (cubesOf ws)) → literalsOf f ≡ literalCount (step net d)
+    laid-literals {t = t} l e =
+        let fs = nodes (step net d) in
+        let k : t - 0 ≡ total (λ c. c) (map length fs) = omega (arith, l .front .number, flat-length fs, total-map (λ c. c) length fs) in
+        ap literalsOf e ∙ ap₂ (λ (k : ℕ) (g : List (List ℕ)). literalsOf (front k g)) k (l .front .cubes) ∙ sym (cut-total length (map length fs) (flat fs ++ replicate (cubeSlots - t) []))
+        ∙ ap (total literalsOf) (cut-flat fs (replicate (cubeSlots - t) []))
+
+    pub laid-holds : {ws sizes : List ℕ} {t : ℕ} → LaidNodes ws sizes t (nodes (step net d)) → Holds (heldIn n m (k + 1) sizes ws) (step net d)
+    laid-holds l = record {
+      inputs = refl;
+      outputs = sym (length-map (net .outputs) (rewrite (2 * variables net) d) ∙ outputs-held (heldIn n m k counts words) (s .slots) few);
+      divisors = omega (
+        arith,
+        length-append (map (redo (2 * variables net) d) (net .divisors)) (record { number = variables net; cubes = own d } ∷ []),
+        length-map (net .divisors) (redo (2 * variables net) d),
+        divisors-held (heldIn n m k counts words) (s .slots) few,
+      );
+      counts = l .counted;
+      cubes = l .front .cubes ∙ ap (λ (z : ℕ). flat (nodes (step net d)) ++ replicate (cubeSlots - z) []) (l .front .number ∙ flat-length (nodes (step net d)));
+    }
+
+    module _ (h : n + k < mostVariables) where
+      pub room-rows : mostCubes < cubeCount (step net d) → roomFor net d ≡ stuck rows
+      unfolding roomFor
+      room-rows c = rw (ap (λ (v : ℕ). ltb v mostVariables) numbered ∙ lt-ltb (n + k) mostVariables h, lt-ltb mostCubes _ c)
+
+      room-take : cubeCount (step net d) ≤ mostCubes → roomFor net d ≡ taken d
+      unfolding roomFor
+      room-take c = rw (ap (λ (v : ℕ). ltb v mostVariables) numbered ∙ lt-ltb (n + k) mostVariables h, le-ltb mostCubes _ c)
+
+      -- and the literals, as they were counted
+      module _ (c : cubeCount (step net d) ≤ mostCubes) (x : ℕ) (e : x ≡ capped (literalCount (step net d))) where
+        pub room-over : mostLiterals < x → allowed net (roomFor net d) ≡ none
+        room-over l = rw (room-take c, sym (capped-over (literalCount (step net d))) ∙ ap (ltb mostLiterals) (sym e) ∙ lt-ltb mostLiterals x l)
+
+        pub room-made : x ≤ mostLiterals → allowed net (roomFor net d) ≡ some (taken d)
+        room-made l = rw (room-take c, sym (capped-over (literalCount (step net d))) ∙ ap (ltb mostLiterals) (sym e) ∙ le-ltb mostLiterals x l)
+
+-- ---- the cases of an answer
+
+module _ (n : Network) (slots : length (n .counts) ≡ 96) (places : length (n .words) ≡ 2176) (a : arranged n ≡ true) where
+  within : Sized (n .inputs) (n .outputs) (n .divisors) (n .words) (n .counts)
+  within = arranged-sized n a slots places
+
+  pub arranged-source : n .inputs + n .divisors < mostVariables → SourceNodes (n .words) (n .counts) (n .outputs + n .divisors)
+  arranged-source h = record {
+    slots = slots;
+    free = omega (arith, within .narrow);
+    cubes = within .cubes;
+    order = ap (all ordered) (sym (nodes-held n)) ∙ arranged-parts n a .1;
+  }
+
+  pub arranged-variables : variables (netOf n) ≡ n .inputs + n .divisors
+  arranged-variables = ap (n .inputs +_) (divisors-held n slots (omega (arith, within .narrow, within .variables)))
+
+  pub room-full : (d : extraction.Divisor) → mostVariables ≤ n .inputs + n .divisors → roomFor (netOf n) d ≡ stuck numbers
+  unfolding roomFor
+  room-full d h = rw (ap (λ (v : ℕ). ltb v mostVariables) arranged-variables ∙ le-ltb (n .inputs + n .divisors) mostVariables h)
+
+module _ (n : Network) (d : Divisor) where
+  pub unfit-network : arranged n ≡ false → outcome n d ≡ none
+  unfolding outcome
+  unfit-network a = rw a
+
+  module _ (a : arranged n ≡ true) where
+    pub unfit-divisor : fitting (variables (netOf n)) (divisorOf d) ≡ false → outcome n d ≡ none
+    unfolding outcome
+    unfit-divisor p = rw (a, p)
+
+    pub outcome-room : fitting (variables (netOf n)) (divisorOf d) ≡ true → outcome n d ≡ allowed (netOf n) (roomFor (netOf n) (divisorOf d))
+    unfolding outcome
+    outcome-room p = rw (a, p)
+
+-- the answer in other words
+pub stepped-as : (n : Network) {e f : Option Move} (r : Next) → e ≡ f → Stepped n f r → Stepped n e r
+stepped-as n r p h = subst (λ o. Stepped n o r) (sym p) h
+
+-- ---- one answer
+
+-- two answers to one step are the same, where their words are words
+module _ (n : Network) (d : Divisor) (r t : Next)
+    (lr : length (r .network .words) ≡ 2176) (lt : length (t .network .words) ≡ 2176) (fr : fit (r .network .words) ≡ true) (ft : fit (t .network .words) ≡ true) where
+  pub stepped-one : Stepped n (outcome n d) r → Stepped n (outcome n d) t → r ≡ t
+  stepped-one = go (outcome n d)
+    where
+      go : (o : Option Move) → Stepped n o r → Stepped n o t → r ≡ t
+      go (some (taken e)) (p, h) (q, k) = λ i. record { outcome = (p ∙ sym q) i; network = holds-one (r .network) (t .network) (step (netOf n) e) lr lt fr ft h k i }
+      go (some (stuck numbers)) (p, h) (q, k) = λ i. record { outcome = (p ∙ sym q) i; network = blank-one (r .network) (t .network) h k i }
+      go (some (stuck rows)) (p, h) (q, k) = λ i. record { outcome = (p ∙ sym q) i; network = blank-one (r .network) (t .network) h k i }
+      go (some (stuck done)) h k = absurd h
+      go (some (stuck asked)) h k = absurd h
+      go (some finished) h k = absurd h
+      go none (p, h) (q, k) = λ i. record { outcome = (p ∙ sym q) i; network = blank-one (r .network) (t .network) h k i }

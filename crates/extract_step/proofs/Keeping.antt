@@ -1,0 +1,95 @@
+-- A step made on a network by the rules gives a network by the rules, in cube order. Assumes nothing.
+use Prim.Native.Nat.{ℕ, _*_, _<_, _≤_}
+use mathlib.Core.Path.{_≡_, refl, subst}
+use mathlib.Core.Bool.{Bool, true, false, cond, _&&_}
+use mathlib.Core.Option.{none}
+use native.Mathlib.Omega.{arith}
+use lib.Dec.{ltb}
+use lib.ListN.{length, length-map}
+use borrow.Author.Tests.{ltb-true, ltb-false}
+use Rattle.sets.proofs.Truth.{both}
+use Rattle.sets.proofs.Lists.{_∈_}
+use Rattle.network.specs.Net.{Net, nodes, variables, cubeCount, literalCount}
+use Rattle.network.specs.Held.{netOf, rules, mostVariables, mostCubes, mostLiterals}
+use Rattle.network.specs.Handed.{Holds}
+use Rattle.network.specs.declared.Network.{Network}
+use Rattle.network.proofs.Ruling.{rules-lawful}
+use Rattle.network.proofs.Handing.{holds-net}
+use Rattle.extract_laws.specs.Divisor as extraction
+use Rattle.extract_laws.specs.Divisor.{rewrite}
+use Rattle.extract_laws.specs.Extract.{step}
+use Rattle.extract_laws.specs.Run.{roomFor, stuck, take, numbers, rows}
+use Rattle.extract_laws.specs.Meaning.{Good, Fit}
+use Rattle.extract_laws.proofs.Making.{step-variables}
+use Rattle.extract_laws.proofs.Stepping.{step-good, step-ordered}
+use Rattle.extract_laws.proofs.Following.{rules-good, holds-rules}
+use Rattle.extract_tidy.specs.Tidy.{arranged}
+use Rattle.extract_tidy.proofs.Arranged.{arranged-in}
+use Rattle.extract_divisor.specs.Divisor.{divisorOf}
+use Rattle.extract_divisor.specs.declared.Divisor.{Divisor}
+use Rattle.extract_fit.specs.Fitness.{fitting}
+use Rattle.extract_step.specs.Replace.{allowed, outcome, Stepped}
+use Rattle.extract_step.specs.declared.Outcome.the-variants.{Made}
+use Rattle.extract_step.specs.declared.Next.{Next}
+use Rattle.extract_fit.proofs.Fitting.{fitting-iff}
+
+-- ---- what was made
+
+-- the divisor is fit, there was room for the step, and the network after it is held
+pub record Takes (n : Net) (d : extraction.Divisor) (p : Network) : Type 0 where
+  pub fit : Fit n d
+  pub number : variables n < mostVariables
+  pub rows : cubeCount (step n d) ≤ mostCubes
+  pub literals : literalCount (step n d) ≤ mostLiterals
+  pub held : Holds p (step n d)
+
+pub stepped-takes : (n : Network) (d : Divisor) (t : Next) → Stepped n (outcome n d) t → t .outcome ≡ Made → Takes (netOf n) (divisorOf d) (t .network)
+unfolding outcome roomFor
+stepped-takes n d t s q = go (arranged n && fitting (variables m) e) (ltb (variables m) mostVariables) (ltb mostCubes (cubeCount (step m e))) (ltb mostLiterals (literalCount (step m e))) refl refl refl refl s
+  where
+    m : Net
+    m = netOf n
+
+    e : extraction.Divisor
+    e = divisorOf d
+
+    go : (f v c l : Bool) → (arranged n && fitting (variables m) e) ≡ f → ltb (variables m) mostVariables ≡ v → ltb mostCubes (cubeCount (step m e)) ≡ c → ltb mostLiterals (literalCount (step m e)) ≡ l
+        → Stepped n (cond f (allowed m (cond v (cond c (stuck rows) (take e)) (stuck numbers))) none) t → Takes m e (t .network)
+    go true true false false i j k h s = record {
+      fit = fitting-iff m e .0 (both (arranged n) (fitting (variables m) e) i .1);
+      number = ltb-true (variables m) mostVariables j;
+      rows = ltb-false mostCubes (cubeCount (step m e)) k;
+      literals = ltb-false mostLiterals (literalCount (step m e)) h;
+      held = (rw h at s) .1;
+    }
+    go true true false true i j k h s = let z : _≡_ {A = ℕ} 0 1 = cc ((rw h at s) .0) in absurd (omega arith)
+    go true true true l i j k h s = let z : _≡_ {A = ℕ} 0 1 = cc (s .0) in absurd (omega arith)
+    go true false c l i j k h s = let z : _≡_ {A = ℕ} 0 1 = cc (s .0) in absurd (omega arith)
+    go false v c l i j k h s = let z : _≡_ {A = ℕ} 0 1 = cc (s .0) in absurd (omega arith)
+
+-- ---- from a network by the rules
+
+module _ (n p : Network) (slots : length (n .counts) ≡ 96) (words : length (n .words) ≡ 2176) (r : rules n ≡ true)
+    (d : extraction.Divisor) (t : Takes (netOf n) d p) where
+  good : Good (step (netOf n) d)
+  good = step-good (netOf n) (rules-good n slots words r) d (t .fit)
+
+  -- it means the network after the step
+  pub takes-is : netOf p ≡ step (netOf n) d
+  takes-is = holds-net p (step (netOf n) d) (t .held) (good .inTurn)
+
+  pub takes-rules : rules p ≡ true
+  takes-rules =
+      let w = rules-lawful n slots words r in
+      holds-rules p (step (netOf n) d) (t .held) good (record { variables = omega (arith, step-variables (netOf n) d, t .number); cubes = t .rows; literals = t .literals }) (w .inputs)
+      (omega (arith, w .outputs, length-map ((netOf n) .outputs) (rewrite (2 * variables (netOf n)) d)))
+
+  pub takes-arranged : arranged p ≡ true
+  takes-arranged = arranged-in p takes-rules (λ f m. step-ordered (netOf n) (rules-good n slots words r) d (t .fit) f (subst (λ (z : Net). f ∈ nodes z) takes-is m))
+
+-- what a step hands back, where it is made
+pub made-rules : (n : Network) (d : Divisor) (t : Next) → length (n .counts) ≡ 96 → length (n .words) ≡ 2176 → rules n ≡ true → Stepped n (outcome n d) t → t .outcome ≡ Made
+    → (rules (t .network) ≡ true) × (arranged (t .network) ≡ true)
+made-rules n d t slots words r s q =
+    let k = stepped-takes n d t s q in
+    (takes-rules n (t .network) slots words r (divisorOf d) k, takes-arranged n (t .network) slots words r (divisorOf d) k)

@@ -1,0 +1,74 @@
+-- `extract_step::put_own` meets its contract: the part, and after it the other part of a sum. Assumes nothing.
+use mathlib.Core.Path.{sym, ap, _∙_}
+use mathlib.Core.List.{[], _∷_}
+use native.Mathlib.Omega.{arith}
+use lib.ListN.{length}
+use Rattle.cube.specs.Cube.{lits}
+use Rattle.extract_laws.specs.Divisor.{own, part}
+use Rattle.extract_divisor.specs.Divisor.{divisorOf}
+use Rattle.extract_step.proofs.Filling.{adds-none, adds-as, adds-put}
+use borrow.Author.Needs.{needs}
+use Rattle.extract_step.proofs.put_own.Statement.{statement}
+use Rattle.extract_step.proofs.put_own.Tie as tie
+
+part-of-requires : tie.Need-part-of-requires
+part-of-requires c κs = search needs
+
+put-cube-requires : tie.Need-put-cube-requires
+put-cube-requires c κs = search needs
+
+add-next : tie.Need-add-next
+add-next c = search needs
+
+enum-told : tie.Need-enum-told
+enum-told c = search needs
+
+enum-known-d : tie.Need-enum-known-d
+enum-known-d c = search needs
+
+put-cube-requires-2 : tie.Need-put-cube-requires-2
+put-cube-requires-2 c κs = search needs
+
+add-result : tie.Need-add-result
+add-result c = search needs
+
+same-length : tie.Need-same-length
+same-length c = search needs
+
+returns : tie.Need-returns
+returns c =
+    let e = c .enum-told .given .1 in
+    let p = c .before .before .before .before in
+    let s = p .before .before .before .before in
+    adds-as (ap (_∷ []) (p .before .part-of .ensures ∙ ap (λ d. part (divisorOf d)) e) ∙ sym (ap (λ d. own (divisorOf d)) e))
+    (adds-put (adds-none _ _) (omega (arith, s .pre .1, ap (λ d. length (own (divisorOf d))) e)) (p .put-cube .ensures))
+
+same-length-2 : tie.Need-same-length-2
+same-length-2 c = search needs
+
+returns-2 : tie.Need-returns-2
+returns-2 c =
+    let q = c .before .before in
+    let t = q .before .before .before in
+    let e = t .d .given .1 in
+    let p = t .before .before .before .before in
+    let s = p .before .before .before .before in
+    let n = ap (λ d. length (own (divisorOf d))) e in
+    adds-as (ap (_∷ lits (t .d .given .0 .1 .0) ∷ []) (p .before .part-of .ensures ∙ ap (λ d. part (divisorOf d)) e) ∙ sym (ap (λ d. own (divisorOf d)) e))
+    (adds-put (adds-put (adds-none _ _) (omega (arith, s .pre .1, n)) (p .put-cube .ensures)) (omega (arith, s .pre .1, n)) (q .put-cube2 .ensures))
+
+pub put-own-spec : {M : Type 1} → statement M
+put-own-spec =
+    tie.close
+    (tie.spec
+    part-of-requires
+    put-cube-requires
+    add-next
+    enum-told
+    enum-known-d
+    put-cube-requires-2
+    add-result
+    same-length
+    returns
+    same-length-2
+    returns-2)

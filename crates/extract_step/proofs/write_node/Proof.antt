@@ -1,0 +1,123 @@
+-- `extract_step::write_node` meets its contract. The loop's invariant: what the cubes passed become stands from place `at` on. Assumes nothing.
+use Prim.Native.Nat.{ℕ, _+_, _-_, _≤_}
+use mathlib.Core.Path.{_≡_, refl, sym, ap, _∙_}
+use mathlib.Core.List.{List, []}
+use mathlib.Core.Option.{Option}
+use native.Mathlib.Omega.{arith}
+use lib.ListN.{length, getD, take}
+use lib.Seq.{take-all}
+use Rattle.expression.specs.Words.{cubesOf}
+use Rattle.extract_divisor.specs.Divisor.{divisorOf}
+use Rattle.extract_step.specs.Parts.{fate, fateOf, become, Appends}
+use Rattle.extract_step.proofs.Becoming.{become-few, become-none, become-one}
+use Rattle.extract_step.proofs.Filling.{adds-none, adds-as, adds-put}
+use borrow.Author.Needs.{needs}
+use Rattle.extract_step.proofs.write_node.Statement.{statement}
+use Rattle.extract_step.proofs.write_node.Tie as tie
+
+abbrev Inv-loop : tie.InvT-loop
+Inv-loop f d x out₀ at n to₀ i₀ out to i =
+    (n ≡ length (cubesOf f)) × (i ≤ n) × Appends out₀ out at to (become (fate (x .0) (divisorOf d) (cubesOf f)) (take i (cubesOf f))) × (length out ≡ length out₀)
+
+abbrev μ-loop : tie.MeasureT-loop
+μ-loop f d x out₀ at n to₀ i₀ out to i = n - i
+
+abbrev start : tie.At-loop Inv-loop μ-loop → tie.Start Inv-loop μ-loop
+start l = l .before .before .before .before
+
+abbrev cubes : tie.At-loop Inv-loop μ-loop → List (List ℕ)
+cubes l = cubesOf (start l .args .f .now)
+
+abbrev fates : tie.At-loop Inv-loop μ-loop → List ℕ → Option (List ℕ)
+fates l = fate (start l .args .x .0) (divisorOf (start l .args .d)) (cubes l)
+
+-- so far there are no more cubes than were passed
+below : (l : tie.At-loop Inv-loop μ-loop) → l .loop .to ≤ start l .args .at + l .loop .i
+below l = omega (arith, l .loop .inv .2 .number, become-few (fates l) (cubes l) (l .loop .i))
+
+-- what becomes of cube i
+told : (c : tie.After-remake Inv-loop μ-loop) → let l = c .before .before .before in fates l (getD (cubes l) (l .loop .i) []) ≡ fateOf (c .remake .result)
+told c = ap (fates (c .before .before .before)) (sym (c .before .cube-at .ensures)) ∙ sym (c .remake .ensures)
+
+number-requires : tie.Need-number-requires Inv-loop μ-loop
+number-requires c κs = search needs
+
+loop-holds : tie.Need-loop-holds Inv-loop μ-loop
+loop-holds c = (c .number .ensures, omega arith, adds-none _ _, refl)
+
+cube-at-requires : tie.Need-cube-at-requires Inv-loop μ-loop
+cube-at-requires c κs = search needs
+
+remake-requires : tie.Need-remake-requires Inv-loop μ-loop
+remake-requires c κs = search needs
+
+add-i : tie.Need-add-i Inv-loop μ-loop
+add-i c = search needs
+
+enum-known-t : tie.Need-enum-known-t Inv-loop μ-loop
+enum-known-t c = search needs
+
+enum-told : tie.Need-enum-told Inv-loop μ-loop
+enum-told c = search needs
+
+loop-less : tie.Need-loop-less Inv-loop μ-loop
+loop-less c = search needs
+
+loop-again : tie.Need-loop-again Inv-loop μ-loop
+loop-again c =
+    let r = c .before .before in
+    let l = r .before .before .before in
+    (l .loop .inv .0, omega arith, adds-as (sym (become-none (fates l) (cubes l) (l .loop .i) [] (omega arith) (told r ∙ ap fateOf (c .enum-told .given .1)))) (l .loop .inv .2), l .loop .inv .3)
+
+put-cube-requires : tie.Need-put-cube-requires Inv-loop μ-loop
+put-cube-requires c κs = search needs
+
+add-to : tie.Need-add-to Inv-loop μ-loop
+add-to c =
+    let l = c .before .before .before .before .before .before .before .before .before .before in
+    record { fits = omega (arith, below l) }
+
+loop-less-2 : tie.Need-loop-less-2 Inv-loop μ-loop
+loop-less-2 c = search needs
+
+loop-again-2 : tie.Need-loop-again-2 Inv-loop μ-loop
+loop-again-2 c =
+    let p = c .before .before in
+    let t = p .before .before .before in
+    let r = t .before .before in
+    let l = r .before .before .before in (
+      l .loop .inv .0,
+      omega arith,
+      adds-as (sym (become-one (fates l) (cubes l) (l .loop .i) [] (omega arith) _ (told r ∙ ap fateOf (t .t .given .1)))) (adds-put (l .loop .inv .2) (omega (arith, below l)) (p .put-cube .ensures)),
+      p .put-cube .kept .0 ∙ l .loop .inv .3,
+    )
+
+same-length : tie.Need-same-length Inv-loop μ-loop
+same-length c = c .before .loop .inv .3
+
+returns : tie.Need-returns Inv-loop μ-loop
+returns c =
+    let l = c .before in
+    adds-as (ap (become (fates l)) (take-all (l .loop .i) (cubes l) (omega arith))) (l .loop .inv .2)
+
+pub write-node-spec : {M : Type 1} → statement M
+write-node-spec =
+    tie.close
+    (tie.spec
+    Inv-loop
+    μ-loop
+    number-requires
+    loop-holds
+    cube-at-requires
+    remake-requires
+    add-i
+    enum-known-t
+    enum-told
+    loop-less
+    loop-again
+    put-cube-requires
+    add-to
+    loop-less-2
+    loop-again-2
+    same-length
+    returns)

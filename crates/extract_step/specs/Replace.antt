@@ -1,0 +1,40 @@
+-- What a step answers.
+use mathlib.Core.Path.{_≡_}
+use mathlib.Core.Bool.{cond, _&&_}
+use mathlib.Core.Option.{Option, none, some}
+use lib.Dec.{ltb}
+use Rattle.network.specs.Net.{Net, variables, literalCount}
+use Rattle.network.specs.Held.{netOf, mostLiterals}
+use Rattle.network.specs.Handed.{Holds, Blank}
+use Rattle.network.specs.declared.Network.{Network}
+use Rattle.extract_laws.specs.Extract.{step}
+use Rattle.extract_laws.specs.Run.{Move, finished, stuck, take, roomFor, done, asked, numbers, rows}
+use Rattle.extract_tidy.specs.Tidy.{arranged}
+use Rattle.extract_divisor.specs.Divisor.{divisorOf}
+use Rattle.extract_divisor.specs.declared.Divisor.{Divisor}
+use Rattle.extract_fit.specs.Fitness.{fitting}
+use Rattle.extract_step.specs.declared.Outcome.the-variants.{Made, Numbers, Rows, Unfit}
+use Rattle.extract_step.specs.declared.Next.{Next}
+
+-- no step is made that passes the most literals
+abbrev pub allowed : Net → Move → Option Move
+allowed n (take d) = cond (ltb mostLiterals (literalCount (step n d))) none (some (take d))
+allowed n (stuck r) = some (stuck r)
+allowed n finished = some finished
+
+-- whether the network has a number and rows for the step, where network and divisor are fit for one
+unfoldable pub outcome : Network → Divisor → Option Move
+outcome n d = cond (arranged n && fitting (variables (netOf n)) (divisorOf d)) (allowed (netOf n) (roomFor (netOf n) (divisorOf d))) none
+
+-- a divisor is taken, or there is no number or no room for its rows; a step never ends a run otherwise
+abbrev pub Moved : Network → Move → Next → Type 0
+Moved n (take e) r = (r .outcome ≡ Made) × Holds (r .network) (step (netOf n) e)
+Moved n (stuck numbers) r = (r .outcome ≡ Numbers) × Blank (r .network)
+Moved n (stuck rows) r = (r .outcome ≡ Rows) × Blank (r .network)
+Moved n (stuck done) r = ⊥
+Moved n (stuck asked) r = ⊥
+Moved n finished r = ⊥
+
+abbrev pub Stepped : Network → Option Move → Next → Type 0
+Stepped n (some m) r = Moved n m r
+Stepped n none r = (r .outcome ≡ Unfit) × Blank (r .network)

@@ -1,0 +1,48 @@
+-- Which test decides that a network is arranged. Assumes nothing.
+use Prim.Native.Nat.{ℕ, _+_, _-_, _<_}
+use mathlib.Core.Path.{_≡_, sym, ap₂, _∙_}
+use mathlib.Core.Bool.{Bool, true, _&&_}
+use mathlib.Core.List.{List, []}
+use native.Mathlib.Omega.{arith}
+use lib.ListN.{length, getD, take, drop}
+use Rattle.sets.specs.Lists.{all, total}
+use Rattle.sets.proofs.Truth.{both}
+use Rattle.sets.proofs.Lists.{_∈_, all-in}
+use Rattle.expression.specs.Words.{cubesOf}
+use Rattle.expression.specs.Expression.{ordered}
+use Rattle.network.specs.Net.{nodes}
+use Rattle.network.specs.Held.{netOf, sized, lawful, rules}
+use Rattle.network.specs.Parts.{nodesOf, Sized}
+use Rattle.network.specs.declared.Network.{Network}
+use Rattle.network.proofs.Holding.{nodes-held}
+use Rattle.network_nodes.proofs.Cutting.{cut-node}
+use Rattle.network.proofs.Parts.{nodes-at}
+use Rattle.network.proofs.Limits.{sized-out}
+use Rattle.extract_tidy.specs.Tidy.{arranged}
+
+-- the cubes of node i are those after the nodes before it
+pub node-is : (counts words : List ℕ) (e i at : ℕ) → i < e → at ≡ total (λ c. c) (take i counts)
+    → getD (nodesOf e counts words) i [] ≡ take (at + getD counts i 0 - at) (drop at (cubesOf words))
+node-is counts words e i at h q =
+    let k : at + getD counts i 0 - at ≡ getD counts i 0 = omega arith in
+    nodes-at counts words e i h ∙ cut-node counts (cubesOf words) i ∙ ap₂ (λ (a b : ℕ). take a (drop b (cubesOf words))) (sym k) (sym q)
+
+module _ (n : Network) where
+  -- the limits, and then the order
+  pub arranged-as : (b : Bool) → sized n ≡ b → (b && all ordered (nodesOf (n .outputs + n .divisors) (n .counts) (n .words))) ≡ arranged n
+  unfolding arranged
+  arranged-as b e = ap₂ (λ (s : Bool) (fs : List (List (List ℕ))). s && all ordered fs) (sym e) (sym (nodes-held n))
+
+  -- a network by the rules whose nodes stand in cube order is arranged
+  pub arranged-in : rules n ≡ true → ((f : List (List ℕ)) → f ∈ nodes (netOf n) → ordered f ≡ true) → arranged n ≡ true
+  unfolding arranged rules
+  arranged-in h k = rw ((both (sized n) (lawful (netOf n)) h) .0) (all-in ordered (nodes (netOf n)) k)
+
+  module _ (h : arranged n ≡ true) where
+    -- and an arranged network is within the limits, with its nodes in cube order
+    pub arranged-parts : (sized n ≡ true) × (all ordered (nodes (netOf n)) ≡ true)
+    unfolding arranged
+    arranged-parts = both _ _ h
+
+    pub arranged-sized : length (n .counts) ≡ 96 → length (n .words) ≡ 2176 → Sized (n .inputs) (n .outputs) (n .divisors) (n .words) (n .counts)
+    arranged-sized slots places = sized-out n slots places (arranged-parts .0)

@@ -1,0 +1,55 @@
+-- `extract_tidy::is_arranged` meets its contract: the limits, and then the order of each node. Assumes nothing.
+use mathlib.Core.Path.{_≡_, sym, _∙_}
+use mathlib.Core.Bool.{true, false}
+use native.Mathlib.Omega.{arith}
+use borrow.Author.Tests.{not-true, not-false}
+use Rattle.network.specs.Held.{sized}
+use Rattle.network.specs.Parts.{Sized}
+use Rattle.network.proofs.Limits.{sized-out}
+use Rattle.extract_tidy.proofs.Arranged.{arranged-as}
+use Rattle.extract_tidy.proofs.Sorted.{sized-sortable}
+use borrow.Author.Needs.{needs}
+use Rattle.extract_tidy.proofs.is_arranged.Statement.{statement}
+use Rattle.extract_tidy.proofs.is_arranged.Tie as tie
+
+-- the limits are kept
+limits : (c : tie.Else1) → sized (c .before .before .args .n) ≡ true
+limits c = sym (c .before .is-sized .ensures) ∙ not-false _ (c .if1 .left)
+
+small : (c : tie.Else1) → let n = c .before .before .args .n in Sized (n .inputs) (n .outputs) (n .divisors) (n .words) (n .counts)
+small c = sized-out (c .before .before .args .n) (search needs) (search needs) (limits c)
+
+is-sized-requires : tie.Need-is-sized-requires
+is-sized-requires c κs = search needs
+
+returns : tie.Need-returns
+returns c = arranged-as (c .before .before .args .n) false (sym (c .before .is-sized .ensures) ∙ not-true _ (c .if1 .taken))
+
+slice-aggregate-all-ordered : tie.Need-slice-aggregate-all-ordered
+slice-aggregate-all-ordered c = search needs
+
+slice-aggregate-all-ordered-2 : tie.Need-slice-aggregate-all-ordered-2
+slice-aggregate-all-ordered-2 c = search needs
+
+add-all-ordered : tie.Need-add-all-ordered
+add-all-ordered c = let z = small (c .before .before .before .before .before) in omega (arith, z .narrow, z .variables)
+
+all-ordered-requires : tie.Need-all-ordered-requires
+all-ordered-requires c κs = sized-sortable (small (c .before .before .before .before .before)) (search needs)
+
+returns-2 : tie.Need-returns-2
+returns-2 c =
+    let e = c .before .before .before .before .before .before in
+    c .all-ordered .ensures ∙ arranged-as (e .before .before .args .n) true (limits e)
+
+pub is-arranged-spec : {M : Type 1} → statement M
+is-arranged-spec =
+    tie.close
+    (tie.spec
+    is-sized-requires
+    returns
+    slice-aggregate-all-ordered
+    slice-aggregate-all-ordered-2
+    add-all-ordered
+    all-ordered-requires
+    returns-2)

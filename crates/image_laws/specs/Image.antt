@@ -1,0 +1,36 @@
+-- The image of a network: its fields, and the bytes.
+use Prim.Native.Nat.{ℕ, _-_}
+use mathlib.Core.List.{List, [], _∷_, _++_, map}
+use lib.ListN.{length}
+use Rattle.image_fields.specs.Fields.{Field, fieldBits, bytesOf}
+use Rattle.network.specs.Net.{Node, Net}
+use Rattle.network.specs.Handed.{flat}
+use Rattle.image_laws.specs.Renumber.{renumbered}
+
+abbrev pub field : ℕ → ℕ → Field
+field w v = record { width = w; value = v }
+
+-- literal count 7, literals 7 each
+unfoldable pub cubeFields : List ℕ → List Field
+cubeFields c = field 7 (length c) ∷ map (field 7) c
+
+-- cube count 11, each cube
+unfoldable pub nodeFields : List (List ℕ) → List Field
+nodeFields f = field 11 (length f) ∷ flat (map cubeFields f)
+
+-- edition 4 bits (1), n-1 5, m-1 5, k 6
+unfoldable pub headFields : ℕ → ℕ → ℕ → List Field
+headFields n m k = field 4 1 ∷ field 5 (n - 1) ∷ field 5 (m - 1) ∷ field 6 k ∷ []
+
+-- then each divisor, then each output
+unfoldable pub netFields : Net → List Field
+netFields n = headFields (n .inputs) (length (n .outputs)) (length (n .divisors))
+    ++ (flat (map (λ (e : Node). nodeFields (e .cubes)) (n .divisors)) ++ flat (map nodeFields (n .outputs)))
+
+-- the bytes of a network, as its divisors and cubes stand
+unfoldable pub netBytes : Net → List ℕ
+netBytes n = bytesOf (fieldBits (netFields n))
+
+-- the image: divisors renumbered in the order of the listing
+unfoldable pub imageOf : Net → List ℕ
+imageOf n = netBytes (renumbered n)

@@ -1,0 +1,70 @@
+-- The new numbers in their places: each variable at its own first, then the divisors one after the other. Assumes nothing.
+use Prim.Native.Nat.{ℕ, zero, suc, _+_, _<_, _≤_}
+use mathlib.Core.Path.{_≡_, refl, sym, _∙_}
+use mathlib.Core.Logic.{_⊎_, inl, inr}
+use mathlib.Core.List.{List}
+use native.Mathlib.Omega.{arith}
+use lib.Dec.{eqb}
+use lib.ListN.{length, getD, set, replicate, length-set, length-replicate}
+use lib.Seq.{getD-set-same, getD-set-other}
+use borrow.Author.Tests.{eqb-true, eqb-false}
+use Rattle.sets.proofs.Truth.{decided}
+use Rattle.image_number.specs.Parts.{Wide, Itself, Numbers, Placing}
+
+-- a store, read
+stored : (ps : List ℕ) (v x u : ℕ) → v < length ps → ((u ≡ v) × (getD (set ps v x) u 0 ≡ x)) ⊎ ((u ≡ v → ⊥) × (getD (set ps v x) u 0 ≡ getD ps u 0))
+stored ps v x u h = elim (decided (eqb u v)) [
+  | inl t ↦ let e : u ≡ v = eqb-true u v t in inl (e, rw e (getD-set-same ps v x 0 h))
+  | inr t ↦ inr (eqb-false u v t, getD-set-other ps v u x 0 (eqb-false u v t))
+]
+
+zero-at : (n v : ℕ) → getD {A = ℕ} (replicate n 0) v 0 ≡ 0
+zero-at zero v = refl
+zero-at (suc n) zero = refl
+zero-at (suc n) (suc v) = zero-at n v
+
+module _ (ps : List ℕ) (w : Wide ps) (v x : ℕ) (h : v < 64) (s : x < 64) where
+  pub wide-set : Wide (set ps v x)
+  wide-set = record {
+    whole = length-set ps v x ∙ w .whole;
+    small = λ u. elim (stored ps v x u (omega (arith, w .whole))) [ inl (e, k) ↦ omega arith | inr (e, k) ↦ omega (arith, w .small u) ];
+  }
+
+pub wide-zeros : Wide (replicate 64 0)
+wide-zeros = record { whole = length-replicate {A = ℕ} 64 0; small = λ v. omega (arith, zero-at 64 v) }
+
+-- ---- each at its own
+
+pub itself-none : Itself 0 (replicate 64 0)
+itself-none = record { wide = wide-zeros; each = λ v h. absurd (omega arith) }
+
+pub itself-next : (e : ℕ) (ps : List ℕ) → e < 64 → Itself e ps → Itself (e + 1) (set ps e e)
+itself-next e ps h i = record {
+  wide = wide-set ps (i .wide) e e h h;
+  each = λ v k. elim (stored ps e e v (omega (arith, i .wide .whole))) [ inl (p, q) ↦ q ∙ sym p | inr (p, q) ↦ q ∙ i .each v (go v k p) ];
+}
+  where
+    go : (v : ℕ) → v < e + 1 → (v ≡ e → ⊥) → v < e
+    go v k p = elim (decided (eqb v e)) [ inl t ↦ absurd (p (eqb-true v e t)) | inr t ↦ let f = eqb-false v e t in omega arith ]
+
+-- ---- then the divisors
+
+pub placing-none : (n : ℕ) (order ps : List ℕ) → n ≤ 64 → Itself 64 ps → Placing n 0 order ps
+placing-none n order ps h i = record { wide = i .wide; inputs = λ v k. i .each v (omega arith); divisors = λ j k. absurd (omega arith) }
+
+pub placing-next : (n k : ℕ) (order ps : List ℕ) (i : ℕ) → Numbers n k order → i < k → Placing n i order ps → Placing n (i + 1) order (set ps (getD order i 0) (n + i))
+placing-next n k order ps i z h p =
+    let v = getD order i 0 in
+    let r = z .range i h in
+    let inside : v < length ps = omega (arith, r .1, p .wide .whole) in
+    record {
+      wide = wide-set ps (p .wide) v (n + i) (r .1) (omega (arith, z .variables));
+      inputs = λ u b. elim (stored ps v (n + i) u inside) [ inl (e, q) ↦ absurd (omega (arith, r .0)) | inr (e, q) ↦ q ∙ p .inputs u b ];
+      divisors = λ j b. elim (decided (eqb j i)) [
+        | inl t ↦ let e : j ≡ i = eqb-true j i t in rw e (getD-set-same ps v (n + i) 0 inside)
+        | inr t ↦
+            let f = eqb-false j i t in
+            let l : j < i = omega arith in
+            getD-set-other ps v (getD order j 0) (n + i) 0 (λ e. z .apart j i l h e) ∙ p .divisors j l
+      ];
+    }

@@ -1,0 +1,54 @@
+-- `image_number::own` meets its contract. The loop's invariant: each variable passed is at its own number. Assumes nothing.
+use borrow.Author.Needs.{needs}
+use Prim.Native.Nat.{_-_, _≤_}
+use mathlib.Core.Path.{_≡_, subst}
+use native.Mathlib.Omega.{arith}
+use Rattle.image_number.specs.Parts.{Itself}
+use Rattle.image_number.proofs.Placing.{itself-none, itself-next}
+use Rattle.image_number.proofs.own.Statement.{statement}
+use Rattle.image_number.proofs.own.Tie as tie
+
+abbrev Inv-loop : tie.InvT-loop
+Inv-loop places₀ v₀ places v = (v ≤ 64) × Itself v places
+
+abbrev μ-loop : tie.MeasureT-loop
+μ-loop places₀ v₀ places v = 64 - v
+
+loop-holds : tie.Need-loop-holds Inv-loop μ-loop
+loop-holds c = (omega arith, itself-none)
+
+cast-places : tie.Need-cast-places Inv-loop μ-loop
+cast-places c = search needs
+
+mul-places : tie.Need-mul-places Inv-loop μ-loop
+mul-places c = search needs
+
+array-write-places : tie.Need-array-write-places Inv-loop μ-loop
+array-write-places c = search needs
+
+add-v : tie.Need-add-v Inv-loop μ-loop
+add-v c = search needs
+
+loop-less : tie.Need-loop-less Inv-loop μ-loop
+loop-less c = search needs
+
+loop-again : tie.Need-loop-again Inv-loop μ-loop
+loop-again c = (omega arith, itself-next _ _ (omega arith) (c .before .loop .inv .1))
+
+returns : tie.Need-returns Inv-loop μ-loop
+returns c = let e : c .before .loop .v ≡ 64 = omega arith in subst (λ v. Itself v (c .before .loop .places)) e (c .before .loop .inv .1)
+
+pub own-spec : {M : Type 1} → statement M
+own-spec =
+    tie.close
+    (tie.spec
+    Inv-loop
+    μ-loop
+    loop-holds
+    cast-places
+    mul-places
+    array-write-places
+    add-v
+    loop-less
+    loop-again
+    returns)

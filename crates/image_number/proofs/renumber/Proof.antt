@@ -1,0 +1,66 @@
+-- `image_number::renumber` meets its contract: a network by the rules is built anew along its listing. Assumes nothing.
+use mathlib.Core.Path.{_≡_, sym, _∙_}
+use mathlib.Core.Bool.{true}
+use borrow.Author.Needs.{needs}
+use Rattle.network.specs.Held.{rules}
+use Rattle.network.proofs.Ruling.{accepted-rules}
+use Rattle.image_number.proofs.Telling.{told-refused, rules-order, told-held}
+use Rattle.image_number.proofs.renumber.Statement.{statement}
+use Rattle.image_number.proofs.renumber.Tie as tie
+
+judge-requires : tie.Need-judge-requires
+judge-requires c κs = search needs
+
+enum-told : tie.Need-enum-told
+enum-told c = search needs
+
+enum-told-2 : tie.Need-enum-told-2
+enum-told-2 c = search needs
+
+refused-requires : tie.Need-refused-requires
+refused-requires c κs = search needs
+
+returns : tie.Need-returns
+returns c = let j = c .before .before .before in told-refused _ _ _ (sym (j .judge .ensures) ∙ c .before .enum-told2 .given .1) (c .refused .ensures .0 ∙ j .judge .ensures, c .refused .ensures .1)
+
+listing-requires : tie.Need-listing-requires
+listing-requires c κs = search needs
+
+slice-aggregate-build : tie.Need-slice-aggregate-build
+slice-aggregate-build c = search needs
+
+slice-aggregate-build-2 : tie.Need-slice-aggregate-build-2
+slice-aggregate-build-2 c = search needs
+
+slice-aggregate-build-3 : tie.Need-slice-aggregate-build-3
+slice-aggregate-build-3 c = search needs
+
+-- the network is by the rules
+lawful : (c : tie.After-enum-told) → rules (c .before .before .before .args .n) ≡ true
+lawful c = accepted-rules _ (sym (c .before .before .judge .ensures) ∙ c .enum-told .given .1)
+
+build-requires : tie.Need-build-requires
+build-requires c κs =
+    let l = c .before .before .before .before .before .before in
+    record { lawful = lawful (l .before); slots = search needs; whole = search needs; listed = rules-order _ (lawful (l .before)) _ (l .listing .ensures) }
+
+returns-2 : tie.Need-returns-2
+returns-2 c =
+    let a = c .before .before .before .before .before .before .before .before in
+    told-held _ (lawful a) _ (a .enum-told .given .1) (c .build .ensures)
+
+pub renumber-spec : {M : Type 1} → statement M
+renumber-spec =
+    tie.close
+    (tie.spec
+    judge-requires
+    enum-told
+    enum-told-2
+    refused-requires
+    returns
+    listing-requires
+    slice-aggregate-build
+    slice-aggregate-build-2
+    slice-aggregate-build-3
+    build-requires
+    returns-2)

@@ -1,0 +1,195 @@
+-- Cubes and nodes are read and put one after the other. Assumes nothing.
+use Prim.Native.Nat.{ℕ, suc, _+_, _-_, _*_, _<_, _≤_}
+use mathlib.Core.Path.{_≡_, refl, sym, ap, ap₂, subst, _∙_}
+use mathlib.Core.Bool.{Bool, _&&_}
+use mathlib.Core.List.{List, [], _∷_, _++_, map, map-append}
+use native.Mathlib.Omega.{arith}
+use native.Mathlib.Numerals.{add-one}
+use lib.Dec.{leb}
+use lib.ListN.{length, getD, take, drop, set, length-append, length-map}
+use lib.Seq.{sets, take-suc, length-take-le}
+use borrow.Author.Tests.{le-leb, lt-leb}
+use Rattle.sets.specs.Lists.{all}
+use Rattle.sets.specs.Sets.{asc, proper}
+use Rattle.sets.proofs.Lists.{total-append}
+use Rattle.network.proofs.Places.{all-append}
+use Rattle.cube.specs.Cube.{lits}
+use Rattle.expression.specs.Words.{cubesOf, Put}
+use Rattle.network.specs.Handed.{flat}
+use Rattle.network.proofs.Handing.{flat-last}
+use Rattle.network.specs.Held.{mostCubes}
+use Rattle.image_laws.specs.Reading.{Got, bad, getMany, getCube, getNode}
+use Rattle.image_read.specs.Parts.{FieldIs, setOf, CubeGot, added, Near, Added, CubesGot, CubesAre, NodesGot}
+use Rattle.image_read.specs.declared.Field.the-variants.{Is, Cut}
+use Rattle.image_read.specs.declared.Taken.{Taken}
+use Rattle.image_read.specs.declared.State.{State}
+use Rattle.image_read.specs.declared.Step.{Step}
+use Rattle.image_read.specs.declared.Step.the-variants.{On, Bad}
+use Rattle.image_read.proofs.Fielding.{field-cut, field-bad, field-got}
+use Rattle.image_read.proofs.Flags.{and-true, and-assoc}
+use Rattle.image_read.proofs.Going.{Going, going-none, going-bad, going-next, going-end}
+
+-- ---- what was put
+
+sets-append : {A : Type 0} (l : List A) (i : ℕ) (a b : List A) → sets l i (a ++ b) ≡ sets (sets l i a) (i + length a) b
+sets-append l i [] b = let e : i ≡ i + 0 = omega arith in ap (λ n. sets l n b) e
+sets-append l i (x ∷ a) b =
+    let e : suc i + length a ≡ i + suc (length a) = omega arith in
+    sets-append (set l i x) (suc i) a b ∙ ap (λ n. sets (sets (set l i x) (suc i) a) n b) e
+
+pub added-none : (s : State) (ws : List ℕ) → Added s s ws ws []
+added-none s ws = record { stored = refl; cubes = omega arith; literals = omega arith; ascending = sym (and-true (s .ascending)); proper = refl }
+
+pub added-then : {s t u : State} {a b c : List ℕ} {f g : List (List ℕ)} → Added s t a b f → Added t u b c g → Added s u a c (f ++ g)
+added-then {s} {t} {u} {a} {b} {c} {f} {g} p q = record {
+  stored =
+      let e : t .cubes ≡ s .cubes + length (map setOf f) = omega (arith, p .cubes, length-map f setOf) in
+      q .stored ∙ ap₂ (λ l n. sets l n (map setOf g)) (p .stored) e
+      ∙ sym (sets-append (cubesOf a) (s .cubes) (map setOf f) (map setOf g)) ∙ ap (sets (cubesOf a) (s .cubes)) (sym (map-append setOf f g));
+  cubes = omega (arith, p .cubes, q .cubes, length-append f g);
+  literals = omega (arith, p .literals, q .literals, total-append length f g);
+  ascending = q .ascending ∙ ap (_&& all asc g) (p .ascending) ∙ and-assoc (s .ascending) (all asc f) (all asc g) ∙ ap (s .ascending &&_) (sym (all-append asc f g));
+  proper = all-append proper f g ∙ ap₂ _&&_ (p .proper) (q .proper);
+}
+
+added-one : {most : ℕ} {bits : List Bool} {start : ℕ} {g : Got (List ℕ)} {c : Taken} (h : CubeGot most bits start g c) (s : State) (old new : List ℕ)
+    → Put old new (s .cubes) (lits (c .cube)) → Added s (added s c) old new (h .read ∷ [])
+added-one h s old new p = record {
+  stored = p .cubes ∙ ap (set (cubesOf old) (s .cubes)) (h .cube);
+  cubes = omega arith;
+  literals = omega (arith, h .literals);
+  ascending = ap (s .ascending &&_) (h .ascending ∙ sym (and-true (asc (h .read))));
+  proper = and-true (proper (h .read)) ∙ h .proper;
+}
+
+-- one cube more of a copy
+pub copy-next : (f old new new' : List (List ℕ)) (place i : ℕ) (c : List ℕ) → i < length f → new ≡ sets old place (take i f) → new' ≡ set new (place + i) c → c ≡ getD f i []
+    → new' ≡ sets old place (take (i + 1) f)
+copy-next f old new new' place i c h e p q =
+    let a : place + i ≡ place + length (take i f) = omega (arith, length-take-le i f (omega arith)) in
+    p ∙ ap₂ (λ n x. set new n x) a q ∙ ap (λ l. set l (place + length (take i f)) (getD f i [])) e
+    ∙ sym (sets-append old place (take i f) (getD f i [] ∷ []))
+    ∙ ap (sets old place) (sym (ap (λ n. take n f) (add-one i) ∙ take-suc f i [] h))
+
+near-same : (s : State) → Near 0 s s
+near-same s = record { at = omega arith; cubes = omega arith; literals = omega arith }
+
+-- ---- cubes
+
+-- i of k cubes are read and put
+pub record Filling (bits : List Bool) (v k i : ℕ) (start : State) (old new : List ℕ) (s : State) : Type 0 where
+  pub read : List (List ℕ)
+  pub going : Going (getCube v) k i (drop (start .at) bits) (drop (s .at) bits) read
+  pub put : Added start s old new read
+  pub near : Near (512 * i) start s
+
+pub fill-none : (bits : List Bool) (v k : ℕ) (start : State) (ws : List ℕ) → Filling bits v k 0 start ws ws start
+fill-none bits v k start ws = record {
+  read = [];
+  going = going-none (getCube v) k (drop (start .at) bits);
+  put = added-none start ws;
+  near = near-same start;
+}
+
+module _ {bits : List Bool} {v k i : ℕ} {start : State} {old new : List ℕ} {s : State} (h : Filling bits v k i start old new s) where
+  pub fill-bad : i < k → (e : ℕ) → getCube v (drop (s .at) bits) ≡ bad e → getMany (getCube v) k (drop (start .at) bits) ≡ bad e
+  fill-bad more e q = going-bad (getCube v) k (h .going) more e q
+
+  pub fill-next : i < k → (c : Taken) → CubeGot 512 bits (s .at) (getCube v (drop (s .at) bits)) c → (new' : List ℕ) → Put new new' (s .cubes) (lits (c .cube))
+      → (t : State) → t ≡ added s c → Filling bits v k (i + 1) start old new' t
+  fill-next more c q new' p t e = subst (Filling bits v k (i + 1) start old new') (sym e) (record {
+    read = h .read ++ (q .read ∷ []);
+    going = going-next (getCube v) k (h .going) more (q .read) (drop (c .at) bits) (q .is);
+    put = added-then (h .put) (added-one q s new new' p);
+    near = record {
+      at = omega (arith, h .near .at, q .near);
+      cubes = omega (arith, h .near .cubes);
+      literals = omega (arith, h .near .literals, q .literals, q .few);
+    };
+  })
+
+  pub fill-end : k ≤ i → i ≤ 1088 → CubesGot 600000 bits start (getMany (getCube v) k (drop (start .at) bits)) old new s
+  fill-end done few = record {
+    read = h .read;
+    is = going-end (getCube v) k (h .going) done;
+    put = h .put;
+    near = record { at = omega (arith, h .near .at); cubes = omega (arith, h .near .cubes); literals = omega (arith, h .near .literals) };
+  }
+
+-- ---- a node
+
+-- after the cube count
+abbrev past : State → State
+past s = record { at = s .at + 11; cubes = s .cubes; literals = s .literals; ascending = s .ascending }
+
+module _ (bits : List Bool) (v : ℕ) (s : State) where
+  pub node-cut : FieldIs 11 (drop (s .at) bits) Cut → getNode v (drop (s .at) bits) ≡ bad 11
+  unfolding getNode
+  node-cut h = rw (field-cut 11 (λ c. leb c mostCubes) (drop (s .at) bits) h)
+
+  module _ (k : ℕ) (h : FieldIs 11 (drop (s .at) bits) (Is k)) where
+    pub node-bad : mostCubes < k → getNode v (drop (s .at) bits) ≡ bad 12
+    unfolding getNode
+    node-bad m = rw (field-bad 11 (λ c. leb c mostCubes) (drop (s .at) bits) k h (lt-leb k mostCubes m))
+
+    node-on : k ≤ mostCubes → getNode v (drop (s .at) bits) ≡ getMany (getCube v) k (drop (s .at + 11) bits)
+    unfolding getNode
+    node-on m = rw (field-got 11 (λ c. leb c mostCubes) bits (s .at) k h (le-leb k mostCubes m))
+
+    -- the cubes after the count
+    pub node-are : k ≤ mostCubes → (old new : List ℕ) (r : Step)
+        → CubesAre 600000 bits (past s) (getMany (getCube v) k (drop (s .at + 11) bits)) old new r → CubesAre 1048576 bits s (getNode v (drop (s .at) bits)) old new r
+    node-are m old new (Bad e) q = node-on m ∙ q
+    node-are m old new (On t) c = record {
+      read = c .read;
+      is = node-on m ∙ c .is;
+      put = record { stored = c .put .stored; cubes = c .put .cubes; literals = c .put .literals; ascending = c .put .ascending; proper = c .put .proper };
+      near = record { at = omega (arith, c .near .at); cubes = omega (arith, c .near .cubes); literals = omega (arith, c .near .literals) };
+    }
+
+-- ---- nodes
+
+-- i of k nodes are read and put, their counts too
+pub record Counting (bits : List Bool) (v k i : ℕ) (start : State) (old new : List ℕ) (first : ℕ) (was are : List ℕ) (s : State) : Type 0 where
+  pub read : List (List (List ℕ))
+  pub going : Going (getNode v) k i (drop (start .at) bits) (drop (s .at) bits) read
+  pub put : Added start s old new (flat read)
+  pub counts : are ≡ sets was first (map length read)
+  pub near : Near (1048576 * i) start s
+
+pub count-none : (bits : List Bool) (v k : ℕ) (start : State) (ws : List ℕ) (first : ℕ) (cs : List ℕ) → Counting bits v k 0 start ws ws first cs cs start
+count-none bits v k start ws first cs = record {
+  read = [];
+  going = going-none (getNode v) k (drop (start .at) bits);
+  put = added-none start ws;
+  counts = refl;
+  near = near-same start;
+}
+
+module _ {bits : List Bool} {v k i : ℕ} {start : State} {old new : List ℕ} {first : ℕ} {was are : List ℕ} {s : State} (h : Counting bits v k i start old new first was are s) where
+  pub count-bad : i < k → (e : ℕ) → getNode v (drop (s .at) bits) ≡ bad e → getMany (getNode v) k (drop (start .at) bits) ≡ bad e
+  count-bad more e q = going-bad (getNode v) k (h .going) more e q
+
+  pub count-next : i < k → (new' : List ℕ) (t : State) → CubesGot 1048576 bits s (getNode v (drop (s .at) bits)) new new' t
+      → Counting bits v k (i + 1) start old new' first was (set are (first + i) (t .cubes - s .cubes)) t
+  count-next more new' t c = record {
+    read = h .read ++ (c .read ∷ []);
+    going = going-next (getNode v) k (h .going) more (c .read) (drop (t .at) bits) (c .is);
+    put = subst (Added start t old new') (sym (flat-last (h .read) (c .read))) (added-then (h .put) (c .put));
+    counts =
+        let a : first + i ≡ first + length (map length (h .read)) = omega (arith, length-map (h .read) length, h .going .number) in
+        let b : t .cubes - s .cubes ≡ length (c .read) = omega (arith, c .put .cubes) in
+        ap₂ (λ n x. set are n x) a b ∙ ap (λ l. set l (first + length (map length (h .read))) (length (c .read))) (h .counts)
+        ∙ sym (sets-append was first (map length (h .read)) (length (c .read) ∷ [])) ∙ ap (sets was first) (sym (map-append length (h .read) (c .read ∷ [])));
+    near = record { at = omega (arith, h .near .at, c .near .at); cubes = omega (arith, h .near .cubes, c .near .cubes); literals = omega (arith, h .near .literals, c .near .literals) };
+  }
+
+  pub count-end : i ≡ k → i ≤ 96 → NodesGot k bits start (getMany (getNode v) k (drop (start .at) bits)) old new first was are s
+  count-end done few = record {
+    read = h .read;
+    number = omega (arith, h .going .number);
+    is = going-end (getNode v) k (h .going) (omega arith);
+    put = h .put;
+    counts = h .counts;
+    near = record { at = omega (arith, h .near .at); cubes = omega (arith, h .near .cubes); literals = omega (arith, h .near .literals) };
+  }

@@ -1,0 +1,111 @@
+-- The fields before the first node. Assumes nothing.
+use Prim.Native.Nat.{ℕ, suc, _+_, _*_, _^_, _<_, _≤_}
+use mathlib.Core.Path.{_≡_, refl, sym, ap, subst, _∙_}
+use mathlib.Core.Bool.{Bool, true, false}
+use mathlib.Core.List.{List}
+use mathlib.Core.Logic.{⊎-elim}
+use native.Mathlib.Omega.{arith}
+use native.Mathlib.Numerals.{add-one}
+use lib.Dec.{leb, eqb}
+use lib.ListN.{length, take, drop}
+use borrow.Author.Tests.{ne-eqb, eq-eqb, leb-true, leb-false}
+use Rattle.sets.proofs.Truth.{decided}
+use Rattle.image_fields.specs.Fields.{valueOf, bitsIn}
+use Rattle.image_fields.proofs.Bytes.{left-length}
+use Rattle.network.specs.Held.{mostVariables}
+use Rattle.image_laws.specs.Reading.{Got, bad, Raw, andThen, getField, getNodes, getRaw}
+use Rattle.image_read.specs.Parts.{FieldIs, sizesOf, HeadIs}
+use Rattle.image_read.specs.declared.Field.the-variants.{Is, Cut}
+use Rattle.image_read.specs.declared.Head.{Head}
+use Rattle.image_read.proofs.Bits.{value-below}
+use Rattle.image_read.proofs.Fielding.{field-cut, field-bad, field-got}
+
+-- a field of w bits holds a number below the power
+pub field-below : (w v : ℕ) (l : List Bool) → FieldIs w l (Is v) → v < 2 ^ w
+field-below w v l h = subst (λ n. n < 2 ^ w) (sym (h .1)) (value-below w l)
+
+-- what follows the edition, the inputs, the outputs
+abbrev afterOutputs : ℕ → ℕ → List Bool → Got Raw
+afterOutputs a b l = andThen (getField 6 (λ k. leb (suc a + k) mostVariables) l) (λ k r. getNodes (suc a) (suc b) k r)
+
+abbrev afterInputs : ℕ → List Bool → Got Raw
+afterInputs a l = andThen (getField 5 (λ x. true) l) (λ b r. afterOutputs a b r)
+
+abbrev afterEdition : List Bool → Got Raw
+afterEdition l = andThen (getField 5 (λ x. true) l) (λ a r. afterInputs a r)
+
+module _ (bits : List Bool) where
+  pub edition-cut : FieldIs 4 bits Cut → getRaw bits ≡ bad 11
+  unfolding getRaw
+  edition-cut h = rw (field-cut 4 (eqb 1) bits h)
+
+  module _ (e : ℕ) (h : FieldIs 4 bits (Is e)) where
+    pub edition-bad : (e ≡ 1 → ⊥) → getRaw bits ≡ bad 12
+    unfolding getRaw
+    edition-bad d = rw (field-bad 4 (eqb 1) bits e h (ne-eqb 1 e (λ q. d (sym q))))
+
+    module _ (one : e ≡ 1) where
+      edition-on : getRaw bits ≡ afterEdition (drop 4 bits)
+      unfolding getRaw
+      edition-on = rw (field-got 4 (eqb 1) bits 0 e h (eq-eqb 1 e (sym one)))
+
+      inputs-cut : FieldIs 5 (drop 4 bits) Cut → getRaw bits ≡ bad 11
+      inputs-cut q = edition-on ∙ rw (field-cut 5 (λ x. true) (drop 4 bits) q) refl
+
+      module _ (a : ℕ) (ha : FieldIs 5 (drop 4 bits) (Is a)) where
+        inputs-on : getRaw bits ≡ afterInputs a (drop 9 bits)
+        inputs-on = edition-on ∙ rw (field-got 5 (λ x. true) bits 4 a ha refl) refl
+
+        module _ (b : ℕ) (hb : FieldIs 5 (drop 9 bits) (Is b)) where
+          outputs-on : getRaw bits ≡ afterOutputs a b (drop 14 bits)
+          outputs-on = inputs-on ∙ rw (field-got 5 (λ x. true) bits 9 b hb refl) refl
+
+          abbrev test : ℕ → Bool
+          test k = leb (suc a + k) mostVariables
+
+          divisors-cut : FieldIs 6 (drop 14 bits) Cut → getRaw bits ≡ bad 11
+          divisors-cut q = outputs-on ∙ rw (field-cut 6 test (drop 14 bits) q) refl
+
+          module _ (k : ℕ) (hk : FieldIs 6 (drop 14 bits) (Is k)) where
+            sizes-on : test k ≡ true → getRaw bits ≡ getNodes (suc a) (suc b) k (drop 20 bits)
+            sizes-on q = outputs-on ∙ rw (field-got 6 test bits 14 k hk q) refl
+
+            sizes-off : test k ≡ false → getRaw bits ≡ bad 12
+            sizes-off q = outputs-on ∙ rw (field-bad 6 test (drop 14 bits) k hk q) refl
+
+            -- all fields are there
+            pub sizes-are : (r : Head) → r ≡ sizesOf a b k → HeadIs bits r
+            sizes-are r e' = subst (HeadIs bits) (sym e') (⊎-elim few many (decided (leb (a + 1 + k) mostVariables)))
+              where
+                same : leb (a + 1 + k) mostVariables ≡ test k
+                same = ap (λ n. leb (n + k) mostVariables) (add-one a)
+
+                few : leb (a + 1 + k) mostVariables ≡ true → HeadIs bits (sizesOf a b k)
+                few q = rw q (record {
+                  is = sizes-on (sym same ∙ q) ∙ rw (add-one, add-one) refl;
+                  sized = record { outputs = omega (arith, field-below 5 b (drop 9 bits) hb); variables = leb-true (a + 1 + k) mostVariables q };
+                })
+
+                many : leb (a + 1 + k) mostVariables ≡ false → HeadIs bits (sizesOf a b k)
+                many q = rw q (sizes-off (sym same ∙ q))
+
+-- ---- fields of bytes
+
+module _ (bytes : List ℕ) (at w v : ℕ) where
+  pub field-is : at + w ≤ 8 * length bytes → v ≡ valueOf (take w (drop at (bitsIn bytes))) → FieldIs w (drop at (bitsIn bytes)) (Is v)
+  field-is h e = (omega (arith, left-length bytes at), e)
+
+  pub field-short : 8 * length bytes < at + w → 1 ≤ w → FieldIs w (drop at (bitsIn bytes)) Cut
+  field-short h k = let short : length (drop at (bitsIn bytes)) < w = omega (arith, left-length bytes at) in short
+
+-- the edition is there, and not all that follows it before the nodes
+pub front-cut : (bytes : List ℕ) (e : ℕ) → FieldIs 4 (bitsIn bytes) (Is e) → e ≡ 1 → 1 ≤ length bytes → length bytes < 3 → getRaw (bitsIn bytes) ≡ bad 11
+front-cut bytes e h one some few = ⊎-elim two less (decided (leb 2 (length bytes)))
+  where
+    two : leb 2 (length bytes) ≡ true → getRaw (bitsIn bytes) ≡ bad 11
+    two t =
+        let l = leb-true 2 (length bytes) t in
+        divisors-cut (bitsIn bytes) e h one _ (field-is bytes 4 5 _ (omega (arith, l)) refl) _ (field-is bytes 9 5 _ (omega (arith, l)) refl) (field-short bytes 14 6 0 (omega arith) (omega arith))
+
+    less : leb 2 (length bytes) ≡ false → getRaw (bitsIn bytes) ≡ bad 11
+    less f = inputs-cut (bitsIn bytes) e h one (field-short bytes 4 5 0 (omega (arith, leb-false 2 (length bytes) f)) (omega arith))

@@ -1,0 +1,35 @@
+-- `image_read::added` meets its contract. Assumes nothing.
+use Prim.Native.Nat.{_+_}
+use mathlib.Core.Path.{ap}
+use mathlib.Core.Bool.{Bool}
+use borrow.Author.Needs.{needs}
+use Rattle.image_read.specs.declared.Taken.{Taken}
+use Rattle.image_read.specs.declared.State.{State}
+use Rattle.image_read.proofs.added.Statement.{statement}
+use Rattle.image_read.proofs.added.Tie as tie
+
+abbrev state : State → Taken → Bool → State
+state s c b = record { at = c .at; cubes = s .cubes + 1; literals = s .literals + c .literals; ascending = b }
+
+both-requires : tie.Need-both-requires
+both-requires c κs = search needs
+
+add-t4 : tie.Need-add-t4
+add-t4 c = search needs
+
+add-t5 : tie.Need-add-t5
+add-t5 c = search needs
+
+returns : tie.Need-returns
+returns c =
+    let s = c .before .before .before .before in
+    ap (state (s .args .s) (s .args .c)) (c .before .before .before .both .ensures)
+
+pub added-spec : {M : Type 1} → statement M
+added-spec =
+    tie.close
+    (tie.spec
+    both-requires
+    add-t4
+    add-t5
+    returns)

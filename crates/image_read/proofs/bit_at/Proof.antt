@@ -1,0 +1,45 @@
+-- `image_read::bit_at` meets its contract. Assumes nothing.
+use Prim.Native.Nat.{_-_, _%_}
+use mathlib.Core.Path.{sym, ap, _∙_}
+use mathlib.Core.Bool.{cond}
+use borrow.Author.Needs.{needs}
+use borrow.Author.Tests.{eq-eqb, ne-eqb}
+use Rattle.sets.specs.Masks.{bit}
+use Rattle.sets.proofs.Digits.{bit-test}
+use Rattle.image_read.proofs.bit_at.Statement.{statement}
+use Rattle.image_read.proofs.bit_at.Tie as tie
+
+shared-slice-read-wide : tie.Need-shared-slice-read-wide
+shared-slice-read-wide c = search needs
+
+wide-requires : tie.Need-wide-requires
+wide-requires c κs = search needs
+
+sub-if1 : tie.Need-sub-if1
+sub-if1 c = search needs
+
+shr-if1 : tie.Need-shr-if1
+shr-if1 c = search needs
+
+returns : tie.Need-returns
+returns c =
+    let s = c .before .before .before .before in
+    let p = s .args .p in
+    ap (λ b. cond b 1 0) (sym (ap (λ x. bit x (7 - p % 8)) (sym (c .before .wide .ensures)) ∙ sym (bit-test (c .before .wide .result) (7 - p % 8)) ∙ eq-eqb _ _ (c .if1 .taken)))
+
+returns-2 : tie.Need-returns-2
+returns-2 c =
+    let s = c .before .before .before .before in
+    let p = s .args .p in
+    ap (λ b. cond b 1 0) (sym (ap (λ x. bit x (7 - p % 8)) (sym (c .before .wide .ensures)) ∙ sym (bit-test (c .before .wide .result) (7 - p % 8)) ∙ ne-eqb _ _ (c .if1 .left)))
+
+pub bit-at-spec : {M : Type 1} → statement M
+bit-at-spec =
+    tie.close
+    (tie.spec
+    shared-slice-read-wide
+    wide-requires
+    sub-if1
+    shr-if1
+    returns
+    returns-2)

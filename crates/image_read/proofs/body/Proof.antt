@@ -1,0 +1,88 @@
+-- `image_read::body` meets its contract. The divisors are those of the definition. Assumes nothing.
+use Prim.Native.Nat.{ℕ, _+_}
+use mathlib.Core.Path.{_≡_, subst}
+use native.Mathlib.Omega.{arith}
+use lib.ListN.{drop, length-replicate}
+use borrow.Author.Needs.{needs}
+use Rattle.image_fields.specs.Fields.{bitsIn}
+use Rattle.image_laws.specs.Reading.{getMany, getNode}
+use Rattle.image_read.specs.Parts.{NodesAre, blankWords, blankCounts, first}
+use Rattle.image_read.specs.declared.Step.{Step}
+use Rattle.image_read.proofs.Telling.{divisors-refused}
+use Rattle.image_read.proofs.body.Statement.{statement}
+use Rattle.image_read.proofs.body.Tie as tie
+
+abbrev start : tie.After-nodes → tie.Start
+start n = n .before .before .before .before .before
+
+-- what was read of the divisors
+abbrev Read : tie.After-nodes → Step → Type 0
+Read n x =
+    let s = start n in
+    let bits = bitsIn (s .args .bytes .now) in
+    NodesAre (s .args .z .divisors) bits first (getMany (getNode (s .args .z .inputs + s .args .z .divisors)) (s .args .z .divisors) (drop 20 bits)) blankWords (n .nodes .last .1 .1 .1 .1 .1 .0) (s .args .z .outputs) blankCounts (n .nodes .last .1 .1 .1 .1 .1 .1 .0) x
+
+read : (n : tie.After-nodes) (x : Step) → n .nodes .result ≡ x → Read n x
+read n x e = subst (Read n) e (n .nodes .ensures)
+
+add-nodes : tie.Need-add-nodes
+add-nodes c = let s = c .before .before in omega (arith, s .pre .variables)
+
+slice-aggregate-nodes : tie.Need-slice-aggregate-nodes
+slice-aggregate-nodes c = search needs
+
+slice-aggregate-nodes-2 : tie.Need-slice-aggregate-nodes-2
+slice-aggregate-nodes-2 c = search needs
+
+nodes-requires : tie.Need-nodes-requires
+nodes-requires c κs =
+    let s = c .before .before .before .before in (
+      record { at = omega arith; cubes = omega arith; literals = omega arith },
+      s .pre .variables,
+      omega (arith, s .pre .outputs, s .pre .variables, length-replicate {A = ℕ} 96 0),
+      omega (arith, s .pre .variables),
+    )
+
+enum-known-d : tie.Need-enum-known-d
+enum-known-d c = search needs
+
+refused-requires : tie.Need-refused-requires
+refused-requires c κs = search needs
+
+enum-known-d-2 : tie.Need-enum-known-d-2
+enum-known-d-2 c = search needs
+
+slice-aggregate-rest : tie.Need-slice-aggregate-rest
+slice-aggregate-rest c = search needs
+
+rest-requires : tie.Need-rest-requires
+rest-requires c κs =
+    let o = c .before .before in
+    let n = o .before .before .before .before in
+    record { sized = start n .pre; divisors = read n _ (o .d2 .given .1) }
+
+returns : tie.Need-returns
+returns c =
+    let o = c .before .before in
+    let n = o .before .before .before .before in
+    let s = start n in
+    divisors-refused (bitsIn (s .args .bytes .now)) (s .args .z) _ (c .refused .result) (c .refused .ensures) (read n _ (o .d .given .1))
+
+returns-2 : tie.Need-returns-2
+returns-2 c = c .rest .ensures
+
+pub body-spec : {M : Type 1} → statement M
+body-spec =
+    tie.close
+    (tie.spec
+    add-nodes
+    slice-aggregate-nodes
+    slice-aggregate-nodes-2
+    nodes-requires
+    enum-known-d
+    refused-requires
+    enum-known-d-2
+    slice-aggregate-rest
+    rest-requires
+    returns
+    returns-2)

@@ -1,0 +1,74 @@
+-- `image_read::finish` meets its contract. The verdict on all that was read, and the network of it. Assumes nothing.
+use mathlib.Core.Path.{_≡_}
+use native.Mathlib.Omega.{arith}
+use lib.ListN.{length}
+use borrow.Author.Needs.{needs}
+use Rattle.image_read.proofs.Telling.{whole-judging, whole-refused, whole-few, whole-told}
+use Rattle.image_read.proofs.finish.Statement.{statement}
+use Rattle.image_read.proofs.finish.Tie as tie
+
+abbrev start : tie.After-judge → tie.Start
+start j = j .before .before .before .before .before .before
+
+add-s : tie.Need-add-s
+add-s c =
+    let w = c .before .before .before .pre in omega (arith, w .cubes, w .half .divisors .near .cubes, w .outputs .near .cubes)
+
+slice-aggregate-judge : tie.Need-slice-aggregate-judge
+slice-aggregate-judge c = search needs
+
+slice-aggregate-judge-2 : tie.Need-slice-aggregate-judge-2
+slice-aggregate-judge-2 c = search needs
+
+judge-requires : tie.Need-judge-requires
+judge-requires c κs =
+    let s = c .before .before .before .before .before in
+    let n : length (s .args .t7) ≡ 96 = search needs in
+    whole-judging (s .pre) n
+
+enum-known-a : tie.Need-enum-known-a
+enum-known-a c = search needs
+
+refused-requires : tie.Need-refused-requires
+refused-requires c κs = search needs
+
+enum-told : tie.Need-enum-told
+enum-told c = search needs
+
+slice-aggregate-copy : tie.Need-slice-aggregate-copy
+slice-aggregate-copy c = search needs
+
+copy-requires : tie.Need-copy-requires
+copy-requires c κs =
+    let e = c .before in
+    let j = e .before .before in
+    let f = whole-few (start j .pre) (j .judge .result) (j .judge .ensures) (e .enum-told .given .1) in
+    (omega (arith, f), omega (arith, f))
+
+returns : tie.Need-returns
+returns c =
+    let a = c .before .before in
+    let j = a .before .before in
+    whole-refused (start j .pre) (j .judge .result) _ (c .refused .result) (j .judge .ensures) (a .a .given .1) (c .refused .ensures)
+
+returns-2 : tie.Need-returns-2
+returns-2 c =
+    let e = c .before .before .before in
+    let j = e .before .before in
+    whole-told (start j .pre) (j .judge .result) (j .judge .ensures) (e .enum-told .given .1) _ (c .before .copy .ensures)
+
+pub finish-spec : {M : Type 1} → statement M
+finish-spec =
+    tie.close
+    (tie.spec
+    add-s
+    slice-aggregate-judge
+    slice-aggregate-judge-2
+    judge-requires
+    enum-known-a
+    refused-requires
+    enum-told
+    slice-aggregate-copy
+    copy-requires
+    returns
+    returns-2)

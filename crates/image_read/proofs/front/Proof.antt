@@ -1,0 +1,86 @@
+-- `image_read::front` meets its contract. Each field is the field of the definition. Assumes nothing.
+use mathlib.Core.Bool.{Bool}
+use mathlib.Core.List.{List}
+use native.Mathlib.Omega.{arith}
+use lib.ListN.{drop}
+use borrow.Author.Needs.{needs}
+use Rattle.image_fields.specs.Fields.{bitsIn}
+use Rattle.image_read.specs.Parts.{FieldIs}
+use Rattle.image_read.specs.declared.Field.the-variants.{Is}
+use Rattle.image_read.proofs.Heading.{field-below, field-is, field-short, edition-cut, edition-bad, front-cut, sizes-are}
+use Rattle.image_read.proofs.front.Statement.{statement}
+use Rattle.image_read.proofs.front.Tie as tie
+
+abbrev start : tie.After-value-at → tie.Start
+start v = v .before .before .before
+
+abbrev bits : tie.Start → List Bool
+bits s = bitsIn (s .args .bytes .now)
+
+-- the fields that were read
+edition : (v : tie.After-value-at) → FieldIs 4 (bits (start v)) (Is (v .value-at .result))
+edition v = field-is (start v .args .bytes .now) 0 4 _ (omega (arith, v .before .if1 .left)) (v .value-at .ensures)
+
+abbrev first : tie.After-value-at2 → tie.After-value-at
+first v = v .before .before .before
+
+inputs : (v : tie.After-value-at2) → FieldIs 5 (drop 4 (bits (start (first v)))) (Is (v .value-at2 .result))
+inputs v = field-is (start (first v) .args .bytes .now) 4 5 _ (omega (arith, v .before .if3 .left)) (v .value-at2 .ensures)
+
+outputs : (v : tie.After-value-at3) → FieldIs 5 (drop 9 (bits (start (first (v .before))))) (Is (v .value-at3 .result))
+outputs v = field-is (start (first (v .before)) .args .bytes .now) 9 5 _ (omega (arith, v .before .before .if3 .left)) (v .value-at3 .ensures)
+
+divisors : (v : tie.After-value-at4) → FieldIs 6 (drop 14 (bits (start (first (v .before .before))))) (Is (v .value-at4 .result))
+divisors v = field-is (start (first (v .before .before)) .args .bytes .now) 14 6 _ (omega (arith, v .before .before .before .if3 .left)) (v .value-at4 .ensures)
+
+returns : tie.Need-returns
+returns c = let s = c .before .before in edition-cut (bits s) (field-short (s .args .bytes .now) 0 4 0 (omega (arith, c .if1 .taken)) (omega arith))
+
+value-at-requires : tie.Need-value-at-requires
+value-at-requires c κs = (omega (arith, c .if1 .left), omega arith, omega arith)
+
+returns-2 : tie.Need-returns-2
+returns-2 c = let v = c .before in edition-bad (bits (start v)) _ (edition v) (c .if2 .taken)
+
+returns-3 : tie.Need-returns-3
+returns-3 c =
+    let v = c .before .before in
+    front-cut (start v .args .bytes .now) _ (edition v) (c .before .if2 .left) (omega (arith, v .before .if1 .left)) (c .if3 .taken)
+
+value-at-requires-2 : tie.Need-value-at-requires-2
+value-at-requires-2 c κs = (omega (arith, c .if3 .left), omega arith, omega arith)
+
+value-at-requires-3 : tie.Need-value-at-requires-3
+value-at-requires-3 c κs = (omega (arith, c .before .if3 .left), omega arith, omega arith)
+
+value-at-requires-4 : tie.Need-value-at-requires-4
+value-at-requires-4 c κs = (omega (arith, c .before .before .if3 .left), omega arith, omega arith)
+
+sizes-of-requires : tie.Need-sizes-of-requires
+sizes-of-requires c κs =
+    let b = c .before in
+    let a = b .before in
+    let l = bits (start (first a)) in
+    (field-below 5 _ (drop 4 l) (inputs a), field-below 5 _ (drop 9 l) (outputs b), field-below 6 _ (drop 14 l) (divisors c))
+
+returns-4 : tie.Need-returns-4
+returns-4 c =
+    let d = c .before in
+    let b = d .before in
+    let a = b .before in
+    let e = first a in
+    sizes-are (bits (start e)) _ (edition e) (a .before .before .if2 .left) _ (inputs a) _ (outputs b) _ (divisors d) (c .sizes-of .result) (c .sizes-of .ensures)
+
+pub front-spec : {M : Type 1} → statement M
+front-spec =
+    tie.close
+    (tie.spec
+    returns
+    value-at-requires
+    returns-2
+    returns-3
+    value-at-requires-2
+    value-at-requires-3
+    value-at-requires-4
+    sizes-of-requires
+    returns-4)

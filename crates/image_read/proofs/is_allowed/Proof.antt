@@ -1,0 +1,45 @@
+-- `image_read::is_allowed` meets its contract. Assumes nothing.
+use Prim.Native.Nat.{_/_}
+use mathlib.Core.Path.{ap, _∙_}
+use mathlib.Core.Bool.{not}
+use native.Mathlib.Omega.{arith}
+use borrow.Author.Needs.{needs}
+use borrow.Author.Tests.{lt-ltb, le-ltb}
+use Rattle.sets.specs.Sets.{mem}
+use Rattle.cube.specs.Cube.{lits}
+use Rattle.image_read.proofs.is_allowed.Statement.{statement}
+use Rattle.image_read.proofs.is_allowed.Tie as tie
+
+variable-of-requires : tie.Need-variable-of-requires
+variable-of-requires c κs = search needs
+
+cast-if1 : tie.Need-cast-if1
+cast-if1 c = search needs
+
+returns : tie.Need-returns
+returns c =
+    let x = c .before .before in rw (le-ltb (x .before .args .l .0 / 2) (x .before .args .v) (omega (arith, x .variable-of .ensures, c .if1 .taken)))
+
+opposite-requires : tie.Need-opposite-requires
+opposite-requires c κs = search needs
+
+has-requires : tie.Need-has-requires
+has-requires c κs = search needs
+
+returns-2 : tie.Need-returns-2
+returns-2 c =
+    let e = c .before .before in
+    let x = e .before .before in
+    rw (lt-ltb (x .before .args .l .0 / 2) (x .before .args .v) (omega (arith, x .variable-of .ensures, e .if1 .left)))
+    (ap not (c .has .ensures ∙ ap (λ n. mem n (lits (x .before .args .c))) (c .before .opposite .ensures)))
+
+pub is-allowed-spec : {M : Type 1} → statement M
+is-allowed-spec =
+    tie.close
+    (tie.spec
+    variable-of-requires
+    cast-if1
+    returns
+    opposite-requires
+    has-requires
+    returns-2)

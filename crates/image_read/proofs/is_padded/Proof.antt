@@ -1,0 +1,67 @@
+-- `image_read::is_padded` meets its contract. Assumes nothing.
+use Prim.Native.Nat.{_-_, _*_}
+use mathlib.Core.Path.{sym, ap, _∙_}
+use mathlib.Core.Bool.{not, _&&_}
+use native.Mathlib.Omega.{arith}
+use lib.ListN.{length, drop, drop-of-length-le}
+use lib.Dec.{eqb}
+use lib.Seq.{take-all}
+use borrow.Author.Needs.{needs}
+use borrow.Author.Tests.{lt-ltb, le-ltb}
+use Rattle.sets.specs.Lists.{all}
+use Rattle.image_fields.specs.Fields.{valueOf, bitsIn}
+use Rattle.image_fields.proofs.Bytes.{left-length, bits-in-length}
+use Rattle.image_laws.specs.Reading.{padding}
+use Rattle.image_read.proofs.Bits.{value-zero}
+use Rattle.image_read.proofs.is_padded.Statement.{statement}
+use Rattle.image_read.proofs.is_padded.Tie as tie
+
+add-if1 : tie.Need-add-if1
+add-if1 c = search needs
+
+returns : tie.Need-returns
+unfolding padding
+returns c =
+    let s = c .before .before in
+    rw (le-ltb (length (drop (s .args .at) (bitsIn (s .args .bytes .now)))) 8 (omega (arith, c .if1 .taken, left-length (s .args .bytes .now) (s .args .at))))
+
+mul-if2 : tie.Need-mul-if2
+mul-if2 c = omega (arith, c .if1 .left)
+
+returns-2 : tie.Need-returns-2
+unfolding padding
+returns-2 c =
+    let s = c .before .before .before in
+    rw (drop-of-length-le (bitsIn (s .args .bytes .now)) {i = s .args .at} (omega (arith, c .if2 .taken, bits-in-length (s .args .bytes .now))))
+
+mul-value-at : tie.Need-mul-value-at
+mul-value-at c = omega (arith, c .before .if1 .left)
+
+sub-value-at : tie.Need-sub-value-at
+sub-value-at c = search needs
+
+value-at-requires : tie.Need-value-at-requires
+value-at-requires c κs =
+    let s = c .before .before .before in (omega (arith, c .if2 .left), s .pre, omega (arith, c .before .if1 .left, c .if2 .left))
+
+returns-3 : tie.Need-returns-3
+unfolding padding
+returns-3 c =
+    let s = c .before .before .before .before in
+    let l = drop (s .args .at) (bitsIn (s .args .bytes .now)) in
+    let n = left-length (s .args .bytes .now) (s .args .at) in
+    let m = c .before .before .if1 .left in
+    ap (λ v. eqb v 0) (c .value-at .ensures ∙ ap valueOf (take-all (8 * length (s .args .bytes .now) - s .args .at) l (omega (arith, n)))) ∙ value-zero l ∙ sym (ap (_&& all not l) (lt-ltb (length l) 8 (omega (arith, n, m))))
+
+pub is-padded-spec : {M : Type 1} → statement M
+is-padded-spec =
+    tie.close
+    (tie.spec
+    add-if1
+    returns
+    mul-if2
+    returns-2
+    mul-value-at
+    sub-value-at
+    value-at-requires
+    returns-3)

@@ -1,0 +1,147 @@
+-- `image_read::judge` meets its contract. Each test is that of the definition. Assumes nothing.
+use Prim.Native.Nat.{ℕ, _+_, _-_}
+use mathlib.Core.Path.{_≡_, sym, ap, _∙_, ap₂}
+use mathlib.Core.Bool.{Bool, true, _&&_}
+use mathlib.Core.List.{List}
+use native.Mathlib.Omega.{arith}
+use lib.ListN.{take, drop, length-take}
+use lib.Dec.{leb}
+use borrow.Author.Needs.{needs}
+use borrow.Author.Tests.{not-true, not-false, le-leb, lt-leb}
+use Rattle.sets.specs.Lists.{total}
+use Rattle.image_fields.specs.Fields.{bitsIn}
+use Rattle.network.specs.Held.{mostCubes, mostLiterals}
+use Rattle.image_laws.specs.Reading.{padding}
+use Rattle.image_read.specs.Parts.{nodesIn, orderedIn, outputCounts, divisorCounts}
+use Rattle.image_read.proofs.Telling.{verdict-11, verdict-12, verdict-13, verdict-yes}
+use Rattle.image_read.proofs.judge.Statement.{statement}
+use Rattle.image_read.proofs.judge.Tie as tie
+
+abbrev start : tie.After-is-padded → tie.Start
+start a = a .before .before .before .before .before
+
+abbrev whole : tie.After-struct-known3 → tie.Start
+whole k = start (k .before .before .before .before .before .before)
+
+-- the tests
+abbrev padded : tie.Start → Bool
+padded s = padding (drop (s .args .s .at) (bitsIn (s .args .bytes .now)))
+
+abbrev few : tie.Start → Bool
+few s = leb (s .args .s .cubes) mostCubes && leb (s .args .s .literals) mostLiterals
+
+abbrev ordered : tie.Start → List ℕ → List ℕ → Bool
+ordered s ds os = s .args .s .ascending && orderedIn (s .args .z .inputs) (nodesIn ds (s .args .apart .now)) (nodesIn os (s .args .words .now))
+
+abbrev sorted : tie.Start → Bool
+sorted s = ordered s (divisorCounts (s .args .z) (s .args .counts .now)) (outputCounts (s .args .z) (s .args .counts .now))
+
+is-padded : (k : tie.After-struct-known3) → padded (whole k) ≡ true
+is-padded k = let e = k .before .before .before .before .before in sym (e .before .is-padded .ensures) ∙ not-false _ (e .if1 .left)
+
+is-few : (k : tie.After-struct-known3) → few (whole k) ≡ true
+is-few k = let s = whole k in ap₂ _&&_ (le-leb (s .args .s .cubes) mostCubes (k .before .before .before .if2 .left)) (le-leb (s .args .s .literals) mostLiterals (k .before .if3 .left))
+
+-- the parts of the counts
+abbrev lentDivisors : tie.Start → List ℕ
+lentDivisors s = take (s .args .z .outputs + s .args .z .divisors - s .args .z .outputs) (drop (s .args .z .outputs) (s .args .counts .now))
+
+abbrev lentOutputs : tie.Start → List ℕ
+lentOutputs s = take (s .args .z .outputs - 0) (s .args .counts .now)
+
+front : (s : tie.Start) → lentDivisors s ≡ divisorCounts (s .args .z) (s .args .counts .now)
+front s = let e : s .args .z .outputs + s .args .z .divisors - s .args .z .outputs ≡ s .args .z .divisors = omega arith in ap (λ n. take n (drop (s .args .z .outputs) (s .args .counts .now))) e
+
+back : (s : tie.Start) → lentOutputs s ≡ outputCounts (s .args .z) (s .args .counts .now)
+back s = let e : s .args .z .outputs - 0 ≡ s .args .z .outputs = omega arith in ap (λ n. take n (s .args .counts .now)) e
+
+same : (s : tie.Start) → ordered s (lentDivisors s) (lentOutputs s) ≡ sorted s
+same s = ap₂ (ordered s) (front s) (back s)
+
+is-padded-requires : tie.Need-is-padded-requires
+is-padded-requires c κs = c .before .before .before .before .pre .at
+
+returns : tie.Need-returns
+returns c =
+    let s = start (c .before) in verdict-11 (padded s) (few s) (sorted s) (sym (c .before .is-padded .ensures) ∙ not-true _ (c .if1 .taken))
+
+returns-2 : tie.Need-returns-2
+returns-2 c =
+    let a = c .before .before .before in let s = start a in verdict-12 (padded s) (few s) (sorted s) (sym (a .is-padded .ensures) ∙ not-false _ (c .before .before .if1 .left)) (ap (λ (x : Bool). x && leb (s .args .s .literals) mostLiterals) (lt-leb (s .args .s .cubes) mostCubes (c .if2 .taken)))
+
+returns-3 : tie.Need-returns-3
+returns-3 c =
+    let e = c .before .before in
+    let a = e .before .before .before in
+    let s = start a in
+    verdict-12 (padded s) (few s) (sorted s) (sym (a .is-padded .ensures) ∙ not-false _ (e .before .before .if1 .left)) (ap₂ _&&_ (le-leb (s .args .s .cubes) mostCubes (e .if2 .left)) (lt-leb (s .args .s .literals) mostLiterals (c .if3 .taken)))
+
+add-e : tie.Need-add-e
+add-e c = let s = whole c in omega (arith, s .pre .sized .outputs, s .pre .sized .variables)
+
+mul-in-order : tie.Need-mul-in-order
+mul-in-order c = search needs
+
+sub-in-order : tie.Need-sub-in-order
+sub-in-order c = search needs
+
+part-in-order-start : tie.Need-part-in-order-start
+part-in-order-start c = search needs
+
+part-in-order-end : tie.Need-part-in-order-end
+part-in-order-end c = let s = whole c in omega (arith, s .pre .sized .outputs, s .pre .sized .variables, s .pre .places)
+
+sub-in-order-2 : tie.Need-sub-in-order-2
+sub-in-order-2 c = search needs
+
+part-in-order-start-2 : tie.Need-part-in-order-start-2
+part-in-order-start-2 c = search needs
+
+part-in-order-end-2 : tie.Need-part-in-order-end-2
+part-in-order-end-2 c = let s = whole (c .before) in omega (arith, s .pre .sized .outputs, s .pre .places)
+
+in-order-requires : tie.Need-in-order-requires
+in-order-requires c κs =
+    let k = c .before .before in
+    let s = whole k in
+    let d = ap (total (λ x. x)) (front s) in
+    let o = ap (total (λ x. x)) (back s) in (
+      record { divisors = omega (arith, d, s .pre .sum, k .before .before .before .if2 .left); outputs = omega (arith, o, s .pre .sum, k .before .before .before .if2 .left) },
+      omega (arith, length-take (s .args .z .outputs + s .args .z .divisors - s .args .z .outputs) (drop (s .args .z .outputs) (s .args .counts .now)), s .pre .sized .variables),
+    )
+
+-- what the last test found
+found : (o : tie.After-in-order) (b : Bool) → o .in-order .result ≡ b → sorted (whole (o .before .before .before)) ≡ b
+found o b e = _∙_ {b = o .in-order .result} (sym (o .in-order .ensures ∙ same (whole (o .before .before .before)))) e
+
+returns-4 : tie.Need-returns-4
+returns-4 c =
+    let k = c .before .before .before .before in
+    let s = whole k in
+    verdict-yes (padded s) (few s) (sorted s) (is-padded k) (is-few k) (found (c .before) _ (c .if4 .taken))
+
+returns-5 : tie.Need-returns-5
+returns-5 c =
+    let k = c .before .before .before .before in
+    let s = whole k in
+    verdict-13 (padded s) (few s) (sorted s) (is-padded k) (is-few k) (found (c .before) _ (c .if4 .left))
+
+pub judge-spec : {M : Type 1} → statement M
+judge-spec =
+    tie.close
+    (tie.spec
+    is-padded-requires
+    returns
+    returns-2
+    returns-3
+    add-e
+    mul-in-order
+    sub-in-order
+    part-in-order-start
+    part-in-order-end
+    sub-in-order-2
+    part-in-order-start-2
+    part-in-order-end-2
+    in-order-requires
+    returns-4
+    returns-5)

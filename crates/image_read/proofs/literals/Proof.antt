@@ -1,0 +1,137 @@
+-- `image_read::literals` meets its contract. The loop's invariant: the literals read so far and those to come are those of the definition. Assumes nothing.
+use Prim.Native.Nat.{ℕ, _+_, _-_, _*_, _≤_, _<_}
+use mathlib.Core.Path.{_≡_, refl, sym, ap, subst, _∙_}
+use mathlib.Core.Bool.{Bool, _&&_}
+use mathlib.Core.List.{List}
+use native.Mathlib.Omega.{arith}
+use lib.ListN.{drop}
+use borrow.Author.Needs.{needs}
+use borrow.Author.Tests.{not-true, not-false}
+use Rattle.cube.specs.Cube.{lits}
+use Rattle.image_fields.specs.Fields.{bitsIn}
+use Rattle.image_read.specs.Parts.{FieldIs}
+use Rattle.image_read.specs.declared.Field.{Field}
+use Rattle.image_read.specs.declared.Field.the-variants.{Is}
+use Rattle.image_read.proofs.Heading.{field-below}
+use Rattle.image_read.proofs.Gathering.{Gathering, gather-none, gather-cut, gather-bad, gather-next, gather-end}
+use Rattle.image_read.proofs.literals.Statement.{statement}
+use Rattle.image_read.proofs.literals.Tie as tie
+
+abbrev Inv-loop : tie.InvT-loop
+Inv-loop bytes start v k seen₀ ascending₀ at₀ i₀ seen ascending at i =
+    (i ≤ k) × (at ≡ start + 7 * i) × Gathering (bitsIn bytes) v k start at i (lits seen) ascending
+
+abbrev μ-loop : tie.MeasureT-loop
+μ-loop bytes start v k seen₀ ascending₀ at₀ i₀ seen ascending at i = k - i
+
+abbrev head : tie.After-known-told Inv-loop μ-loop → tie.At-loop Inv-loop μ-loop
+head k = k .before .before .before .before .before
+
+abbrev bits-from : tie.At-loop Inv-loop μ-loop → List Bool
+bits-from l = drop (l .loop .at) (bitsIn (l .before .before .before .args .bytes .now))
+
+-- the field that was read
+abbrev value : tie.After-known-told Inv-loop μ-loop → ℕ
+value k = k .before .f .given .0 .0
+
+read : (k : tie.After-known-told Inv-loop μ-loop) → FieldIs 7 (bits-from (head k)) (Is (value k))
+read k = subst (λ (x : Field). FieldIs 7 (bits-from (head k)) x) (k .before .f .given .1) (k .before .before .before .field-at .ensures)
+
+value-of : (k : tie.After-known-told Inv-loop μ-loop) → value k < 128
+value-of k = field-below 7 (value k) (bits-from (head k)) (read k)
+
+empty-requires : tie.Need-empty-requires Inv-loop μ-loop
+empty-requires c κs = search needs
+
+loop-holds : tie.Need-loop-holds Inv-loop μ-loop
+loop-holds c = (omega arith, omega arith, gather-none _ _ _ _ _ (c .empty .ensures))
+
+field-at-requires : tie.Need-field-at-requires Inv-loop μ-loop
+field-at-requires c κs =
+    let l = c .before in let s = l .before .before .before in (omega (arith, s .pre .0, s .pre .2, l .loop .inv .1), omega arith, omega arith)
+
+enum-known-f : tie.Need-enum-known-f Inv-loop μ-loop
+enum-known-f c = search needs
+
+enum-told : tie.Need-enum-told Inv-loop μ-loop
+enum-told c = search needs
+
+returns : tie.Need-returns Inv-loop μ-loop
+returns c =
+    let a = c .before .before in
+    let l = a .before .before in
+    gather-cut (l .loop .inv .2) (a .before .loop-test .taken) (subst (λ (x : Field). FieldIs 7 (bits-from l) x) (c .enum-told .given .1) (a .field-at .ensures))
+
+cast-t13 : tie.Need-cast-t13 Inv-loop μ-loop
+cast-t13 c = omega (arith, value-of c)
+
+is-allowed-requires : tie.Need-is-allowed-requires Inv-loop μ-loop
+is-allowed-requires c κs = search needs
+
+returns-2 : tie.Need-returns-2 Inv-loop μ-loop
+returns-2 c =
+    let k = c .before .before in
+    let l = head k in
+    gather-bad (l .loop .inv .2) (k .before .before .before .before .loop-test .taken) (value k) (read k) (sym (c .before .is-allowed .ensures) ∙ not-true _ (c .if1 .taken))
+
+is-below-requires : tie.Need-is-below-requires Inv-loop μ-loop
+is-below-requires c κs = search needs
+
+both-requires : tie.Need-both-requires Inv-loop μ-loop
+both-requires c κs = search needs
+
+with-requires : tie.Need-with-requires Inv-loop μ-loop
+with-requires c κs = search needs
+
+add-at : tie.Need-add-at Inv-loop μ-loop
+add-at c =
+    let l = head (c .before .before .before .before .before) in
+    let s = l .before .before .before in
+    omega (arith, s .pre .0, s .pre .2, l .loop .inv .1)
+
+add-i : tie.Need-add-i Inv-loop μ-loop
+add-i c = search needs
+
+loop-less : tie.Need-loop-less Inv-loop μ-loop
+loop-less c = search needs
+
+loop-again : tie.Need-loop-again Inv-loop μ-loop
+loop-again c =
+    let k = c .before .before .before .before .before in
+    let l = head k in
+    let s = l .before .before .before in
+    let more = k .before .before .before .before .loop-test .taken in (
+      omega (arith, more),
+      omega (arith, l .loop .inv .1),
+      gather-next (l .loop .inv .2) more (value k) (read k) (s .pre .1) (sym (c .before .before .before .before .is-allowed .ensures) ∙ not-false _ (c .before .before .before .if1 .left)) _ (c .with .ensures) _ (c .before .both .ensures ∙ ap (l .loop .ascending &&_) (c .before .before .is-below .ensures)),
+    )
+
+returns-3 : tie.Need-returns-3 Inv-loop μ-loop
+returns-3 c =
+    let l = c .before in
+    let s = l .before .before .before in
+    gather-end (l .loop .inv .2) (c .loop-test .left) (omega (arith, s .pre .2)) (omega (arith, s .pre .2, l .loop .inv .1)) (l .loop .seen) refl (omega arith)
+
+pub literals-spec : {M : Type 1} → statement M
+literals-spec =
+    tie.close
+    (tie.spec
+    Inv-loop
+    μ-loop
+    empty-requires
+    loop-holds
+    field-at-requires
+    enum-known-f
+    enum-told
+    returns
+    cast-t13
+    is-allowed-requires
+    returns-2
+    is-below-requires
+    both-requires
+    with-requires
+    add-at
+    add-i
+    loop-less
+    loop-again
+    returns-3)

@@ -1,0 +1,72 @@
+-- `image_read::node` meets its contract. Assumes nothing.
+use mathlib.Core.Path.{subst}
+use mathlib.Core.Bool.{Bool}
+use mathlib.Core.List.{List}
+use native.Mathlib.Omega.{arith}
+use lib.ListN.{drop}
+use borrow.Author.Needs.{needs}
+use Rattle.image_fields.specs.Fields.{bitsIn}
+use Rattle.image_read.specs.Parts.{FieldIs}
+use Rattle.image_read.specs.declared.Field.{Field}
+use Rattle.image_read.specs.declared.Field.the-variants.{Is}
+use Rattle.image_read.proofs.Filling.{node-cut, node-bad, node-are}
+use Rattle.image_read.proofs.node.Statement.{statement}
+use Rattle.image_read.proofs.node.Tie as tie
+
+abbrev start : tie.After-known-told → tie.Start
+start k = k .before .before .before .before .before .before
+
+abbrev bits-from : tie.Start → List Bool
+bits-from s = drop (s .args .start .at) (bitsIn (s .args .bytes .now))
+
+-- the field that was read
+read : (k : tie.After-known-told) → FieldIs 11 (bits-from (start k)) (Is (k .before .f .given .0 .0))
+read k = subst (λ (x : Field). FieldIs 11 (bits-from (start k)) x) (k .before .f .given .1) (k .before .before .before .field-at .ensures)
+
+field-at-requires : tie.Need-field-at-requires
+field-at-requires c κs = let s = c .before .before in (omega (arith, s .pre .0 .at), omega arith, omega arith)
+
+enum-known-f : tie.Need-enum-known-f
+enum-known-f c = search needs
+
+enum-told : tie.Need-enum-told
+enum-told c = search needs
+
+returns : tie.Need-returns
+returns c =
+    let a = c .before .before in
+    let s = a .before .before .before in
+    node-cut (bitsIn (s .args .bytes .now)) (s .args .v) (s .args .start) (subst (λ (x : Field). FieldIs 11 (bits-from s) x) (c .enum-told .given .1) (a .field-at .ensures))
+
+returns-2 : tie.Need-returns-2
+returns-2 c =
+    let s = start (c .before) in node-bad (bitsIn (s .args .bytes .now)) (s .args .v) (s .args .start) _ (read (c .before)) (c .if1 .taken)
+
+add-s : tie.Need-add-s
+add-s c = let s = start (c .before .before) in omega (arith, s .pre .0 .at)
+
+cubes-requires : tie.Need-cubes-requires
+cubes-requires c κs =
+    let s = start (c .before .before .before) in (record { at = omega (arith, s .pre .0 .at); cubes = omega (arith, s .pre .0 .cubes); literals = omega (arith, s .pre .0 .literals) }, s .pre .1, c .before .before .if1 .left)
+
+same-length : tie.Need-same-length
+same-length c = search needs
+
+returns-3 : tie.Need-returns-3
+returns-3 c =
+    let k = c .before .before .before .before .before .before in
+    node-are (bitsIn (start k .args .bytes .now)) (start k .args .v) (start k .args .start) _ (read k) (c .before .before .before .before .before .if1 .left) _ _ (c .before .before .cubes .result) (c .before .before .cubes .ensures)
+
+pub node-spec : {M : Type 1} → statement M
+node-spec =
+    tie.close
+    (tie.spec
+    field-at-requires
+    enum-known-f
+    enum-told
+    returns
+    returns-2
+    add-s
+    cubes-requires
+    same-length
+    returns-3)

@@ -1,0 +1,211 @@
+-- What the private parts of the reader find and leave.
+use Prim.Native.Nat.{ℕ, _+_, _*_, _<_, _≤_}
+use mathlib.Core.Path.{_≡_}
+use mathlib.Core.Bool.{Bool, true, cond, _&&_}
+use mathlib.Core.List.{List, [], map}
+use lib.Dec.{leb}
+use lib.ListN.{length, take, drop, replicate}
+use lib.Seq.{sets}
+use Rattle.sets.specs.Lists.{all, total}
+use Rattle.sets.specs.Sets.{asc, proper, union}
+use Rattle.cube.specs.Cube.{lits}
+use Rattle.image_fields.specs.Fields.{valueOf}
+use Rattle.expression.specs.Words.{cubesOf}
+use Rattle.expression.specs.Expression.{expression, ordered}
+use Rattle.network.specs.Handed.{flat}
+use Rattle.network.specs.Held.{mostVariables, mostCubes, mostLiterals}
+use Rattle.network_nodes.specs.Nodes.{cut}
+use Rattle.image_laws.specs.Reading.{Got, got, bad, Raw, getMany, getNode, getNodes, getRaw, padding, readsEarlier}
+use Rattle.image_read.specs.declared.Answer.{Answer}
+use Rattle.image_read.specs.declared.Answer.the-variants.{Accepted, Refused}
+use Rattle.image_read.specs.declared.Field.{Field}
+use Rattle.image_read.specs.declared.Field.the-variants.{Is, Cut}
+use Rattle.image_read.specs.declared.Taken.{Taken}
+use Rattle.image_read.specs.declared.Turn.{Turn}
+use Rattle.image_read.specs.declared.Turn.the-variants as turn
+use Rattle.image_read.specs.declared.State.{State}
+use Rattle.image_read.specs.declared.Step.{Step}
+use Rattle.image_read.specs.declared.Step.the-variants as step
+use Rattle.image_read.specs.declared.Sizes.{Sizes}
+use Rattle.image_read.specs.declared.Head.{Head}
+use Rattle.image_read.specs.declared.Head.the-variants as head
+
+-- bounds that no image reaches: each part begins below one, and leaves the next to the parts in it
+abbrev pub billions : ℕ → ℕ
+billions n = n * 1000000000
+
+-- ---- fields and cubes
+
+-- the number in the first w bits; or there are fewer
+abbrev pub FieldIs : ℕ → List Bool → Field → Type 0
+FieldIs w l (Is v) = (w ≤ length l) × (v ≡ valueOf (take w l))
+FieldIs w l Cut = length l < w
+
+-- literals as a set, ascending
+abbrev pub setOf : List ℕ → List ℕ
+setOf c = union c []
+
+-- a cube of these literals was read from a bit on, and no more than the most bits
+pub record CubeGot (most : ℕ) (bits : List Bool) (start : ℕ) (g : Got (List ℕ)) (r : Taken) : Type 0 where
+  pub read : List ℕ
+  pub is : g ≡ got read (drop (r .at) bits)
+  pub cube : lits (r .cube) ≡ setOf read
+  pub literals : r .literals ≡ length read
+  pub ascending : r .ascending ≡ asc read
+  pub proper : proper read ≡ true
+  pub few : length read ≤ 64
+  pub near : r .at ≤ start + most
+
+-- or the number of the refusal
+abbrev pub CubeIs : ℕ → List Bool → ℕ → Got (List ℕ) → Turn → Type 0
+CubeIs most bits start g (turn.Cube r) = CubeGot most bits start g r
+CubeIs most bits start g (turn.Bad k) = g ≡ bad k
+
+-- ---- nodes
+
+-- one cube more
+abbrev pub added : State → Taken → State
+added s c = record { at = c .at; cubes = s .cubes + 1; literals = s .literals + c .literals; ascending = s .ascending && c .ascending }
+
+-- no number passes the bound
+pub record Low (bound : ℕ) (s : State) : Type 0 where
+  pub at : s .at ≤ bound
+  pub cubes : s .cubes ≤ bound
+  pub literals : s .literals ≤ bound
+
+-- no number grows by more
+pub record Near (most : ℕ) (s t : State) : Type 0 where
+  pub at : t .at ≤ s .at + most
+  pub cubes : t .cubes ≤ s .cubes + most
+  pub literals : t .literals ≤ s .literals + most
+
+-- these cubes were put, and counted with their literals
+pub record Added (s t : State) (old new : List ℕ) (read : List (List ℕ)) : Type 0 where
+  pub stored : cubesOf new ≡ sets (cubesOf old) (s .cubes) (map setOf read)
+  pub cubes : t .cubes ≡ s .cubes + length read
+  pub literals : t .literals ≡ s .literals + total length read
+  pub ascending : t .ascending ≡ (s .ascending && all asc read)
+  pub proper : all proper read ≡ true
+
+-- cubes were read, and no number grew by more than the most
+pub record CubesGot (most : ℕ) (bits : List Bool) (s : State) (g : Got (List (List ℕ))) (old new : List ℕ) (t : State) : Type 0 where
+  pub read : List (List ℕ)
+  pub is : g ≡ got read (drop (t .at) bits)
+  pub put : Added s t old new read
+  pub near : Near most s t
+
+-- or the number of the refusal
+abbrev pub CubesAre : ℕ → List Bool → State → Got (List (List ℕ)) → List ℕ → List ℕ → Step → Type 0
+CubesAre most bits s g old new (step.On t) = CubesGot most bits s g old new t
+CubesAre most bits s g old new (step.Bad k) = g ≡ bad k
+
+-- k nodes were read, their counts put from a place on
+pub record NodesGot (k : ℕ) (bits : List Bool) (s : State) (g : Got (List (List (List ℕ)))) (old new : List ℕ) (first : ℕ) (was are : List ℕ) (t : State) : Type 0 where
+  pub read : List (List (List ℕ))
+  pub number : length read ≡ k
+  pub is : g ≡ got read (drop (t .at) bits)
+  pub put : Added s t old new (flat read)
+  pub counts : are ≡ sets was first (map length read)
+  pub near : Near 134217728 s t
+
+-- or the number of the refusal
+abbrev pub NodesAre : ℕ → List Bool → State → Got (List (List (List ℕ))) → List ℕ → List ℕ → ℕ → List ℕ → List ℕ → Step → Type 0
+NodesAre k bits s g old new first was are (step.On t) = NodesGot k bits s g old new first was are t
+NodesAre k bits s g old new first was are (step.Bad e) = g ≡ bad e
+
+-- ---- the whole
+
+-- numbers of inputs, outputs and divisors that leave room for them
+pub record SizesFit (z : Sizes) : Type 0 where
+  pub outputs : z .outputs ≤ 32
+  pub variables : z .inputs + z .divisors ≤ mostVariables
+
+-- the nodes after the first fields
+abbrev pub nodesAt : List Bool → Sizes → Got Raw
+nodesAt bits z = getNodes (z .inputs) (z .outputs) (z .divisors) (drop 20 bits)
+
+-- 12 where there are too many variables
+abbrev pub sizesOf : ℕ → ℕ → ℕ → Head
+sizesOf a b k = cond (leb (a + 1 + k) mostVariables) (head.Of (record { inputs = a + 1; outputs = b + 1; divisors = k })) (head.Bad 12)
+
+-- the first fields give these numbers, and the nodes follow
+pub record HeadGot (bits : List Bool) (z : Sizes) : Type 0 where
+  pub is : getRaw bits ≡ nodesAt bits z
+  pub sized : SizesFit z
+
+-- or the number of the refusal
+abbrev pub HeadIs : List Bool → Head → Type 0
+HeadIs bits (head.Of z) = HeadGot bits z
+HeadIs bits (head.Bad k) = getRaw bits ≡ bad k
+
+-- an expression in cube order
+abbrev pub tidy : List (List ℕ) → Bool
+tidy f = expression f && ordered f
+
+-- the nodes of counts and words
+abbrev pub nodesIn : List ℕ → List ℕ → List (List (List ℕ))
+nodesIn counts words = cut counts (cubesOf words)
+
+-- divisors and outputs stand in the one order, and each divisor reads earlier variables alone
+abbrev pub orderedIn : ℕ → List (List (List ℕ)) → List (List (List ℕ)) → Bool
+orderedIn n ds os = all tidy ds && (all tidy os && readsEarlier n ds)
+
+-- the cubes of the divisors, and of the outputs, are no more than a network may have
+pub record Counted (ds os : List ℕ) : Type 0 where
+  pub divisors : total (λ c. c) ds ≤ mostCubes
+  pub outputs : total (λ c. c) os ≤ mostCubes
+
+-- the counts of the outputs, and after them of the divisors
+abbrev pub outputCounts : Sizes → List ℕ → List ℕ
+outputCounts z counts = take (z .outputs) counts
+
+abbrev pub divisorCounts : Sizes → List ℕ → List ℕ
+divisorCounts z counts = take (z .divisors) (drop (z .outputs) counts)
+
+-- what is read is not too long, and the sum of the counts is that of the cubes
+pub record Judging (s : State) (z : Sizes) (counts : List ℕ) : Type 0 where
+  pub at : s .at ≤ billions 6
+  pub sized : SizesFit z
+  pub places : length counts ≡ 96
+  pub sum : s .cubes ≡ total (λ c. c) (divisorCounts z counts) + total (λ c. c) (outputCounts z counts)
+
+-- by three tests: what is left over, then the sums, then the order
+abbrev pub verdict : Bool → Bool → Bool → Answer
+verdict padded few sorted = cond padded (cond few (cond sorted Accepted (Refused 13)) (Refused 12)) (Refused 11)
+
+abbrev pub judgedOf : List Bool → State → Sizes → List ℕ → List ℕ → List ℕ → Answer
+judgedOf bits s z apart words counts =
+    verdict (padding (drop (s .at) bits)) (leb (s .cubes) mostCubes && leb (s .literals) mostLiterals)
+    (s .ascending && orderedIn (z .inputs) (nodesIn (divisorCounts z counts) apart) (nodesIn (outputCounts z counts) words))
+
+-- the first so many cubes stand from a place on
+pub record Copied (from : List ℕ) (number : ℕ) (old new : List ℕ) (place : ℕ) : Type 0 where
+  pub cubes : number ≤ length (cubesOf from) → cubesOf new ≡ sets (cubesOf old) place (take number (cubesOf from))
+
+-- before the first node
+abbrev pub first : State
+first = record { at = 20; cubes = 0; literals = 0; ascending = true }
+
+-- before the first output: its cubes are put apart from the divisors'
+abbrev pub second : State → State
+second s = record { at = s .at; cubes = 0; literals = s .literals; ascending = s .ascending }
+
+-- words and counts before anything is read
+abbrev pub blankWords : List ℕ
+blankWords = replicate 2176 0
+
+abbrev pub blankCounts : List ℕ
+blankCounts = replicate 96 0
+
+-- the divisors are read
+pub record Half (bits : List Bool) (z : Sizes) (s : State) (apart counts : List ℕ) : Type 0 where
+  pub sized : SizesFit z
+  pub divisors : NodesGot (z .divisors) bits first (getMany (getNode (z .inputs + z .divisors)) (z .divisors) (drop 20 bits)) blankWords apart (z .outputs) blankCounts counts s
+
+-- the outputs too
+pub record Whole (bits : List Bool) (z : Sizes) (divisors : ℕ) (t : State) (apart words counts : List ℕ) : Type 0 where
+  pub s : State
+  pub given : List ℕ
+  pub half : Half bits z s apart given
+  pub cubes : divisors ≡ s .cubes
+  pub outputs : NodesGot (z .outputs) bits (second s) (getMany (getNode (z .inputs + z .divisors)) (z .outputs) (drop (s .at) bits)) blankWords words 0 given counts t

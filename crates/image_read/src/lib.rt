@@ -1,0 +1,583 @@
+// The reader of images: fields in turn, then what is left over, then the sums, then the order. A fault leaves at once.
+use cube::Cube;
+use cube::Found;
+use cube::Literal;
+use cube::Order;
+use cube::Variable;
+use network::Network;
+ghost use mathlib.Core.Path.{_≡_};
+ghost use mathlib.Core.Bool.{cond, not, _&&_};
+ghost use mathlib.Core.List.{[]};
+ghost use Prim.Native.Nat.{_+_, _-_, _*_, _/_, _%_, _<_, _≤_};
+ghost use lib.Dec.{ltb};
+ghost use lib.ListN.{length, getD, take, drop};
+ghost use Rattle.sets.specs.Lists.{all, total};
+ghost use Rattle.sets.specs.Literal.{oppositeOf};
+ghost use Rattle.sets.specs.Sets.{mem};
+ghost use Rattle.sets.specs.Masks.{bit};
+ghost use Rattle.cube.specs.Cube.{lits};
+ghost use Rattle.image_fields.specs.Fields.{valueOf, bitsIn};
+ghost use Rattle.expression.specs.Words.{cubesOf};
+ghost use Rattle.expression.specs.Expression.{ordered};
+ghost use Rattle.network.specs.Handed.{Blank};
+ghost use Rattle.network.specs.Held.{reach};
+ghost use Rattle.network_nodes.specs.Nodes.{cut};
+ghost use Rattle.image_laws.specs.Reading.{getLiterals, getCube, getMany, getNode, padding, readsEarlier, judgeRaw, readImage};
+ghost use Rattle.image_read.specs.Parts.{billions, FieldIs, CubeIs, added, Low, CubesAre, NodesAre, SizesFit, nodesAt, sizesOf, HeadIs, tidy, nodesIn, orderedIn, Counted, Judging, judgedOf, Copied, Half, Whole};
+ghost use Rattle.image_read.specs.Answers.{Told};
+
+pub enum Answer {
+    Accepted,
+    Refused(u32),
+}
+
+// A refusal carries a network of zeros.
+pub struct Image {
+    pub answer: Answer,
+    pub network: Network,
+}
+
+// The number that a field holds; or the image ends before its last bit.
+enum Field {
+    Is(usize),
+    Cut,
+}
+
+// A cube as read: its literals as a set, how many were written, whether they ascend, and the bit after it.
+struct Taken {
+    cube: Cube,
+    literals: usize,
+    ascending: bool,
+    at: usize,
+}
+
+enum Turn {
+    Cube(Taken),
+    Bad(u32),
+}
+
+// How far the image is read: the next bit, the sums of the counts as written, and whether all literals ascend so far.
+struct State {
+    at: usize,
+    cubes: usize,
+    literals: usize,
+    ascending: bool,
+}
+
+enum Step {
+    On(State),
+    Bad(u32),
+}
+
+// The numbers of inputs, outputs and divisors.
+struct Sizes {
+    inputs: usize,
+    outputs: usize,
+    divisors: usize,
+}
+
+enum Head {
+    Of(Sizes),
+    Bad(u32),
+}
+
+// A byte as a number of the machine's width.
+fn wide(b: u8) -> usize
+    ensures { λ r. ⌜ r ≡ b ⌝ }
+{
+    b as usize
+}
+
+// Bit p of the image as a number: the bits of a byte, the most significant first.
+fn bit_at(bytes: &[u8], p: usize) -> usize
+    requires { ⌜ p < 8 * length (now bytes) ⌝ }
+    ensures { λ r. ⌜ r ≡ cond (bit (getD (now (bytes .entry)) (p / 8) 0) (7 - p % 8)) 1 0 ⌝ }
+{
+    let b = wide(bytes[p / 8]);
+    if (b >> (7 - p % 8)) & 1 == 1 { 1 } else { 0 }
+}
+
+// The number in w bits from a bit on, which are all there.
+fn value_at(bytes: &[u8], at: usize, w: usize) -> usize
+    requires { ⌜ (at + w ≤ 8 * length (now bytes)) × (at ≤ billions 6) × (w ≤ 11) ⌝ }
+    ensures { λ r. ⌜ r ≡ valueOf (take w (drop at (bitsIn (now (bytes .entry))))) ⌝ }
+{
+    let mut v = 0;
+    let mut i = 0;
+    while i < w {
+        v = 2 * v + bit_at(bytes, at + i);
+        i += 1;
+    }
+    v
+}
+
+// The field of w bits from a bit on.
+fn field_at(bytes: &[u8], at: usize, w: usize) -> Field
+    requires { ⌜ (at ≤ billions 6) × (1 ≤ w) × (w ≤ 11) ⌝ }
+    ensures { λ r. ⌜ FieldIs w (drop at (bitsIn (now (bytes .entry)))) r ⌝ }
+{
+    if bytes.len() < (at + w + 7) / 8 {
+        return Field::Cut;
+    }
+    Field::Is(value_at(bytes, at, w))
+}
+
+// Whether all literals of c are below l.
+fn is_below(c: Cube, l: Literal) -> bool
+    ensures { λ r. ⌜ r ≡ all (λ x. ltb x (l .0)) (lits c) ⌝ }
+{
+    let f = cube_order::first_from(c, l);
+    match f {
+        Found::At(_) => false,
+        Found::Nothing => true,
+    }
+}
+
+// Whether l is of one of v variables and its opposite is not in c.
+fn is_allowed(c: Cube, l: Literal, v: usize) -> bool
+    ensures { λ r. ⌜ r ≡ (ltb (l .0 / 2) v && not (mem (oppositeOf (l .0)) (lits c))) ⌝ }
+{
+    let x = cube::variable_of(l);
+    if x.0 as usize >= v {
+        return false;
+    }
+    let o = cube::opposite(l);
+    !cube::has(c, o)
+}
+
+// Whether both hold.
+fn both(a: bool, b: bool) -> bool
+    ensures { λ r. ⌜ r ≡ (a && b) ⌝ }
+{
+    if !a {
+        return false;
+    }
+    b
+}
+
+// So many literals of v variables, from a bit on.
+fn literals(bytes: &[u8], start: usize, v: usize, k: usize) -> Turn
+    requires { ⌜ (start ≤ billions 5) × (v ≤ 64) × (k ≤ 64) ⌝ }
+    ensures { λ r. ⌜ CubeIs 448 (bitsIn (now (bytes .entry))) start (getLiterals v k [] (drop start (bitsIn (now (bytes .entry))))) r ⌝ }
+{
+    let mut seen = cube::empty();
+    let mut ascending = true;
+    let mut at = start;
+    let mut i = 0;
+    while i < k {
+        let f = field_at(bytes, at, 7);
+        let Field::Is(x) = f else {
+            return Turn::Bad(11);
+        };
+        let l = Literal(x as u32);
+        if !is_allowed(seen, l, v) {
+            return Turn::Bad(12);
+        }
+        ascending = both(ascending, is_below(seen, l));
+        seen = cube::with(seen, l);
+        at += 7;
+        i += 1;
+    }
+    Turn::Cube(Taken {
+        cube: seen,
+        literals: k,
+        ascending,
+        at,
+    })
+}
+
+// The cube from a bit on.
+fn cube_at(bytes: &[u8], at: usize, v: usize) -> Turn
+    requires { ⌜ (at ≤ billions 4) × (v ≤ 64) ⌝ }
+    ensures { λ r. ⌜ CubeIs 512 (bitsIn (now (bytes .entry))) at (getCube v (drop at (bitsIn (now (bytes .entry))))) r ⌝ }
+{
+    let f = field_at(bytes, at, 7);
+    let Field::Is(k) = f else {
+        return Turn::Bad(11);
+    };
+    if k > v {
+        return Turn::Bad(12);
+    }
+    literals(bytes, at + 7, v, k)
+}
+
+// One cube more.
+fn added(s: State, c: Taken) -> State
+    requires { ⌜ Low (billions 5) s × (c .literals ≤ 64) ⌝ }
+    ensures { λ r. ⌜ r ≡ added s c ⌝ }
+{
+    let ascending = both(s.ascending, c.ascending);
+    State {
+        at: c.at,
+        cubes: s.cubes + 1,
+        literals: s.literals + c.literals,
+        ascending,
+    }
+}
+
+// So many cubes, put one after the other; past the last place nothing is put.
+fn cubes(bytes: &[u8], start: State, v: usize, k: usize, words: &mut [u64]) -> Step
+    requires { ⌜ Low (billions 3) start × (v ≤ 64) × (k ≤ 1088) ⌝ }
+    ensures { λ r. ⌜ CubesAre 600000 (bitsIn (now (bytes .entry))) start (getMany (getCube v) k (drop (start .at) (bitsIn (now (bytes .entry))))) (now (words .entry)) (now (words .exit)) r ⌝ }
+{
+    let mut s = start;
+    let mut i = 0;
+    while i < k {
+        let t = cube_at(bytes, s.at, v);
+        match t {
+            Turn::Bad(e) => {
+                return Step::Bad(e);
+            }
+            Turn::Cube(c) => {
+                expression::put_cube(words, s.cubes, c.cube);
+                s = added(s, c);
+            }
+        }
+        i += 1;
+    }
+    Step::On(s)
+}
+
+// The node from here on: its cube count and its cubes.
+fn node(bytes: &[u8], start: State, v: usize, words: &mut [u64]) -> Step
+    requires { ⌜ Low (billions 2) start × (v ≤ 64) ⌝ }
+    ensures { λ r. ⌜ CubesAre 1048576 (bitsIn (now (bytes .entry))) start (getNode v (drop (start .at) (bitsIn (now (bytes .entry))))) (now (words .entry)) (now (words .exit)) r ⌝ }
+{
+    let f = field_at(bytes, start.at, 11);
+    let Field::Is(k) = f else {
+        return Step::Bad(11);
+    };
+    if k > network::CUBES {
+        return Step::Bad(12);
+    }
+    let mut s = start;
+    s.at = start.at + 11;
+    cubes(bytes, s, v, k, words)
+}
+
+// So many nodes, their counts from place `first` on.
+fn nodes(
+    bytes: &[u8],
+    start: State,
+    v: usize,
+    first: usize,
+    number: usize,
+    words: &mut [u64],
+    counts: &mut [usize],
+) -> Step
+    requires { ⌜ Low (billions 1) start × (v ≤ 64) × (first + number ≤ length (now counts)) × (number ≤ 96) ⌝ }
+    ensures { λ r. ⌜ NodesAre number (bitsIn (now (bytes .entry))) start (getMany (getNode v) number (drop (start .at) (bitsIn (now (bytes .entry))))) (now (words .entry)) (now (words .exit)) first (now (counts .entry)) (now (counts .exit)) r ⌝ }
+{
+    let mut s = start;
+    let mut i = 0;
+    while i < number {
+        let t = node(bytes, s, v, words);
+        let Step::On(n) = t else {
+            return t;
+        };
+        counts[first + i] = n.cubes - s.cubes;
+        s = n;
+        i += 1;
+    }
+    Step::On(s)
+}
+
+// The numbers that the first fields give: 12 where there are too many variables.
+fn sizes_of(a: usize, b: usize, k: usize) -> Head
+    requires { ⌜ (a < 32) × (b < 32) × (k < 64) ⌝ }
+    ensures { λ r. ⌜ r ≡ sizesOf a b k ⌝ }
+{
+    if a + 1 + k > network::VARIABLES {
+        return Head::Bad(12);
+    }
+    Head::Of(Sizes {
+        inputs: a + 1,
+        outputs: b + 1,
+        divisors: k,
+    })
+}
+
+// The fields before the first node: 4 bits and then 16, of which none is refused before the last is read.
+fn front(bytes: &[u8]) -> Head
+    ensures { λ r. ⌜ HeadIs (bitsIn (now (bytes .entry))) r ⌝ }
+{
+    if bytes.len() < 1 {
+        return Head::Bad(11);
+    }
+    if value_at(bytes, 0, 4) != 1 {
+        return Head::Bad(12);
+    }
+    if bytes.len() < 3 {
+        return Head::Bad(11);
+    }
+    sizes_of(
+        value_at(bytes, 4, 5),
+        value_at(bytes, 9, 5),
+        value_at(bytes, 14, 6),
+    )
+}
+
+// Whether only zero bits are left, fewer than a byte.
+fn is_padded(bytes: &[u8], at: usize) -> bool
+    requires { ⌜ at ≤ billions 6 ⌝ }
+    ensures { λ r. ⌜ r ≡ padding (drop at (bitsIn (now (bytes .entry)))) ⌝ }
+{
+    let n = bytes.len();
+    if (at + 7) / 8 < n {
+        return false;
+    }
+    if 8 * n <= at {
+        return true;
+    }
+    value_at(bytes, at, 8 * n - at) == 0
+}
+
+// Whether each cube comes before the next.
+fn is_ordered(f: &[u64]) -> bool
+    ensures { λ r. ⌜ r ≡ ordered (cubesOf (now (f .entry))) ⌝ }
+{
+    let mut i = 0;
+    while i + 1 < expression::number(f) {
+        let o = cube_order::compare(expression::cube_at(f, i), expression::cube_at(f, i + 1));
+        let Order::Before = o else {
+            return false;
+        };
+        i += 1;
+    }
+    true
+}
+
+// Whether the cubes are an expression in cube order.
+fn is_tidy(f: &[u64]) -> bool
+    ensures { λ r. ⌜ r ≡ tidy (cubesOf (now (f .entry))) ⌝ }
+{
+    if !expression_accept::is_expression(f) {
+        return false;
+    }
+    is_ordered(f)
+}
+
+// Whether each node is an expression in cube order.
+fn all_tidy(words: &[u64], counts: &[usize]) -> bool
+    requires { ⌜ total (λ c. c) (now counts) ≤ 1088 ⌝ }
+    ensures { λ r. ⌜ r ≡ all tidy (cut (now (counts .entry)) (cubesOf (now (words .entry)))) ⌝ }
+{
+    let mut a = 0;
+    let mut i = 0;
+    while i < counts.len() {
+        let e = a + counts[i];
+        if !is_tidy(expression::part(words, a, e)) {
+            return false;
+        }
+        a = e;
+        i += 1;
+    }
+    true
+}
+
+// Whether every literal is of one of v variables.
+fn reaches(f: &[u64], v: usize) -> bool
+    requires { ⌜ v ≤ 64 ⌝ }
+    ensures { λ r. ⌜ r ≡ reach v (cubesOf (now (f .entry))) ⌝ }
+{
+    let next = cube::plain(Variable(v as u32));
+    let mut i = 0;
+    while i < expression::number(f) {
+        if !is_below(expression::cube_at(f, i), next) {
+            return false;
+        }
+        i += 1;
+    }
+    true
+}
+
+// Whether each divisor, numbered from n on, reads earlier variables alone.
+fn all_earlier(words: &[u64], counts: &[usize], n: usize) -> bool
+    requires { ⌜ (total (λ c. c) (now counts) ≤ 1088) × (n + length (now counts) ≤ 64) ⌝ }
+    ensures { λ r. ⌜ r ≡ readsEarlier n (cut (now (counts .entry)) (cubesOf (now (words .entry)))) ⌝ }
+{
+    let mut a = 0;
+    let mut i = 0;
+    while i < counts.len() {
+        let e = a + counts[i];
+        if !reaches(expression::part(words, a, e), n + i) {
+            return false;
+        }
+        a = e;
+        i += 1;
+    }
+    true
+}
+
+// Whether the nodes stand in the one order.
+fn in_order(
+    ascending: bool,
+    inputs: usize,
+    apart: &[u64],
+    divisors: &[usize],
+    words: &[u64],
+    outputs: &[usize],
+) -> bool
+    requires { ⌜ Counted (now divisors) (now outputs) × (inputs + length (now divisors) ≤ 64) ⌝ }
+    ensures { λ r. ⌜ r ≡ (ascending && orderedIn inputs (nodesIn (now (divisors .entry)) (now (apart .entry))) (nodesIn (now (outputs .entry)) (now (words .entry)))) ⌝ }
+{
+    if !ascending {
+        return false;
+    }
+    if !all_tidy(apart, divisors) {
+        return false;
+    }
+    if !all_tidy(words, outputs) {
+        return false;
+    }
+    all_earlier(apart, divisors, inputs)
+}
+
+// 11 for what is left over, then 12 for the sums, then 13 for the order.
+fn judge(bytes: &[u8], s: State, z: Sizes, apart: &[u64], words: &[u64], counts: &[usize]) -> Answer
+    requires { ⌜ Judging s z (now counts) ⌝ }
+    ensures { λ r. ⌜ r ≡ judgedOf (bitsIn (now (bytes .entry))) s z (now (apart .entry)) (now (words .entry)) (now (counts .entry)) ⌝ }
+{
+    if !is_padded(bytes, s.at) {
+        return Answer::Refused(11);
+    }
+    if s.cubes > network::CUBES {
+        return Answer::Refused(12);
+    }
+    if s.literals > network::LITERAL_COUNT as usize {
+        return Answer::Refused(12);
+    }
+    let m = z.outputs;
+    let e = m + z.divisors;
+    if in_order(
+        s.ascending,
+        z.inputs,
+        apart,
+        &counts[m..e],
+        words,
+        &counts[0..m],
+    ) {
+        return Answer::Accepted;
+    }
+    Answer::Refused(13)
+}
+
+// The first so many cubes of a slice, put from a place on.
+fn copy(from: &[u64], number: usize, to: &mut [u64], place: usize)
+    requires { ⌜ (number ≤ 1088) × (place ≤ 1088) ⌝ }
+    ensures { λ r. ⌜ Copied (now (from .entry)) number (now (to .entry)) (now (to .exit)) place ⌝ }
+{
+    let mut i = 0;
+    while i < number {
+        expression::put_cube(to, place + i, expression::cube_at(from, i));
+        i += 1;
+    }
+}
+
+// A refusal, with a network of zeros.
+fn refused(k: u32) -> Image
+    ensures { λ r. ⌜ (r .answer ≡ Answer.Refused k) × Blank (r .network) ⌝ }
+{
+    Image {
+        answer: Answer::Refused(k),
+        network: network::blank(),
+    }
+}
+
+// All fields are read: the verdict, and the network with its outputs' cubes first.
+fn finish(
+    bytes: &[u8],
+    z: Sizes,
+    divisors: usize,
+    t: State,
+    apart: &[u64],
+    held: [u64; network::WORDS],
+    counts: [usize; network::NODES],
+) -> Image
+    requires { ⌜ Whole (bitsIn (now bytes)) z divisors t (now apart) held counts ⌝ }
+    ensures { λ r. ⌜ Told (judgeRaw (nodesAt (bitsIn (now (bytes .entry))) z)) r ⌝ }
+{
+    let mut s = t;
+    s.cubes = divisors + t.cubes;
+    let a = judge(bytes, s, z, apart, &held, &counts);
+    match a {
+        Answer::Refused(k) => refused(k),
+        Answer::Accepted => {
+            let mut words = held;
+            copy(apart, divisors, &mut words, t.cubes);
+            Image {
+                answer: a,
+                network: Network {
+                    inputs: z.inputs,
+                    outputs: z.outputs,
+                    divisors: z.divisors,
+                    counts,
+                    words,
+                },
+            }
+        }
+    }
+}
+
+// The divisors are read: now the outputs, whose counts stand before theirs.
+fn rest(bytes: &[u8], z: Sizes, s: State, apart: &[u64], given: [usize; network::NODES]) -> Image
+    requires { ⌜ Half (bitsIn (now bytes)) z s (now apart) given ⌝ }
+    ensures { λ r. ⌜ Told (judgeRaw (nodesAt (bitsIn (now (bytes .entry))) z)) r ⌝ }
+{
+    let mut counts = given;
+    let mut words = [0u64; network::WORDS];
+    let mut next = s;
+    next.cubes = 0;
+    let o = nodes(
+        bytes,
+        next,
+        z.inputs + z.divisors,
+        0,
+        z.outputs,
+        &mut words,
+        &mut counts,
+    );
+    match o {
+        Step::Bad(k) => refused(k),
+        Step::On(t) => finish(bytes, z, s.cubes, t, apart, words, counts),
+    }
+}
+
+// The nodes of an image, divisors first.
+fn body(bytes: &[u8], z: Sizes) -> Image
+    requires { ⌜ SizesFit z ⌝ }
+    ensures { λ r. ⌜ Told (judgeRaw (nodesAt (bitsIn (now (bytes .entry))) z)) r ⌝ }
+{
+    let mut counts = [0usize; network::NODES];
+    let mut apart = [0u64; network::WORDS];
+    let start = State {
+        at: 20,
+        cubes: 0,
+        literals: 0,
+        ascending: true,
+    };
+    let d = nodes(
+        bytes,
+        start,
+        z.inputs + z.divisors,
+        z.outputs,
+        z.divisors,
+        &mut apart,
+        &mut counts,
+    );
+    match d {
+        Step::Bad(k) => refused(k),
+        Step::On(s) => rest(bytes, z, s, &apart, counts),
+    }
+}
+
+// The network of an image, or the number of its refusal.
+pub fn read(bytes: &[u8]) -> Image
+    ensures { λ r. ⌜ Told (readImage (now (bytes .entry))) r ⌝ }
+{
+    let h = front(bytes);
+    match h {
+        Head::Bad(k) => refused(k),
+        Head::Of(z) => body(bytes, z),
+    }
+}

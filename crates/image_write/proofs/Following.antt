@@ -1,0 +1,89 @@
+-- What bits come next: of a field, of the literals of a cube, of the cubes of a node, of nodes. Assumes nothing.
+use Prim.Native.Nat.{ℕ, suc, _+_, _-_, _<_, _≤_}
+use mathlib.Core.Path.{_≡_, sym, ap, ap₂, _∙_}
+use mathlib.Core.Bool.{Bool}
+use mathlib.Core.List.{List, [], _∷_, _++_, map, append-nil}
+use native.Mathlib.Omega.{arith}
+use lib.ListN.{length, getD, take, drop, length-take, length-drop, drop-of-length-le}
+use Rattle.sets.specs.Masks.{bit}
+use Rattle.sets.proofs.Places.{drop-next}
+use Rattle.expression.specs.Words.{cubesOf}
+use Rattle.image_fields.specs.Fields.{bitsOf, fieldBits}
+use Rattle.network_nodes.specs.Nodes.{cut}
+use Rattle.network.specs.Handed.{flat}
+use Rattle.network_nodes.proofs.Cutting.{cut-node, cut-length}
+use Rattle.image_laws.specs.Image.{field, cubeFields, nodeFields, headFields}
+use Rattle.image_laws.proofs.Fielding.{fields-append}
+use Rattle.image_write.specs.Parts.{nodesFrom, bitsFrom}
+
+-- ---- a field
+
+pub field-next : (i v : ℕ) (b : Bool) → 0 < i → b ≡ bit v (i - 1) → bitsOf i v ≡ (b ∷ []) ++ bitsOf (i - 1) v
+unfolding bitsOf
+field-next i v b h e = let s : i ≡ suc (i - 1) = omega arith in ap (λ k. bitsOf k v) s ∙ ap (_∷ bitsOf (i - 1) v) (sym e)
+
+pub field-none : (i v : ℕ) → i ≡ 0 → bitsOf i v ≡ []
+unfolding bitsOf
+field-none i v e = rw e
+
+-- ---- the head
+
+pub head-bits : (n m k : ℕ) → fieldBits (headFields n m k) ≡ bitsOf 4 1 ++ (bitsOf 5 (n - 1) ++ (bitsOf 5 (m - 1) ++ bitsOf 6 k))
+unfolding fieldBits headFields
+head-bits n m k = ap (λ (l : List Bool). bitsOf 4 1 ++ (bitsOf 5 (n - 1) ++ (bitsOf 5 (m - 1) ++ l))) (append-nil (bitsOf 6 k))
+
+-- ---- a cube
+
+-- the literals' fields
+abbrev pub literalBits : List ℕ → List Bool
+literalBits c = fieldBits (map (field 7) c)
+
+pub cube-bits : (c : List ℕ) (n : ℕ) → n ≡ length c → fieldBits (cubeFields c) ≡ bitsOf 7 n ++ literalBits c
+unfolding fieldBits cubeFields
+cube-bits c n e = ap (λ k. bitsOf 7 k ++ literalBits c) (sym e)
+
+pub literals-next : (c d : List ℕ) (x : ℕ) → c ≡ x ∷ d → literalBits c ≡ bitsOf 7 x ++ literalBits d
+unfolding fieldBits
+literals-next c d x e = ap literalBits e
+
+pub literals-none : (c : List ℕ) → c ≡ [] → literalBits c ≡ []
+unfolding fieldBits
+literals-none c e = ap literalBits e
+
+-- ---- a node
+
+-- the fields of the cubes from i on
+abbrev pub cubesBits : List (List ℕ) → ℕ → List Bool
+cubesBits f i = fieldBits (flat (map cubeFields (drop i f)))
+
+pub node-bits : (f : List (List ℕ)) (n : ℕ) → n ≡ length f → fieldBits (nodeFields f) ≡ bitsOf 11 n ++ cubesBits f 0
+unfolding fieldBits nodeFields
+node-bits f n e = ap (λ k. bitsOf 11 k ++ cubesBits f 0) (sym e)
+
+pub cubes-next : (f : List (List ℕ)) (i : ℕ) (c : List ℕ) → i < length f → c ≡ getD f i [] → cubesBits f i ≡ fieldBits (cubeFields c) ++ cubesBits f (i + 1)
+cubes-next f i c h e =
+    ap (λ (l : List (List ℕ)). fieldBits (flat (map cubeFields l))) (drop-next f i [] h ∙ ap (_∷ drop (i + 1) f) (sym e)) ∙ fields-append (cubeFields c) (flat (map cubeFields (drop (i + 1) f)))
+
+pub cubes-none : (f : List (List ℕ)) (i : ℕ) → length f ≤ i → cubesBits f i ≡ []
+unfolding fieldBits
+cubes-none f i h = ap (λ (l : List (List ℕ)). fieldBits (flat (map cubeFields l))) (drop-of-length-le f h)
+
+-- ---- nodes
+
+module _ (words counts : List ℕ) where
+  abbrev all : List (List (List ℕ))
+  all = cut counts (cubesOf words)
+
+  pub nodes-next : (i e : ℕ) (f : List (List ℕ)) → i < e → e ≤ length counts → f ≡ getD all i [] → bitsFrom i e words counts ≡ fieldBits (nodeFields f) ++ bitsFrom (i + 1) e words counts
+  nodes-next i e f h k q =
+      let n : e - i ≡ suc (e - (i + 1)) = omega arith in
+      let d : drop i all ≡ f ∷ drop (i + 1) all = drop-next all i [] (omega (arith, cut-length counts (cubesOf words))) ∙ ap (_∷ drop (i + 1) all) (sym q) in
+      ap₂ (λ (x : ℕ) (l : List (List (List ℕ))). fieldBits (flat (map nodeFields (take x l)))) n d ∙ fields-append (nodeFields f) (flat (map nodeFields (nodesFrom (i + 1) e words counts)))
+
+  pub nodes-none : (i e : ℕ) → e ≤ i → bitsFrom i e words counts ≡ []
+  unfolding fieldBits
+  nodes-none i e h = let z : e - i ≡ 0 = omega arith in ap (λ x. fieldBits (flat (map nodeFields (take x (drop i all))))) z
+
+  -- a node has no more cubes than there are
+  pub node-few : (i : ℕ) (f : List (List ℕ)) → f ≡ getD all i [] → length f ≤ length (cubesOf words)
+  node-few i f e = rw (e, cut-node counts (cubesOf words) i, length-take, length-drop) (omega arith)

@@ -1,0 +1,142 @@
+-- What the writer answers: 10, 9, or the image of the network renumbered; no two answers differ. Assumes nothing.
+use Prim.Native.Nat.{ℕ, _+_, _-_, _<_, _≤_}
+use mathlib.Core.Path.{_≡_, refl, sym, ap, ap₂, _∙_}
+use mathlib.Core.Bool.{Bool, true, false}
+use mathlib.Core.List.{List, [], _++_}
+use mathlib.Core.Option.{Option, none, some}
+use native.Mathlib.Omega.{arith}
+use borrow.Author.Tests.{lt-ltb, le-ltb}
+use lib.ListN.{length, take, drop, length-append, length-map}
+use lib.Seq.{take-at, drop-at, take-take, take-add}
+use Rattle.expression.specs.Words.{cubesOf}
+use Rattle.expression.proofs.Words.{cubes-length}
+use Rattle.image_fields.specs.Fields.{bytesFor, bytesFrom, fieldBits}
+use Rattle.image_fields.proofs.Bytes.{bytes-length}
+use Rattle.network.specs.Net.{Node, Net, nodes, cubesAt}
+use Rattle.network.specs.Listing.{listing}
+use Rattle.network.specs.Held.{netOf, rules}
+use Rattle.network_nodes.specs.Nodes.{cut}
+use Rattle.network.specs.Handed.{Holds}
+use Rattle.network.specs.declared.Network.{Network}
+use Rattle.network.specs.declared.Judged.the-variants.{Accepted, Refused}
+use Rattle.network.proofs.Handing.{cut-flat, used-held}
+use Rattle.network.proofs.Holding.{rules-iff, rules-sound, rules-outputs, rules-divisors}
+use Rattle.network.proofs.Numbering.{numbered-length}
+use Rattle.network_nodes.proofs.Cutting.{cut-take}
+use Rattle.image_laws.specs.Renumber.{newNode, renumbered}
+use Rattle.image_laws.specs.Image.{headFields, netFields, netBytes, imageOf}
+use Rattle.image_laws.proofs.Fielding.{divisorCubes, nodeBits, net-bits, net-bits-length, nodes-bits-length}
+use Rattle.image_number.specs.Answers.{toldBy}
+use Rattle.image_number.specs.declared.Renumbered.{Renumbered}
+use Rattle.image_write.specs.Answers.{refusedBy, Told}
+use Rattle.image_write.specs.Parts.{overlaid, LaidBits, nodesFrom, bitsFrom, allBits, Held, Writable}
+use Rattle.image_write.specs.declared.Wrote.{Wrote}
+use Rattle.image_write.specs.declared.Wrote.the-variants as wrote
+
+-- ---- what renumbering answered
+
+pub by-rules : (b : Bool) (n : Network) (r : Renumbered) → toldBy b n r → r .answer ≡ Accepted → (b ≡ true) × Holds (r .network) (renumbered (netOf n))
+by-rules true n r t e = (refl, t .1)
+by-rules false n r t e = let z : Refused 10 ≡ Accepted = sym (t .0) ∙ e in let y : _≡_ {A = ℕ} 0 1 = cc in absurd (omega arith)
+
+pub by-refusal : (b : Bool) (n : Network) (r : Renumbered) (k : ℕ) → toldBy b n r → r .answer ≡ Refused k → b ≡ false
+by-refusal true n r k t e = let z : Accepted ≡ Refused k = sym (t .0) ∙ e in let y : _≡_ {A = ℕ} 0 1 = cc in absurd (omega arith)
+by-refusal false n r k t e = refl
+
+-- ---- the bits of the words are those of the network that they hold
+
+module _ (r : Network) (m : Net) (h : Holds r m) where
+  abbrev all : List (List (List ℕ))
+  all = cut (r .counts) (cubesOf (r .words))
+
+  abbrev e : ℕ
+  e = r .outputs + r .divisors
+
+  many : length (nodes m) ≡ e
+  many = length-append (m .outputs) (divisorCubes m) ∙ ap₂ _+_ (sym (h .outputs)) (length-map (m .divisors) (λ (d : Node). d .cubes) ∙ sym (h .divisors))
+
+  front : take e all ≡ nodes m
+  front = sym (cut-take e (r .counts) (cubesOf (r .words))) ∙ ap₂ cut (used-held r m h) (h .cubes) ∙ cut-flat (nodes m) _
+
+  from-zero : (i : ℕ) → nodesFrom 0 i (r .words) (r .counts) ≡ take i all
+  from-zero i = let z : i - 0 ≡ i = omega arith in ap (λ j. take j all) z
+
+  outputs-held : take (r .outputs) all ≡ m .outputs
+  outputs-held = sym (take-take (r .outputs) e all (omega arith)) ∙ ap (take (r .outputs)) front ∙ take-at (m .outputs) (divisorCubes m) (r .outputs) (sym (h .outputs))
+
+  divisors-held : nodesFrom (r .outputs) e (r .words) (r .counts) ≡ divisorCubes m
+  divisors-held =
+      let z : e - r .outputs ≡ r .divisors = omega arith in
+      ap (λ j. take j (drop (r .outputs) all)) z
+      ∙ sym (drop-at (take (r .outputs) all) (take (r .divisors) (drop (r .outputs) all)) (r .outputs) (ap length outputs-held ∙ sym (h .outputs)))
+      ∙ ap (drop (r .outputs)) (sym (take-add (r .outputs) (r .divisors) all) ∙ front)
+      ∙ drop-at (m .outputs) (divisorCubes m) (r .outputs) (sym (h .outputs))
+
+  pub bits-held : allBits (r .inputs) (r .outputs) (r .divisors) (r .words) (r .counts) ≡ fieldBits (netFields m)
+  bits-held =
+      ap₂ _++_ (ap₂ (λ (i o : ℕ). fieldBits (headFields i o (r .divisors))) (h .inputs) (h .outputs) ∙ ap (λ d. fieldBits (headFields (m .inputs) (length (m .outputs)) d)) (h .divisors))
+      (ap₂ (λ (x y : List (List (List ℕ))). nodeBits x ++ nodeBits y) divisors-held (from-zero (r .outputs) ∙ outputs-held))
+      ∙ sym (net-bits m)
+
+  -- so many of them
+  pub size-held : 20 + length (bitsFrom 0 e (r .words) (r .counts)) ≡ length (fieldBits (netFields m))
+  size-held = omega (arith, ap (λ (x : List (List (List ℕ))). length (nodeBits x)) (from-zero e ∙ front), nodes-bits-length (nodes m), net-bits-length m)
+
+-- ---- the network renumbered
+
+module _ (n : Network) (slots : length (n .counts) ≡ 96) (lawful : rules n ≡ true) (r : Network) (h : Holds r (renumbered (netOf n))) where
+  -- it has inputs, outputs and divisors as before
+  pub sizes : (1 ≤ r .inputs) × (1 ≤ r .outputs) × (r .outputs + r .divisors ≤ 96)
+  unfolding renumbered
+  sizes =
+      let f = (rules-iff n slots) .0 lawful in
+      let o : r .outputs ≡ n .outputs = h .outputs ∙ length-map ((netOf n) .outputs) _ ∙ rules-outputs n slots lawful in
+      let d : r .divisors ≡ n .divisors = h .divisors ∙ numbered-length (n .inputs) _ ∙ length-map (listing (netOf n)) (λ v. newNode (n .inputs) (listing (netOf n)) (cubesAt v ((netOf n) .divisors))) ∙ (rules-sound n lawful) .whole ∙ rules-divisors n slots lawful in
+      (omega (arith, h .inputs, f .inputs), omega (arith, o, f .outputs), omega (arith, o, d, f .outputs, f .inputs, f .variables))
+
+  module _ (places : length (r .counts) ≡ 96) (whole : length (r .words) ≡ 2176) where
+    pub held : Held (r .words) (r .counts) (r .outputs + r .divisors)
+    held = record { counted = omega (arith, sizes .2); nodes = sizes .2; few = omega (arith, cubes-length (r .words)) }
+
+    module _ (o : List ℕ) (bits : ℕ) (b : bits ≡ length (bitsFrom 0 (r .outputs + r .divisors) (r .words) (r .counts))) where
+      image-length : length (imageOf (netOf n)) ≡ bytesFor (20 + bits)
+      unfolding imageOf netBytes
+      image-length =
+          bytes-length (fieldBits (netFields (renumbered (netOf n))))
+          ∙ ap bytesFor (sym (size-held r (renumbered (netOf n)) h) ∙ ap (20 +_) (sym b))
+
+      -- 9 where the image is longer
+      pub told-long : length o < bytesFor (20 + bits) → Told (refusedBy n o) n o o (wrote.Refused 9)
+      unfolding refusedBy
+      told-long l = rw (lawful, lt-ltb (length o) (length (imageOf (netOf n))) (omega (arith, image-length))) (refl, refl)
+
+      module _ (l : bytesFor (20 + bits) ≤ length o) where
+        pub ready : bits ≤ 96000000 → Writable (r .inputs) (r .outputs) (r .divisors) (r .words) (r .counts) o
+        unfolding bytesFrom
+        ready s =
+            let t = ap length (bits-held r (renumbered (netOf n)) h) ∙ sym (size-held r (renumbered (netOf n)) h) in
+            record {
+              inputs = sizes .0;
+              outputs = sizes .1;
+              held = held;
+              ready = record { bits = []; old = o; number = refl; bytes = refl; room = omega (arith, t); short = omega (arith, t) };
+            }
+
+        -- the image at the front, the rest as it was
+        pub told-written : (o′ : List ℕ) (p : ℕ) → LaidBits o o′ 0 p (allBits (r .inputs) (r .outputs) (r .divisors) (r .words) (r .counts)) → Told (refusedBy n o) n o o′ (wrote.Bytes (bytesFor (20 + bits)))
+        unfolding refusedBy bytesFrom imageOf netBytes
+        told-written o′ p k =
+            let w : o′ ≡ imageOf (netOf n) ++ drop (length (imageOf (netOf n))) o =
+            k .adds [] o refl refl ∙ ap (λ (u : List Bool). overlaid u o) (bits-held r (renumbered (netOf n)) h)
+            ∙ ap (λ i. imageOf (netOf n) ++ drop i o) (sym (bytes-length (fieldBits (netFields (renumbered (netOf n)))))) in
+            rw (lawful, le-ltb (length o) (length (imageOf (netOf n))) (omega (arith, image-length))) (ap wrote.Bytes (sym image-length), w)
+
+pub told-rule : (n : Network) (o : List ℕ) → rules n ≡ false → Told (refusedBy n o) n o o (wrote.Refused 10)
+unfolding refusedBy
+told-rule n o e = rw e (refl, refl)
+
+-- ---- one answer
+
+pub told-one : (q : Option ℕ) (n : Network) (o a b : List ℕ) (r p : Wrote) → Told q n o a r → Told q n o b p → (r ≡ p) × (a ≡ b)
+told-one none n o a b r p x y = (x .0 ∙ sym (y .0), x .1 ∙ sym (y .1))
+told-one (some k) n o a b r p x y = (x .0 ∙ sym (y .0), x .1 ∙ sym (y .1))

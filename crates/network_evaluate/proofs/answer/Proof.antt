@@ -1,0 +1,32 @@
+-- `network_evaluate::answer` meets its contract: the divisors settle along the listing, and the outputs are read. Assumes nothing.
+use mathlib.Core.Path.{_∙_}
+use native.Mathlib.Omega.{arith}
+use Rattle.network.specs.Parts.{heldIn, Sized}
+use Rattle.network.proofs.Limits.{rules-sized}
+use Rattle.network_listing.proofs.Answering.{ordered-listing}
+use Rattle.network_evaluate.proofs.Answering.{answer-is}
+use Rattle.network_evaluate.proofs.answer.Statement.{statement}
+use Rattle.network_evaluate.proofs.answer.Tie as tie
+
+sized : (s : tie.Start) → Sized (s .args .n) (s .args .m) (s .args .k) (s .args .words .now) (s .args .counts .now)
+sized s = rules-sized (heldIn (s .args .n) (s .args .m) (s .args .k) (s .args .counts .now) (s .args .words .now)) (s .pre .slots) (s .pre .whole) (s .pre .lawful)
+
+given-requires : tie.Need-given-requires
+given-requires c κs = omega (arith, sized (c .before .before .before) .variables)
+
+settle-requires : tie.Need-settle-requires
+settle-requires c κs =
+    let s = c .before .before .before .before in
+    ordered-listing (s .args .n) (s .args .m) (s .args .k) (s .args .words .now) (s .args .counts .now) (sized s) _ _ (s .pre .listed)
+
+collect-requires : tie.Need-collect-requires
+collect-requires c κs = let z = sized (c .before .before .before .before .before) in (omega (arith, z .counted), z .narrow)
+
+returns : tie.Need-returns
+returns c =
+    let s = c .before .before .before .before .before .before in
+    c .collect .ensures
+    ∙ answer-is (s .args .n) (s .args .m) (s .args .k) (s .args .words .now) (s .args .counts .now) _ _ (s .pre .listed) (s .pre .lawful) (s .args .setting) _ _ (c .before .before .given .ensures) (c .before .settle .ensures)
+
+pub answer-spec : {M : Type 1} → statement M
+answer-spec = tie.close (tie.spec given-requires settle-requires collect-requires returns)

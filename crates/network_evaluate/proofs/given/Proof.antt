@@ -1,0 +1,63 @@
+-- `network_evaluate::given` meets its contract. The loop's invariant: the cube has the true literals of the inputs passed. Assumes nothing.
+use mathlib.Core.List.{[]}
+use mathlib.Core.Path.{_∙_, ap, subst}
+use Prim.Native.Nat.{_≤_, _-_}
+use native.Mathlib.Omega.{arith}
+use borrow.Author.Needs.{needs}
+use Rattle.sets.specs.Masks.{bit}
+use Rattle.sets.proofs.Digits.{bit-test}
+use Rattle.cube.specs.Cube.{lits, joined}
+use Rattle.network_known.specs.Known.{Truths, signed}
+use Rattle.network_known.proofs.Knowing.{joined-signed, truths-none, truths-input}
+use Rattle.network_evaluate.proofs.given.Statement.{statement}
+use Rattle.network_evaluate.proofs.given.Tie as tie
+
+abbrev Inv-loop : tie.InvT-loop
+Inv-loop n setting c₀ v₀ c v = (v ≤ n) × Truths v [] (bit setting) (lits c) × (n ≤ 64)
+
+abbrev μ-loop : tie.MeasureT-loop
+μ-loop n setting c₀ v₀ c v = n - v
+
+empty-requires : tie.Need-empty-requires Inv-loop μ-loop
+empty-requires c κs = search needs
+
+loop-holds : tie.Need-loop-holds Inv-loop μ-loop
+loop-holds c = (search needs, truths-none _ (c .empty .ensures), search needs)
+
+shr-valued : tie.Need-shr-valued Inv-loop μ-loop
+shr-valued c = omega arith
+
+valued-requires : tie.Need-valued-requires Inv-loop μ-loop
+valued-requires c κs = search needs
+
+add-v : tie.Need-add-v Inv-loop μ-loop
+add-v c = omega arith
+
+loop-less : tie.Need-loop-less Inv-loop μ-loop
+loop-less c = omega arith
+
+loop-again : tie.Need-loop-again Inv-loop μ-loop
+loop-again c =
+    let l = c .before .before in
+    let s = l .before .before .args .setting in
+    (omega arith, truths-input (l .loop .v) (bit s) (c .valued .ensures ∙ ap (λ b. joined (signed (l .loop .v) b) (lits (l .loop .c))) (bit-test s (l .loop .v)) ∙ joined-signed (l .loop .v) (bit s (l .loop .v)) (lits (l .loop .c)) (omega arith)) (l .loop .inv .1), omega arith)
+
+returns : tie.Need-returns Inv-loop μ-loop
+returns c =
+    let l = c .before in
+    subst (λ x. Truths x [] (bit (l .before .before .args .setting)) (lits (l .loop .c))) (omega arith) (l .loop .inv .1)
+
+pub given-spec : {M : Type 1} → statement M
+given-spec =
+    tie.close
+    (tie.spec
+    Inv-loop
+    μ-loop
+    empty-requires
+    loop-holds
+    shr-valued
+    valued-requires
+    add-v
+    loop-less
+    loop-again
+    returns)

@@ -1,0 +1,98 @@
+-- `network_evaluate::settle` meets its contract. The loop's invariant: what is left of the order settles to what the whole order does. Assumes nothing.
+use Prim.Native.Nat.{ℕ, _+_, _≤_, _<_, _-_}
+use mathlib.Core.Path.{_≡_, refl, sym, _∙_}
+use native.Mathlib.Omega.{arith}
+use borrow.Author.Needs.{needs}
+use lib.ListN.{length, drop, take, getD}
+use lib.Seq.{getD-take, length-take-le}
+use Rattle.cube.specs.Cube.{lits}
+use Rattle.network.specs.Parts.{divisorsOf}
+use Rattle.network_evaluate.specs.Parts.{settledIn}
+use Rattle.network.proofs.Parts.{divisors-at}
+use Rattle.network_evaluate.proofs.Settling.{settled-on, settled-done}
+use Rattle.network_evaluate.proofs.settle.Statement.{statement}
+use Rattle.network_evaluate.proofs.settle.Tie as tie
+
+abbrev Inv-loop : tie.InvT-loop
+Inv-loop words counts n m k order count t₀ i₀ t i =
+    (i ≤ count) × (settledIn n (divisorsOf m k counts words) (drop i (take count order)) (lits t) ≡ settledIn n (divisorsOf m k counts words) (take count order) (lits t₀))
+
+abbrev μ-loop : tie.MeasureT-loop
+μ-loop words counts n m k order count t₀ i₀ t i = count - i
+
+abbrev start : tie.At-loop Inv-loop μ-loop → tie.Start Inv-loop μ-loop
+start l = l .before .before .before .before
+
+many : (s : tie.Start Inv-loop μ-loop) → length (take (s .args .count) (s .args .order .now)) ≡ s .args .count
+many s = length-take-le (s .args .count) (s .args .order .now) (s .pre .counted)
+
+-- the number whose turn it is
+abbrev number : tie.At-loop Inv-loop μ-loop → ℕ
+number l = getD (start l .args .order .now) (l .loop .i) 0
+
+range : (c : tie.In-loop Inv-loop μ-loop) → (start (c .before) .args .n ≤ number (c .before)) × (number (c .before) < start (c .before) .args .n + start (c .before) .args .k)
+range c = start (c .before) .pre .numbers (c .before .loop .i) (c .loop-test .taken)
+
+loop-holds : tie.Need-loop-holds Inv-loop μ-loop
+loop-holds c = (omega arith, refl)
+
+mul-v : tie.Need-mul-v Inv-loop μ-loop
+mul-v c = omega (arith, start (c .before) .pre .short)
+
+shared-slice-read-v : tie.Need-shared-slice-read-v Inv-loop μ-loop
+shared-slice-read-v c = omega (arith, start (c .before .before) .pre .counted)
+
+cast-v : tie.Need-cast-v Inv-loop μ-loop
+cast-v c = let d = c .before in omega (arith, range d, start (d .before) .pre .variables)
+
+sub-step : tie.Need-sub-step Inv-loop μ-loop
+sub-step c = range (c .before) .0
+
+add-step : tie.Need-add-step Inv-loop μ-loop
+add-step c = let d = c .before in omega (arith, range d, start (d .before) .pre .held)
+
+step-requires : tie.Need-step-requires Inv-loop μ-loop
+step-requires c κs = let d = c .before in omega (arith, range d, start (d .before) .pre .variables)
+
+add-i : tie.Need-add-i Inv-loop μ-loop
+add-i c = omega (arith, start (c .before .before .before) .pre .short)
+
+loop-less : tie.Need-loop-less Inv-loop μ-loop
+loop-less c = omega arith
+
+loop-again : tie.Need-loop-again Inv-loop μ-loop
+loop-again c =
+    let d = c .before .before in
+    let l = d .before in
+    let s = start l in
+    let a = s .args in
+    let o = take (a .count) (a .order .now) in
+    let v : number l ≡ getD o (l .loop .i) 0 = sym (getD-take (a .count) (a .order .now) (l .loop .i) 0 (d .loop-test .taken)) in
+    let f = divisors-at (a .counts .now) (a .words .now) (a .m) (a .k) (number l - a .n) (omega (arith, range d)) in (
+      omega arith,
+      sym (settled-on (a .n) (divisorsOf (a .m) (a .k) (a .counts .now) (a .words .now)) o (l .loop .i) (lits (l .loop .t)) (omega (arith, many s)) (number l) _ _ v (sym f) (c .step .ensures)) ∙ l .loop .inv .1,
+    )
+
+returns : tie.Need-returns Inv-loop μ-loop
+returns c =
+    let l = c .before in
+    let s = start l in
+    sym (settled-done _ _ (take (s .args .count) (s .args .order .now)) (l .loop .i) _ (omega (arith, many s))) ∙ l .loop .inv .1
+
+pub settle-spec : {M : Type 1} → statement M
+settle-spec =
+    tie.close
+    (tie.spec
+    Inv-loop
+    μ-loop
+    loop-holds
+    mul-v
+    shared-slice-read-v
+    cast-v
+    sub-step
+    add-step
+    step-requires
+    add-i
+    loop-less
+    loop-again
+    returns)

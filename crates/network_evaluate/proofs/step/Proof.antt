@@ -1,0 +1,30 @@
+-- `network_evaluate::step` meets its contract: the node has value 1 where a cube has only true literals. Assumes nothing.
+use mathlib.Core.Path.{_∙_, ap}
+use borrow.Author.Needs.{needs}
+use Rattle.sets.specs.Sets.{insert}
+use Rattle.cube.specs.Cube.{lits}
+use Rattle.network_known.specs.Known.{signed, someWithin}
+use Rattle.network_known.proofs.Knowing.{joined-signed}
+use Rattle.network_evaluate.proofs.step.Statement.{statement}
+use Rattle.network_evaluate.proofs.step.Tie as tie
+
+node-requires : tie.Need-node-requires
+node-requires c κs = search needs
+
+within-requires : tie.Need-within-requires
+within-requires c κs = search needs
+
+valued-requires : tie.Need-valued-requires
+valued-requires c κs = search needs
+
+returns : tie.Need-returns
+returns c =
+    let w = c .before in
+    let s = w .before .before .before .before in
+    let t = lits (s .args .t) in
+    c .valued .ensures
+    ∙ joined-signed (s .args .v) (w .within .result) t (s .pre)
+    ∙ ap (λ b. insert (signed (s .args .v) b) t) (w .within .ensures ∙ ap (someWithin t) (w .before .node .ensures .0))
+
+pub step-spec : {M : Type 1} → statement M
+step-spec = tie.close (tie.spec node-requires within-requires valued-requires returns)

@@ -1,0 +1,37 @@
+-- `network_evaluate::value` meets its contract: by the rules the listing is handed out whole. Assumes nothing.
+use borrow.Author.Needs.{needs}
+use Rattle.network_listing.proofs.Answering.{listed-out, rules-listable}
+use Rattle.network_evaluate.proofs.value.Statement.{statement}
+use Rattle.network_evaluate.proofs.value.Tie as tie
+
+listing-requires : tie.Need-listing-requires
+listing-requires c κs = search needs
+
+slice-aggregate-answer : tie.Need-slice-aggregate-answer
+slice-aggregate-answer c = search needs
+
+slice-aggregate-answer-2 : tie.Need-slice-aggregate-answer-2
+slice-aggregate-answer-2 c = search needs
+
+slice-aggregate-answer-3 : tie.Need-slice-aggregate-answer-3
+slice-aggregate-answer-3 c = search needs
+
+answer-requires : tie.Need-answer-requires
+answer-requires c κs =
+    let l = c .before .before .before .before .before .before in
+    let s = l .before in
+    record { slots = search needs; whole = search needs; lawful = s .pre; listed = listed-out (s .args .n) _ (rules-listable (s .args .n) (s .pre)) (l .listing .ensures) }
+
+returns : tie.Need-returns
+returns c = c .answer .ensures
+
+pub value-spec : {M : Type 1} → statement M
+value-spec =
+    tie.close
+    (tie.spec
+    listing-requires
+    slice-aggregate-answer
+    slice-aggregate-answer-2
+    slice-aggregate-answer-3
+    answer-requires
+    returns)

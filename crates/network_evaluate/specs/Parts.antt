@@ -1,0 +1,24 @@
+-- Words for the contracts of the private functions: divisors that settle by true literals, and a network with its listing.
+use Prim.Native.Nat.{ℕ, _-_}
+use mathlib.Core.Path.{_≡_}
+use mathlib.Core.Bool.{true}
+use mathlib.Core.List.{List, [], _∷_}
+use lib.ListN.{length, getD}
+use Rattle.sets.specs.Sets.{insert}
+use Rattle.network_known.specs.Known.{signed, someWithin}
+use Rattle.network.specs.Listing.{listing}
+use Rattle.network.specs.Held.{rules}
+use Rattle.network.specs.Parts.{heldIn, netAt}
+use Rattle.network_listing.specs.Parts.{PaddedList}
+
+-- the listed divisors, numbered from n on, take their values one after the other
+unfoldable pub settledIn : ℕ → List (List (List ℕ)) → List ℕ → List ℕ → List ℕ
+settledIn n ds [] t = t
+settledIn n ds (v ∷ l) t = settledIn n ds l (insert (signed v (someWithin t (getD ds (v - n) []))) t)
+
+-- a network by the rules, and the order of its divisors
+pub record Answerable (n m k : ℕ) (words counts : List ℕ) (count : ℕ) (order : List ℕ) : Type 0 where
+  pub slots : length counts ≡ 96
+  pub whole : length words ≡ 2176
+  pub lawful : rules (heldIn n m k counts words) ≡ true
+  pub listed : PaddedList (listing (netAt n m k counts words)) count order

@@ -1,0 +1,150 @@
+-- What expressions read, and what is reached from a list of variables by reading so many times over. Assumes nothing.
+use Prim.Native.Nat.{ℕ, zero, suc, _+_, _<_, _≤_}
+use mathlib.Core.Path.{_≡_, refl, sym, ap, ap₂, _∙_, subst}
+use mathlib.Core.Logic.{inl, inr}
+use mathlib.Core.Bool.{Bool, true, false, cond, _&&_, _||_}
+use mathlib.Core.List.{List, [], _∷_, List·Memᴰ·head as here, List·Memᴰ·tail as there}
+use native.Mathlib.Omega.{arith}
+use native.Mathlib.Numerals.{add-one}
+use lib.Dec.{eqb}
+use lib.ListN.{length, getD, drop, drop-of-length-le}
+use borrow.Author.Tests.{eqb-true}
+use Rattle.sets.specs.Lists.{any}
+use Rattle.sets.specs.Sets.{mem, union}
+use Rattle.sets.proofs.Truth.{iff, both, together, either, or-left, or-right, clash}
+use Rattle.sets.proofs.Lists.{_∈_, any-in, any-out}
+use Rattle.sets.proofs.Sets.{mem-of, of-mem, union-mem, nil-mem}
+use Rattle.sets.proofs.Places.{drop-next}
+use Rattle.expression.specs.Words.{cubesOf}
+use Rattle.network.specs.Net.{Node, Net, cubesAt}
+use Rattle.network.specs.Meaning.{Reads, Distinct}
+use Rattle.network.specs.Held.{numbered, used, netOf}
+use Rattle.network_nodes.specs.Nodes.{cut}
+use Rattle.network.specs.declared.Network.{Network}
+use Rattle.network.proofs.Numbering.{cubes-at}
+use Rattle.network.proofs.Holding.{held-distinct}
+use Rattle.network_hangs.specs.Hangs.{variablesOf, readsOf, readBy, reached, Marks}
+use Rattle.network_hangs.specs.Parts.{Makes}
+use Rattle.network_hangs.proofs.Marking.{variables-in, variables-out, Gathers}
+
+-- ---- the variables that an expression reads
+
+pub reads-in : (f : List (List ℕ)) (v : ℕ) → Reads f v → mem v (readsOf f) ≡ true
+unfolding readsOf
+reads-in f v (c, here {x = d} {xs = g} e, (l, j, p)) =
+    union-mem v (variablesOf d) (readsOf g) ∙ or-left _ _ (ap₂ (λ (x : ℕ) (y : List ℕ). mem x (variablesOf y)) p (sym e) ∙ variables-in j)
+reads-in f v (c, there {x = d} {xs = g} m, (l, j, p)) = union-mem v (variablesOf d) (readsOf g) ∙ or-right (mem v (variablesOf d)) _ (reads-in g v (c, m, (l, j, p)))
+
+pub reads-out : (f : List (List ℕ)) (v : ℕ) → mem v (readsOf f) ≡ true → Reads f v
+unfolding readsOf mem
+reads-out [] v h = clash h refl
+reads-out (c ∷ f) v h = elim (either (mem v (variablesOf c)) (mem v (readsOf f)) (sym (union-mem v (variablesOf c) (readsOf f)) ∙ h)) [
+  | inl t ↦ (c, here refl, variables-out v c t)
+  | inr t ↦ let r = reads-out f v t in (r .0, there (r .1), r .2)
+]
+
+-- those of the cubes from place i on
+module _ (f : List (List ℕ)) (i : ℕ) (v : ℕ) where
+  pub reads-next : i < length f → mem v (readsOf (drop i f)) ≡ (mem v (variablesOf (getD f i [])) || mem v (readsOf (drop (i + 1) f)))
+  unfolding readsOf
+  reads-next h = rw (drop-next f i [] h, union-mem)
+
+  pub reads-done : length f ≤ i → mem v (readsOf (drop i f)) ≡ false
+  unfolding readsOf mem
+  reads-done h = rw (drop-of-length-le f h)
+
+-- ---- what the divisors among a list's variables read
+
+module _ (n : Net) where
+  pub by-in : {u : ℕ} {l : List ℕ} (v : ℕ) → u ∈ l → Reads (cubesAt u (n .divisors)) v → mem v (readBy n l) ≡ true
+  unfolding readBy
+  by-in {u} v (here {x = x} {xs = l} e) r =
+      union-mem v (readsOf (cubesAt x (n .divisors))) (readBy n l) ∙ or-left _ _ (reads-in (cubesAt x (n .divisors)) v (subst (λ (y : ℕ). Reads (cubesAt y (n .divisors)) v) e r))
+  by-in {u} v (there {x = x} {xs = l} m) r = union-mem v (readsOf (cubesAt x (n .divisors))) (readBy n l) ∙ or-right (mem v (readsOf (cubesAt x (n .divisors)))) _ (by-in v m r)
+
+  pub by-out : (l : List ℕ) (v : ℕ) → mem v (readBy n l) ≡ true → (u : ℕ) × (u ∈ l) × Reads (cubesAt u (n .divisors)) v
+  unfolding readBy mem
+  by-out [] v h = clash h refl
+  by-out (x ∷ l) v h = elim (either (mem v (readsOf (cubesAt x (n .divisors)))) (mem v (readBy n l)) (sym (union-mem v (readsOf (cubesAt x (n .divisors))) (readBy n l)) ∙ h)) [
+    | inl t ↦ (x, here refl, reads-out (cubesAt x (n .divisors)) v t)
+    | inr t ↦ let r = by-out l v t in (r .0, there (r .1), r .2)
+  ]
+
+  -- a number whose expression reads something is that of a divisor
+  pub reads-divisor : (u v : ℕ) → Reads (cubesAt u (n .divisors)) v → (e : Node) × (e ∈ n .divisors) × (u ≡ e .number) × Reads (e .cubes) v
+  unfolding cubesAt
+  reads-divisor u v r = go (n .divisors) r
+    where
+      go : (l : List Node) → Reads (cubesAt u l) v → (e : Node) × (e ∈ l) × (u ≡ e .number) × Reads (e .cubes) v
+      go [] (c, m, q) = absurd (mathlib.Core.List.List·Memᴰ·not-nil m)
+      go (e ∷ l) r = pick (eqb u (e .number)) refl r (go l)
+        where
+          pick : (b : Bool) → eqb u (e .number) ≡ b → Reads (cond b (e .cubes) (cubesAt u l)) v → (Reads (cubesAt u l) v → (g : Node) × (g ∈ l) × (u ≡ g .number) × Reads (g .cubes) v)
+              → (g : Node) × (g ∈ (e ∷ l)) × (u ≡ g .number) × Reads (g .cubes) v
+          pick true t r k = (e, here refl, eqb-true u (e .number) t, r)
+          pick false t r k = let q = k r in (q .0, there (q .1), q .2, q .3)
+
+-- a divisor is among the variables of l and reads v
+abbrev pub asks : List ℕ → ℕ → Node → Bool
+asks l v e = mem (e .number) l && mem v (readsOf (e .cubes))
+
+-- divisor by divisor
+pub by-divisors : (n : Net) → Distinct n → (l : List ℕ) (v : ℕ) → mem v (readBy n l) ≡ any (asks l v) (n .divisors)
+by-divisors n d l v = iff into back
+  where
+    into : mem v (readBy n l) ≡ true → any (asks l v) (n .divisors) ≡ true
+    into h =
+        let r = by-out n l v h in
+        let q = reads-divisor n (r .0) v (r .2) in
+        any-in (asks l v) (q .1) (together _ _ (ap (λ x. mem x l) (sym (q .2)) ∙ mem-of (r .1)) (reads-in (q .0 .cubes) v (q .3)))
+
+    back : any (asks l v) (n .divisors) ≡ true → mem v (readBy n l) ≡ true
+    back h =
+        let r = any-out (asks l v) (n .divisors) h in
+        let e = r .0 in
+        let q = both (mem (e .number) l) (mem v (readsOf (e .cubes))) (r .2) in
+        by-in n v (of-mem (e .number) l (q .0)) (rw (cubes-at n d (r .1)) (reads-out (e .cubes) v (q .1)))
+
+-- those of a network by value: of the first divisors, and of those from the divisor i on
+pub asks-first : (n : Network) (mask : ℕ) (l : List ℕ) → Marks mask l
+    → Gathers mask (λ v. any (asks l v) (numbered (n .inputs + 0) (drop 0 (drop (n .outputs) (cut (used n) (cubesOf (n .words))))))) (λ v. mem v (union l (readBy (netOf n) l)))
+asks-first n mask l p =
+    let e : n .inputs + 0 ≡ n .inputs = omega arith in
+    record { each = λ v. ap₂ _||_ (p .each v) (ap (λ x. any (asks l v) (numbered x (drop (n .outputs) (cut (used n) (cubesOf (n .words)))))) e ∙ sym (by-divisors (netOf n) (held-distinct n) l v)) ∙ sym (union-mem v l (readBy (netOf n) l)) }
+
+module _ (l : List ℕ) (v n : ℕ) (ds : List (List (List ℕ))) (i : ℕ) where
+  pub asks-next : i < length ds → any (asks l v) (numbered (n + i) (drop i ds)) ≡ (mem v (cond (mem (n + i) l) (readsOf (getD ds i [])) []) || any (asks l v) (numbered (n + (i + 1)) (drop (i + 1) ds)))
+  unfolding numbered
+  asks-next h = let e : n + (i + 1) ≡ suc (n + i) = omega arith in rw (drop-next ds i [] h, e) (ap (_|| any (asks l v) (numbered (suc (n + i)) (drop (i + 1) ds))) (pick (mem (n + i) l)))
+    where
+      pick : (b : Bool) → (b && mem v (readsOf (getD ds i []))) ≡ mem v (cond b (readsOf (getD ds i [])) [])
+      pick true = refl
+      pick false = sym (nil-mem [] refl v)
+
+  pub asks-done : length ds ≤ i → any (asks l v) (numbered (n + i) (drop i ds)) ≡ false
+  unfolding numbered
+  asks-done h = rw (drop-of-length-le ds h)
+
+-- ---- so many times over
+
+module _ (n : Net) where
+  pub reached-last : (k : ℕ) (l : List ℕ) → reached (suc k) n l ≡ union (reached k n l) (readBy n (reached k n l))
+  unfolding reached
+  reached-last zero l = refl
+  reached-last (suc k) l = reached-last k (union l (readBy n l))
+
+  -- from nothing nothing is reached
+  pub reached-none : (k : ℕ) → reached k n [] ≡ []
+  unfolding reached union readBy
+  reached-none zero = refl
+  reached-none (suc k) = reached-none k
+
+-- the masks of what is reached, turn by turn
+pub makes-first : (n : Net) (mask : ℕ) → Makes mask mask (reached 0 n)
+unfolding reached
+makes-first n mask = record { each = λ l p. p }
+
+pub makes-more : (n : Net) (mask all r i : ℕ) → Makes mask all (reached i n) → Makes all r (λ l. union l (readBy n l)) → Makes mask r (reached (i + 1) n)
+makes-more n mask all r i p q = record {
+  each = λ l t. rw (add-one i, reached-last n i l) (q .each (reached i n l) (p .each l t));
+}

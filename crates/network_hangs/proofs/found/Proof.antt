@@ -1,0 +1,26 @@
+-- `network_hangs::found` meets its contract: what the node reads, what is reached from it, and of that the divisors. Assumes nothing.
+use borrow.Author.Needs.{needs}
+use Rattle.network_hangs.proofs.Finding.{found-marks}
+use Rattle.network_hangs.proofs.found.Statement.{statement}
+use Rattle.network_hangs.proofs.found.Tie as tie
+
+node-requires : tie.Need-node-requires
+node-requires c κs = search needs
+
+reads-requires : tie.Need-reads-requires
+reads-requires c κs = search needs
+
+often-requires : tie.Need-often-requires
+often-requires c κs = search needs
+
+above-requires : tie.Need-above-requires
+above-requires c κs = search needs
+
+returns : tie.Need-returns
+returns c =
+    let s = c .before .before .before .before .before .before in
+    found-marks (s .pre .0) (s .pre .2) (c .before .before .before .node .ensures .0) (c .before .before .reads .ensures) (c .before .often .ensures) (c .above .ensures)
+
+pub found-spec : {M : Type 1} → statement M
+found-spec =
+    tie.close (tie.spec node-requires reads-requires often-requires above-requires returns)

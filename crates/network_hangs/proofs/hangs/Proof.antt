@@ -1,0 +1,74 @@
+-- `network_hangs::hangs` meets its contract: nothing where the rules are broken or there is no such node. Assumes nothing.
+use mathlib.Core.Path.{_≡_, sym, _∙_}
+use mathlib.Core.Bool.{true}
+use native.Mathlib.Omega.{arith}
+use borrow.Author.Needs.{needs}
+use Rattle.network.specs.Held.{rules}
+use Rattle.network.specs.Parts.{Sized}
+use Rattle.network.proofs.Limits.{rules-sized}
+use Rattle.network.proofs.Holding.{rules-iff}
+use Rattle.network.proofs.Ruling.{accepted-rules, refused-rules}
+use Rattle.network_hangs.proofs.Finding.{hangs-refused, hangs-past, hangs-found}
+use Rattle.network_hangs.proofs.hangs.Statement.{statement}
+use Rattle.network_hangs.proofs.hangs.Tie as tie
+
+kept : (c : tie.After-struct-known) → rules (c .before .before .before .before .args .n) ≡ true
+kept c = accepted-rules _ (sym (c .before .before .before .judge .ensures) ∙ c .before .enum-told .given .1)
+
+sized : (c : tie.After-struct-known) → let n = c .before .before .before .before .args .n in Sized (n .inputs) (n .outputs) (n .divisors) (n .words) (n .counts)
+sized c = rules-sized (c .before .before .before .before .args .n) (search needs) (search needs) (kept c)
+
+judge-requires : tie.Need-judge-requires
+judge-requires c κs = search needs
+
+enum-told : tie.Need-enum-told
+enum-told c = search needs
+
+enum-told-2 : tie.Need-enum-told-2
+enum-told-2 c = search needs
+
+returns : tie.Need-returns
+returns c =
+    let s = c .before .before .before in
+    hangs-refused (s .args .n) (s .args .i) (refused-rules _ _ (sym (c .before .before .judge .ensures) ∙ c .enum-told2 .given .1))
+
+add-if1 : tie.Need-add-if1
+add-if1 c = omega (arith, sized c .narrow, sized c .variables)
+
+returns-2 : tie.Need-returns-2
+returns-2 c =
+    let s = c .before .before .before .before .before in
+    hangs-past (s .args .n) (s .args .i) (kept (c .before)) (omega arith)
+
+slice-aggregate-found : tie.Need-slice-aggregate-found
+slice-aggregate-found c = search needs
+
+slice-aggregate-found-2 : tie.Need-slice-aggregate-found-2
+slice-aggregate-found-2 c = search needs
+
+found-requires : tie.Need-found-requires
+found-requires c κs =
+    let k = c .before .before .before .before .before in
+    let n = k .before .before .before .before .args .n in
+    (sized k, omega (arith, (rules-iff n (search needs)) .0 (kept k) .inputs .1), omega arith)
+
+returns-3 : tie.Need-returns-3
+returns-3 c =
+    let k = c .before .before .before .before .before .before in
+    let s = k .before .before .before .before in
+    hangs-found (s .args .n) (s .args .i) (kept k) (c .found .ensures)
+
+pub hangs-spec : {M : Type 1} → statement M
+hangs-spec =
+    tie.close
+    (tie.spec
+    judge-requires
+    enum-told
+    enum-told-2
+    returns
+    add-if1
+    returns-2
+    slice-aggregate-found
+    slice-aggregate-found-2
+    found-requires
+    returns-3)

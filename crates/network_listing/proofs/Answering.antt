@@ -1,0 +1,98 @@
+-- The listing as it is handed out: each number is that of a divisor, and by the rules it is whole. Assumes nothing.
+use Prim.Native.Nat.{ℕ, _+_, _-_, _<_, _≤_}
+use mathlib.Core.Path.{_≡_, refl, ap, ap₂, _∙_, subst}
+use mathlib.Core.Bool.{Bool, true, false, cond}
+use mathlib.Core.List.{List, []}
+use native.Mathlib.Omega.{arith}
+use lib.ListN.{length, getD, replicate, length-append, List·getD-append}
+use Rattle.sets.specs.Lists.{all}
+use Rattle.sets.proofs.Truth.{both, together}
+use Rattle.sets.proofs.Lists.{_∈_}
+use Rattle.sets.proofs.Places.{at-in}
+use Rattle.expression.specs.Expression.{expression}
+use Rattle.network.specs.Net.{Node, Net, nodes, variables}
+use Rattle.network.specs.Listing.{listing}
+use Rattle.network.specs.Held.{numbered, netOf, sized, reach, lawful, rules}
+use Rattle.network.specs.Answers.{listable, numbersOf, listedOf}
+use Rattle.network.specs.Parts.{nodesOf, divisorsOf, netAt, Sized}
+use Rattle.network.specs.declared.Network.{Network}
+use Rattle.network.specs.declared.Listed.{Listed}
+use Rattle.network.proofs.Numbering.{numbered-length, numbered-range}
+use Rattle.network.proofs.Listings.{listing-length, listing-number}
+use Rattle.network.proofs.Holding.{nodes-held, divisors-held}
+use Rattle.network.proofs.Parts.{divisors-length}
+use Rattle.network_listing.specs.Parts.{PaddedList, Ordered}
+
+module _ (net : Net) (ds : List (List (List ℕ))) (e : net .divisors ≡ numbered (net .inputs) ds) where
+  abbrev n : ℕ
+  n = net .inputs
+
+  -- each listed number is that of a divisor
+  pub listing-range : (i : ℕ) → i < length (listing net) → (n ≤ getD (listing net) i 0) × (getD (listing net) i 0 < n + length ds)
+  listing-range i h =
+      let r = listing-number net (getD (listing net) i 0) (at-in (listing net) i 0 h) in
+      let q = numbered-range n ds (r .0) (subst (λ (l : List Node). r .0 ∈ l) e (r .1)) in
+      (rw (r .2) (q .0), rw (r .2) (q .1))
+
+module _ (n m k : ℕ) (words counts : List ℕ) (z : Sized n m k words counts) (count : ℕ) (order : List ℕ) where
+  abbrev held : Net
+  held = netAt n m k counts words
+
+  many : length (divisorsOf m k counts words) ≡ k
+  many = divisors-length counts words m k (z .counted)
+
+  module _ (o : PaddedList (listing held) count order) where
+    pub ordered-listing : Ordered n m k words counts count order
+    ordered-listing = record {
+      held = z .counted;
+      variables = z .variables;
+      short = omega (arith, o .number, z .variables, listing-length held, numbered-length n (divisorsOf m k counts words), many);
+      counted = rw (o .places, length-append (listing held) (replicate (64 - length (listing held)) 0)) (omega (arith, o .number));
+      numbers = λ i h.
+          let q : getD order i 0 ≡ getD (listing held) i 0 = ap (λ l. getD l i 0) (o .places) ∙ List·getD-append (listing held) (replicate (64 - length (listing held)) 0) 0 i (omega (arith, o .number)) in
+          let r = listing-range held (divisorsOf m k counts words) refl i (omega (arith, o .number)) in
+          (omega (arith, q, r .0), omega (arith, q, r .1, many));
+    }
+
+-- ---- what is handed out
+
+module _ (n : Network) where
+  listed-as : (r : Listed) (b : Bool) → listable n ≡ b → PaddedList (cond b (listing (netOf n)) []) (r .count) (r .order) → r ≡ listedOf n
+  unfolding listedOf numbersOf
+  listed-as r b e l = rw e (ap₂ (λ (c : ℕ) (o : List ℕ). record { count = c; order = o }) (l .number) (l .places))
+
+  pub listed-no : (r : Listed) → listable n ≡ false → PaddedList [] (r .count) (r .order) → r ≡ listedOf n
+  listed-no r e l = listed-as r false e l
+
+  pub listed-is : (r : Listed) → listable n ≡ true → PaddedList (listing (netOf n)) (r .count) (r .order) → r ≡ listedOf n
+  listed-is r e l = listed-as r true e l
+
+  pub listable-no : sized n ≡ false → listable n ≡ false
+  unfolding listable
+  listable-no e = rw e
+
+  pub listable-as : (b : Bool) → length (n .counts) ≡ 96 → Sized (n .inputs) (n .outputs) (n .divisors) (n .words) (n .counts) → sized n ≡ true
+      → all (reach (n .inputs + n .divisors)) (nodesOf (n .outputs + n .divisors) (n .counts) (n .words)) ≡ b → listable n ≡ b
+  unfolding listable
+  listable-as b a z e q = rw (e, nodes-held n, divisors-held n a (omega (arith, z .counted))) q
+
+  pub listable-sized : listable n ≡ true → sized n ≡ true
+  unfolding listable
+  listable-sized h = (both (sized n) _ h) .0
+
+  -- where there is one
+  pub listed-out : (r : Listed) → listable n ≡ true → r ≡ listedOf n → PaddedList (listing (netOf n)) (r .count) (r .order)
+  unfolding listedOf numbersOf
+  listed-out r e q = record {
+    number = ap (λ (l : Listed). l .count) q ∙ rw e;
+    places = ap (λ (l : Listed). l .order) q ∙ rw e;
+  }
+
+  -- by the rules there is
+  pub rules-listable : rules n ≡ true → listable n ≡ true
+  unfolding rules lawful listable
+  rules-listable h =
+      let a = both (sized n) (lawful (netOf n)) h in
+      let e = both (all expression (nodes (netOf n))) _ (a .1) in
+      let f = both (all (reach (variables (netOf n))) (nodes (netOf n))) _ (e .1) in
+      together (sized n) _ (a .0) (f .0)

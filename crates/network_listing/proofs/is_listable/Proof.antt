@@ -1,0 +1,58 @@
+-- `network_listing::is_listable` meets its contract: the limits, then the literals of all nodes. Assumes nothing.
+use mathlib.Core.Path.{_≡_, sym, _∙_}
+use mathlib.Core.Bool.{true}
+use native.Mathlib.Omega.{arith}
+use borrow.Author.Needs.{needs}
+use borrow.Author.Tests.{not-true, not-false}
+use Rattle.network.specs.Held.{sized}
+use Rattle.network.specs.Parts.{Sized}
+use Rattle.network.proofs.Limits.{sized-out}
+use Rattle.network_listing.proofs.Answering.{listable-no, listable-as}
+use Rattle.network_listing.proofs.is_listable.Statement.{statement}
+use Rattle.network_listing.proofs.is_listable.Tie as tie
+
+-- the limits are kept
+limits : (c : tie.Else1) → sized (c .before .before .args .n) ≡ true
+limits c = sym (c .before .is-sized .ensures) ∙ not-false _ (c .if1 .left)
+
+small : (c : tie.Else1) → let n = c .before .before .args .n in Sized (n .inputs) (n .outputs) (n .divisors) (n .words) (n .counts)
+small c = sized-out (c .before .before .args .n) (search needs) (search needs) (limits c)
+
+is-sized-requires : tie.Need-is-sized-requires
+is-sized-requires c κs = search needs
+
+returns : tie.Need-returns
+returns c = sym (listable-no (c .before .before .args .n) (sym (c .before .is-sized .ensures) ∙ not-true _ (c .if1 .taken)))
+
+slice-aggregate-reaches : tie.Need-slice-aggregate-reaches
+slice-aggregate-reaches c = search needs
+
+slice-aggregate-reaches-2 : tie.Need-slice-aggregate-reaches-2
+slice-aggregate-reaches-2 c = search needs
+
+add-reaches : tie.Need-add-reaches
+add-reaches c = let z = small (c .before .before .before .before .before) in omega (arith, z .slots, z .counted)
+
+add-reaches-2 : tie.Need-add-reaches-2
+add-reaches-2 c = omega (arith, small (c .before .before .before .before .before .before) .variables)
+
+reaches-requires : tie.Need-reaches-requires
+reaches-requires c κs = small (c .before .before .before .before .before .before) .variables
+
+returns-2 : tie.Need-returns-2
+returns-2 c =
+    let e = c .before .before .before .before .before .before .before in
+    sym (listable-as (e .before .before .args .n) _ (small e .slots) (small e) (limits e) (sym (c .reaches .ensures)))
+
+pub is-listable-spec : {M : Type 1} → statement M
+is-listable-spec =
+    tie.close
+    (tie.spec
+    is-sized-requires
+    returns
+    slice-aggregate-reaches
+    slice-aggregate-reaches-2
+    add-reaches
+    add-reaches-2
+    reaches-requires
+    returns-2)

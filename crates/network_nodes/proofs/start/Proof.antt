@@ -1,0 +1,25 @@
+-- `network_nodes::start` meets its contract: past the counts there is nothing more to add. Assumes nothing.
+use Prim.Native.Nat.{min}
+use mathlib.Core.Path.{_∙_, ap}
+use native.Mathlib.Omega.{arith}
+use borrow.Author.Needs.{needs}
+use Rattle.network_nodes.proofs.Starting.{start-all}
+use Rattle.network_nodes.proofs.start.Statement.{statement}
+use Rattle.network_nodes.proofs.start.Tie as tie
+
+summed-requires : tie.Need-summed-requires
+summed-requires c κs = search needs
+
+returns : tie.Need-returns
+returns c =
+    let s = c .before .before .before in
+    c .summed .ensures ∙ ap (λ t. min t (s .args .most)) (start-all (s .args .counts .now) (s .args .i) (omega arith))
+
+summed-requires-2 : tie.Need-summed-requires-2
+summed-requires-2 c κs = search needs
+
+returns-2 : tie.Need-returns-2
+returns-2 c = search needs
+
+pub start-spec : {M : Type 1} → statement M
+start-spec = tie.close (tie.spec summed-requires returns summed-requires-2 returns-2)

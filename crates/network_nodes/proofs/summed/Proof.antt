@@ -1,0 +1,76 @@
+-- `network_nodes::summed` meets its contract. The loop's invariant: the sum is that of the counts passed, and not past the most. Assumes nothing.
+use Prim.Native.Nat.{_+_, _-_, _≤_}
+use mathlib.Core.Path.{_≡_, ap}
+use native.Mathlib.Omega.{arith}
+use borrow.Author.Needs.{needs}
+use lib.ListN.{take}
+use Rattle.sets.specs.Lists.{total}
+use Rattle.network_nodes.proofs.Starting.{front-le, start-next}
+use Rattle.network_nodes.proofs.summed.Statement.{statement}
+use Rattle.network_nodes.proofs.summed.Tie as tie
+
+abbrev Inv-loop : tie.InvT-loop
+Inv-loop counts i most sum₀ j₀ sum j = (j ≤ i) × (sum ≤ most) × (sum ≡ total (λ c. c) (take j counts))
+
+abbrev μ-loop : tie.MeasureT-loop
+μ-loop counts i most sum₀ j₀ sum j = i - j
+
+loop-holds : tie.Need-loop-holds Inv-loop μ-loop
+loop-holds c = search needs
+
+mul-n : tie.Need-mul-n Inv-loop μ-loop
+mul-n c = search needs
+
+shared-slice-read-n : tie.Need-shared-slice-read-n Inv-loop μ-loop
+shared-slice-read-n c = search needs
+
+sub-if1 : tie.Need-sub-if1 Inv-loop μ-loop
+sub-if1 c = search needs
+
+returns : tie.Need-returns Inv-loop μ-loop
+returns c =
+    let h = c .before .before .before in
+    let s = h .before in
+    omega (
+      arith,
+      start-next (s .args .counts .now) (h .loop .j) (h .loop .sum) (omega (arith, s .pre)) (h .loop .inv .2),
+      front-le (λ x. x) (s .args .counts .now) (h .loop .j + 1) (s .args .i) (omega arith),
+    )
+
+add-sum : tie.Need-add-sum Inv-loop μ-loop
+add-sum c = search needs
+
+add-j : tie.Need-add-j Inv-loop μ-loop
+add-j c = search needs
+
+loop-less : tie.Need-loop-less Inv-loop μ-loop
+loop-less c = search needs
+
+loop-again : tie.Need-loop-again Inv-loop μ-loop
+loop-again c =
+    let h = c .before .before .before in
+    let s = h .before in
+    (omega arith, omega arith, start-next (s .args .counts .now) (h .loop .j) (h .loop .sum) (omega (arith, s .pre)) (h .loop .inv .2))
+
+returns-2 : tie.Need-returns-2 Inv-loop μ-loop
+returns-2 c =
+    let h = c .before in
+    let e : h .loop .j ≡ h .before .args .i = omega arith in
+    omega (arith, h .loop .inv .2, ap (λ j. total (λ x. x) (take j (h .before .args .counts .now))) e)
+
+pub summed-spec : {M : Type 1} → statement M
+summed-spec =
+    tie.close
+    (tie.spec
+    Inv-loop
+    μ-loop
+    loop-holds
+    mul-n
+    shared-slice-read-n
+    sub-if1
+    returns
+    add-sum
+    add-j
+    loop-less
+    loop-again
+    returns-2)

@@ -1,0 +1,66 @@
+-- `network_rules::follows` meets its contract: the limits and the variables read, the listing, then the other rules. Assumes nothing.
+use mathlib.Core.Path.{_≡_, sym, _∙_, ap}
+use mathlib.Core.Bool.{true, _&&_}
+use native.Mathlib.Omega.{arith}
+use borrow.Author.Needs.{needs}
+use borrow.Author.Tests.{not-true, not-false}
+use Rattle.network.specs.Answers.{listable}
+use Rattle.network.specs.Parts.{Sized}
+use Rattle.network.proofs.Limits.{sized-out}
+use Rattle.network_listing.proofs.Answering.{listable-sized}
+use Rattle.network_rules.proofs.Ruling.{rules-no, rules-as}
+use Rattle.network_rules.proofs.follows.Statement.{statement}
+use Rattle.network_rules.proofs.follows.Tie as tie
+
+allowed : (c : tie.Else1) → listable (c .before .before .args .n) ≡ true
+allowed c = sym (c .before .is-listable .ensures) ∙ not-false _ (c .if1 .left)
+
+small : (c : tie.Else1) → let n = c .before .before .args .n in Sized (n .inputs) (n .outputs) (n .divisors) (n .words) (n .counts)
+small c = sized-out (c .before .before .args .n) (search needs) (search needs) (listable-sized (c .before .before .args .n) (allowed c))
+
+is-listable-requires : tie.Need-is-listable-requires
+is-listable-requires c κs = search needs
+
+returns : tie.Need-returns
+returns c = rules-no (c .before .before .args .n) (sym (c .before .is-listable .ensures) ∙ not-true _ (c .if1 .taken))
+
+is-acyclic-requires : tie.Need-is-acyclic-requires
+is-acyclic-requires c κs = search needs
+
+returns-2 : tie.Need-returns-2
+returns-2 c =
+    let e = c .before .before in
+    sym (rules-as (e .before .before .args .n) (search needs) (search needs) (allowed e) ∙ rw (sym (c .before .is-acyclic .ensures) ∙ not-true _ (c .if2 .taken)))
+
+slice-aggregate-is-lawful : tie.Need-slice-aggregate-is-lawful
+slice-aggregate-is-lawful c = search needs
+
+slice-aggregate-is-lawful-2 : tie.Need-slice-aggregate-is-lawful-2
+slice-aggregate-is-lawful-2 c = search needs
+
+add-is-lawful : tie.Need-add-is-lawful
+add-is-lawful c = let z = small (c .before .before .before .before .before .before .before) in omega (arith, z .slots, z .counted)
+
+is-lawful-requires : tie.Need-is-lawful-requires
+is-lawful-requires c κs = small (c .before .before .before .before .before .before .before) .counted
+
+returns-3 : tie.Need-returns-3
+returns-3 c =
+    let a = c .before .before .before .before .before .before in
+    let e = a .before .before in
+    let n = e .before .before .args .n in
+    c .is-lawful .ensures ∙ sym (rules-as n (search needs) (search needs) (allowed e) ∙ rw (sym (a .before .is-acyclic .ensures) ∙ not-false _ (a .if2 .left)))
+
+pub follows-spec : {M : Type 1} → statement M
+follows-spec =
+    tie.close
+    (tie.spec
+    is-listable-requires
+    returns
+    is-acyclic-requires
+    returns-2
+    slice-aggregate-is-lawful
+    slice-aggregate-is-lawful-2
+    add-is-lawful
+    is-lawful-requires
+    returns-3)

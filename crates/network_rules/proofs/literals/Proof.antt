@@ -1,0 +1,53 @@
+-- `network_rules::literals` meets its contract: it answers by the rules, and then counts the cubes in use. Assumes nothing.
+use mathlib.Core.Path.{_≡_, sym, _∙_}
+use mathlib.Core.Bool.{true}
+use native.Mathlib.Omega.{arith}
+use borrow.Author.Tests.{not-true, not-false}
+use Rattle.network.specs.Held.{rules}
+use Rattle.network.specs.Parts.{Sized}
+use Rattle.network.proofs.Limits.{rules-sized}
+use Rattle.network_rules.proofs.Ruling.{counted-no, counted-is}
+use borrow.Author.Needs.{needs}
+use Rattle.network_rules.proofs.literals.Statement.{statement}
+use Rattle.network_rules.proofs.literals.Tie as tie
+
+kept : (c : tie.Else1) → rules (c .before .before .args .n) ≡ true
+kept c = sym (c .before .follows .ensures) ∙ not-false _ (c .if1 .left)
+
+sized : (c : tie.Else1) → let n = c .before .before .args .n in Sized (n .inputs) (n .outputs) (n .divisors) (n .words) (n .counts)
+sized c = rules-sized (c .before .before .args .n) (search needs) (search needs) (kept c)
+
+follows-requires : tie.Need-follows-requires
+follows-requires c κs = search needs
+
+returns : tie.Need-returns
+returns c = counted-no (c .before .before .args .n) (sym (c .before .follows .ensures) ∙ not-true _ (c .if1 .taken))
+
+slice-aggregate-count : tie.Need-slice-aggregate-count
+slice-aggregate-count c = search needs
+
+slice-aggregate-count-2 : tie.Need-slice-aggregate-count-2
+slice-aggregate-count-2 c = search needs
+
+add-count : tie.Need-add-count
+add-count c = let z = sized (c .before .before .before .before .before) in omega (arith, z .slots, z .counted)
+
+count-requires : tie.Need-count-requires
+count-requires c κs = search needs
+
+returns-2 : tie.Need-returns-2
+returns-2 c =
+    let e = c .before .before .before .before .before .before in
+    counted-is (e .before .before .args .n) (sized e .slots) _ (kept e) (c .count .ensures)
+
+pub literals-spec : {M : Type 1} → statement M
+literals-spec =
+    tie.close
+    (tie.spec
+    follows-requires
+    returns
+    slice-aggregate-count
+    slice-aggregate-count-2
+    add-count
+    count-requires
+    returns-2)

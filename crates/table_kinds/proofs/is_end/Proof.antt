@@ -1,0 +1,36 @@
+-- `table_kinds::is_end` meets its contract: the two names in turn. Assumes nothing.
+use mathlib.Core.Path.{sym, _∙_}
+use Rattle.table_kinds.proofs.Reading.{ends-short, ends-long}
+use borrow.Author.Needs.{needs}
+use Rattle.table_kinds.proofs.is_end.Statement.{statement}
+use Rattle.table_kinds.proofs.is_end.Tie as tie
+
+slice-aggregate-equal : tie.Need-slice-aggregate-equal
+slice-aggregate-equal c = search needs
+
+equal-requires : tie.Need-equal-requires
+equal-requires c κs = search needs
+
+returns : tie.Need-returns
+returns c = ends-short (c .before .before .before .before .args .c .now) (sym (c .before .equal .ensures) ∙ c .if1 .taken)
+
+slice-aggregate-equal-2 : tie.Need-slice-aggregate-equal-2
+slice-aggregate-equal-2 c = search needs
+
+equal-requires-2 : tie.Need-equal-requires-2
+equal-requires-2 c κs = search needs
+
+returns-2 : tie.Need-returns-2
+returns-2 c = let d = c .before .before in
+    c .equal2 .ensures ∙ ends-long (d .before .before .before .before .args .c .now) (sym (d .before .equal .ensures) ∙ d .if1 .left)
+
+pub is-end-spec : {M : Type 1} → statement M
+is-end-spec =
+    tie.close
+    (tie.spec
+    slice-aggregate-equal
+    equal-requires
+    returns
+    slice-aggregate-equal-2
+    equal-requires-2
+    returns-2)

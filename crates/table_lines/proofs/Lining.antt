@@ -1,0 +1,49 @@
+-- The lines of a text: the first ends at the first LF, and the others are those of what follows it. Assumes nothing.
+use Prim.Native.Nat.{ℕ, suc, _<_, _≤_}
+use mathlib.Core.Path.{_≡_, refl, sym, ap}
+use mathlib.Core.Bool.{Bool, true, false, cond, not}
+use mathlib.Core.List.{List, [], _∷_}
+use native.Mathlib.Omega.{arith}
+use lib.Dec.{eqb}
+use lib.ListN.{length, getD, take, drop}
+use Rattle.sets.specs.Lists.{all}
+use Rattle.table_lines.specs.Text.{lineOf, onto, linesOf}
+use Rattle.table_lines.proofs.Ends.{line-upto, upto-take, upto-le, upto-clear, upto-ended}
+
+-- a line is what stands at the front
+pub line-take : (t : List ℕ) → lineOf t ≡ take (length (lineOf t)) t
+line-take t = rw (line-upto t) (sym (upto-take 10 t))
+
+pub line-le : (t : List ℕ) → length (lineOf t) ≤ length t
+line-le t = rw (line-upto t) (upto-le 10 t)
+
+-- no byte of it is LF
+pub line-clear : (t : List ℕ) → all (λ b. not (eqb b 10)) (lineOf t) ≡ true
+line-clear t = rw (line-upto t) (upto-clear 10 t)
+
+-- where it ends before the text, LF stands
+pub line-ended : (t : List ℕ) → length (lineOf t) < length t → getD t (length (lineOf t)) 0 ≡ 10
+line-ended t h = rw (line-upto t) (upto-ended 10 t (rw (← line-upto t) h))
+
+-- a line that ends before the text is followed by the lines of what stands after its LF
+pub lines-next : (t : List ℕ) → length (lineOf t) < length t → linesOf t ≡ lineOf t ∷ linesOf (drop (suc (length (lineOf t))) t)
+unfolding lineOf linesOf
+lines-next [] h = absurd (omega arith)
+lines-next (b ∷ t) h = go (eqb b 10) h (lines-next t)
+  where
+    go : (e : Bool) → length (cond e [] (b ∷ lineOf t)) < suc (length t)
+        → (length (lineOf t) < length t → linesOf t ≡ lineOf t ∷ linesOf (drop (suc (length (lineOf t))) t))
+        → cond e ([] ∷ linesOf t) (onto b (linesOf t)) ≡ cond e [] (b ∷ lineOf t) ∷ linesOf (drop (suc (length (cond e [] (b ∷ lineOf t)))) (b ∷ t))
+    go true k f = refl
+    go false k f = ap (onto b) (f (omega arith))
+
+-- a line that ends with the text is the last
+pub lines-last : (t : List ℕ) → length (lineOf t) ≡ length t → linesOf t ≡ t ∷ []
+unfolding lineOf linesOf
+lines-last [] h = refl
+lines-last (b ∷ t) h = go (eqb b 10) h (lines-last t)
+  where
+    go : (e : Bool) → length (cond e [] (b ∷ lineOf t)) ≡ suc (length t) → (length (lineOf t) ≡ length t → linesOf t ≡ t ∷ [])
+        → cond e ([] ∷ linesOf t) (onto b (linesOf t)) ≡ (b ∷ t) ∷ []
+    go true k f = absurd (omega arith)
+    go false k f = ap (onto b) (f (omega arith))
