@@ -1,5 +1,12 @@
-// Answers requests of the line protocol, a line for a line, from standard input to standard output.
-use ask::Asked;
+// Answers requests of the line protocol, a line for a line, from standard input to standard output. Safety and an end are all that
+// is promised here; what is answered is held to the second implementation.
+mod expressions;
+mod images;
+mod nets;
+mod runs;
+mod wire;
+
+use expressions::Asked;
 use libc::STDIN_FILENO;
 use network::Network;
 use report::Wrote;
@@ -104,7 +111,7 @@ fn asked_of(head: &[u8], text: &[u8]) -> Asked {
 fn on_three(line: &[u8], out: &mut [u8]) -> usize {
     let text = request::tail(line);
     let a = asked_of(request::head(line), text);
-    ask::on_expression(a, text, out)
+    expressions::on_expression(a, text, out)
 }
 
 fn divides(text: &[u8]) -> Asked {
@@ -184,7 +191,7 @@ fn answer_write(text: &[u8], out: &mut [u8]) -> usize {
 
 fn answer_five(head: &[u8], text: &[u8], out: &mut [u8]) -> usize {
     if check::same(head, b"divide") {
-        return ask::on_expression(divides(text), text, out);
+        return expressions::on_expression(divides(text), text, out);
     }
     if check::same(head, b"write") {
         return answer_write(text, out);
@@ -232,7 +239,7 @@ fn reply(line: &[u8], c: Coming, out: &mut [u8]) -> usize {
 // A line has ended: it is answered.
 fn respond(line: &[u8], c: Coming, out: &mut [u8]) {
     let n = reply(line, c, out);
-    line::end(out, n);
+    wire::end(out, n);
 }
 
 fn store(line: &mut [u8], at: usize, b: u8) {

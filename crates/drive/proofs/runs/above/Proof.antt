@@ -1,4 +1,4 @@
--- `runs::above` is safe: a weight that is not below zero reads as a number. Assumes nothing.
+-- `drive::runs::above` is safe: a weight that is not below zero reads as a number. Assumes nothing.
 use mathlib.Core.Path.{_≡_, sym, subst}
 use mathlib.Core.Bool.{true, false}
 use native.Mathlib.Nat.{lt-of-le-of-lt}
@@ -9,8 +9,8 @@ use lib.Signed.{ltZ, nonNeg, natAbs-le}
 use mir.Syntax.{w32, w64}
 use mir.Val.{Fits, toZ, ofZ}
 use mir.ValLaws.{toZ-ofZ}
-use Rattle.runs.proofs.above.Statement.{statement}
-use Rattle.runs.proofs.above.Tie as tie
+use Rattle.drive.proofs.runs.above.Statement.{statement}
+use Rattle.drive.proofs.runs.above.Tie as tie
 
 not-below : (z : ℤ) → ltZ z (pos 0) ≡ false → T (nonNeg z)
 not-below (pos n) h = tt

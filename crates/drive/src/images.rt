@@ -1,8 +1,10 @@
-// Requests for images. As in wire, safety and an end are all that is promised here.
+// Requests for images.
+use crate::nets;
+use crate::wire;
+use crate::wire::Told;
 use image_read::Answer;
 use image_write::Wrote;
 use network::Network;
-use wire::Told;
 
 fn wrote(a: Wrote) -> Told {
     match a {

@@ -1,11 +1,11 @@
--- `runs::put_steps` is safe and ends. Assumes nothing.
+-- `drive::runs::put_steps` is safe and ends. Assumes nothing.
 use mathlib.Core.Path.{_≡_}
 use Prim.Native.Nat.{_-_, _≤_}
 use native.Mathlib.Omega.{arith}
 use lib.ListN.{length}
 use borrow.Author.Needs.{needs}
-use Rattle.runs.proofs.put_steps.Statement.{statement}
-use Rattle.runs.proofs.put_steps.Tie as tie
+use Rattle.drive.proofs.runs.put_steps.Statement.{statement}
+use Rattle.drive.proofs.runs.put_steps.Tie as tie
 
 abbrev Inv-loop : tie.InvT-loop
 Inv-loop out₀ n count list at₀ i₀ out at i = (length out ≡ length out₀) × (i ≤ 64)

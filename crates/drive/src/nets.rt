@@ -1,8 +1,9 @@
-// Networks in requests and answers: `n m k ; counts ; words`. As in wire, safety and an end are all that is promised here.
+// Networks in requests and answers: `n m k ; counts ; words`.
+use crate::wire;
+use crate::wire::Told;
 use network::Network;
 use network::Number;
-use wire::Told;
-ghost use Prim.Native.Nat.{_≤_};
+use std::num;
 
 // ---- requests
 
@@ -62,53 +63,17 @@ pub fn read_net(text: &[u8]) -> Network {
 
 // ---- answers
 
-// So many nodes with so many cubes.
-struct Kept {
-    nodes: usize,
-    cubes: usize,
-}
-
-// The nodes in use, 32 outputs and 63 divisors at most, up to the first whose cubes would be too many.
-fn in_use(counts: [usize; network::NODES], used: usize) -> Kept
-    requires { ⌜ used ≤ 96 ⌝ }
-{
-    let mut cubes = 0;
-    let mut i = 0;
-    while i < used {
-        if counts[i] > network::CUBES - cubes {
-            return Kept { nodes: i, cubes };
-        }
-        cubes += counts[i];
-        i += 1;
-    }
-    Kept { nodes: i, cubes }
-}
-
-fn widen(counts: [usize; network::NODES]) -> [u64; network::NODES] {
-    let mut pool = [0u64; network::NODES];
+fn put_counts(out: &mut [u8], n: usize, counts: [usize; network::NODES], nodes: usize) -> usize {
+    let mut at = wire::put_text(out, n, b" ;");
     let mut i = 0;
     while i < network::NODES {
-        pool[i] = counts[i] as u64;
+        if i >= nodes {
+            return at;
+        }
+        at = wire::put_number(out, at, counts[i] as u64);
         i += 1;
     }
-    pool
-}
-
-// The first n numbers; all where there are fewer.
-fn front(s: &[u64], n: usize) -> &[u64] {
-    if n <= s.len() {
-        return &s[0..n];
-    }
-    s
-}
-
-fn put_counts(out: &mut [u8], n: usize, counts: [usize; network::NODES], nodes: usize) -> usize {
-    let pool = widen(counts);
-    wire::put_group(out, n, front(&pool, nodes))
-}
-
-fn put_words(out: &mut [u8], n: usize, words: [u64; network::WORDS], cubes: usize) -> usize {
-    wire::put_group(out, n, expression::part(&words, 0, cubes))
+    at
 }
 
 fn put_sizes(out: &mut [u8], n: usize, inputs: usize, outputs: usize, divisors: usize) -> usize {
@@ -120,10 +85,10 @@ fn put_sizes(out: &mut [u8], n: usize, inputs: usize, outputs: usize, divisors: 
 pub fn put_network(out: &mut [u8], n: usize, network: Network) -> usize {
     let counts = network.counts;
     let words = network.words;
-    let k = in_use(counts, network.outputs % 33 + network.divisors % 64);
+    let nodes = num::wrapping_add_usize(network.outputs, network.divisors);
     let at = put_sizes(out, n, network.inputs, network.outputs, network.divisors);
-    let at = put_counts(out, at, counts, k.nodes);
-    put_words(out, at, words, k.cubes)
+    let at = put_counts(out, at, counts, nodes);
+    wire::put_group(out, at, network_nodes::front(&words, &counts, nodes))
 }
 
 // `ok` and the network, or what it was refused for.

@@ -1,8 +1,9 @@
-// Requests on lent expressions and their rooms. As in wire, safety and an end are all that is promised here.
+// Requests on lent expressions and their rooms.
+use crate::wire;
+use crate::wire::Told;
 use cokernel::Listed;
 use division::Division;
 use factor::Wrote;
-use wire::Told;
 
 fn parts(a: Division) -> Told {
     match a {

@@ -1,4 +1,6 @@
-// Requests for runs. As in wire, safety and an end are all that is promised here.
+// Requests for runs.
+use crate::nets;
+use crate::wire;
 use cube::Cube;
 use cube::Found;
 use cube::Literal;
@@ -10,7 +12,7 @@ use extract_divisor::Step;
 use network::Network;
 
 // A number that no literal has.
-const NONE: u32 = 128;
+const NONE: u32 = cube::LITERALS;
 
 // What an answer says of a step: whether its divisor is a pair, one literal or two of each part, its weight and its uses.
 struct Shown {
@@ -24,7 +26,7 @@ struct Shown {
 }
 
 fn literal_from(c: Cube, l: u32) -> u32 {
-    if l > 127 {
+    if l >= NONE {
         return NONE;
     }
     let found = cube_order::first_from(c, Literal(l));
@@ -36,7 +38,7 @@ fn literal_from(c: Cube, l: u32) -> u32 {
 
 // The second literal of a part that has two.
 fn second(c: Cube, l: u32) -> u32 {
-    if l > 127 {
+    if l >= NONE {
         return NONE;
     }
     literal_from(c, l + 1)
@@ -81,11 +83,11 @@ fn said(d: Divisor, weight: u64, uses: u64) -> Shown {
 
 // A part of one or two literals.
 fn put_literals(out: &mut [u8], n: usize, l: u32, next: u32) -> usize {
-    if l > 127 {
+    if l >= NONE {
         return n;
     }
     let at = wire::put_number(out, n, l as u64);
-    if next > 127 {
+    if next >= NONE {
         return at;
     }
     let at = wire::put(out, at, b'.');

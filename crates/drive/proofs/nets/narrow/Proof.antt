@@ -1,10 +1,10 @@
--- `nets::narrow` is safe and ends. Assumes nothing.
+-- `drive::nets::narrow` is safe and ends. Assumes nothing.
 use mathlib.Core.Path.{_≡_}
 use Prim.Native.Nat.{_+_, _-_, _<_, _≤_}
 use lib.ListN.{length}
 use borrow.Author.Needs.{needs}
-use Rattle.nets.proofs.narrow.Statement.{statement}
-use Rattle.nets.proofs.narrow.Tie as tie
+use Rattle.drive.proofs.nets.narrow.Statement.{statement}
+use Rattle.drive.proofs.nets.narrow.Tie as tie
 
 abbrev Inv-loop : tie.InvT-loop
 Inv-loop pool counts₀ i₀ counts i = i ≤ 96
