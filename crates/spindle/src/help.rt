@@ -1,5 +1,5 @@
 // The commands, each with an example.
-use line::say;
+use crate::line::say;
 
 fn say_tables(fd: i32) {
     say(

@@ -1,6 +1,13 @@
 // The shop's program: reports, images, and the dispatcher's map. Safety and an end are all that is promised here; what a table or an
 // image answers is promised by the crates that are called.
+mod file;
+mod form;
 mod help;
+mod line;
+mod map;
+mod name;
+mod node;
+mod show;
 
 use libc::STDERR_FILENO;
 use libc::STDOUT_FILENO;
@@ -60,19 +67,24 @@ fn extracted(text: &[u8]) -> Loaded {
     with(network)
 }
 
+fn print_front(page: &[u8], n: usize) {
+    line::put_front(0, page, n);
+}
+
 fn print_report(text: &[u8]) {
     let mut room = [0u8; 16384];
     let a = report::report(text, &mut room);
     match a {
-        report::Wrote::Bytes(n) => line::send(&room, n),
+        report::Wrote::Bytes(n) => print_front(&room, n),
         report::Wrote::Refused(k) => line::refuse(k, 0),
     }
 }
 
 // `orchards.image: 164 bytes, 80 literals`
 fn print_written(path: &[u8], bytes: usize, literals: u64) {
-    line::put(0, path);
-    line::print_filled(b": # bytes, # literals", [bytes as u64, literals, 0, 0]);
+    line::put_labelled(line::put(0, path), b": ", bytes as u64);
+    line::put_labelled(0, b" bytes, ", literals);
+    line::print(b" literals");
 }
 
 fn store_image(bytes: &[u8], k: usize, path: &[u8], literals: u64) {

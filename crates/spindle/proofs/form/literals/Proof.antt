@@ -1,0 +1,43 @@
+-- `form::literals` meets its contract: the count is answered exactly where the rules are kept. Assumes nothing.
+use Prim.Native.Nat.{ℕ}
+use mathlib.Core.Path.{_≡_, refl, sym, ap, _∙_}
+use mathlib.Core.Bool.{Bool, true, false, cond}
+use borrow.Author.Needs.{needs}
+use Rattle.network.specs.Net.{literalCount}
+use Rattle.network.specs.Held.{netOf, rules}
+use Rattle.network.specs.Answers.{counted}
+use Rattle.network.specs.declared.Network.{Network}
+use Rattle.network.specs.declared.Number.{Number}
+use Rattle.network.specs.declared.Number.the-variants.{Is, No}
+use Rattle.spindle.proofs.form.literals.Statement.{statement}
+use Rattle.spindle.proofs.form.literals.Tie as tie
+
+abbrev told : Number → ℕ
+told (Is x) = x
+told (No k) = 0
+
+tells : (n : Network) (a : Number) → a ≡ counted n → told a ≡ cond (rules n) (literalCount (netOf n)) 0
+unfolding counted
+tells n a e = ap told e ∙ go (rules n)
+  where
+    go : (b : Bool) → told (cond b (Is (literalCount (netOf n))) (No 10)) ≡ cond b (literalCount (netOf n)) 0
+    go true = refl
+    go false = refl
+
+literals-requires : tie.Need-literals-requires
+literals-requires c κs = search needs
+
+enum-known-a : tie.Need-enum-known-a
+enum-known-a c = search needs
+
+enum-told : tie.Need-enum-told
+enum-told c = search needs
+
+returns : tie.Need-returns
+returns c = ap told (sym (c .before .a .given .1)) ∙ tells _ _ (c .before .before .before .literals .ensures)
+
+returns-2 : tie.Need-returns-2
+returns-2 c = ap told (sym (c .enum-told .given .1)) ∙ tells _ _ (c .before .before .literals .ensures)
+
+pub literals-spec : {M : Type 1} → statement M
+literals-spec = tie.close (tie.spec literals-requires enum-known-a enum-told returns returns-2)

@@ -1,0 +1,150 @@
+// What an image holds, and its answer on one setting of the inputs.
+use crate::form;
+use crate::line;
+use crate::node;
+use libc::STDERR_FILENO;
+use network::Network;
+use network::Number;
+use std::num;
+
+enum Setting {
+    Is(u64),
+    Wrong,
+}
+
+// ---- the nodes
+
+// The columns of a name.
+fn name_width(n: Network) -> usize {
+    if num::wrapping_add_usize(n.inputs, n.divisors) > 10 {
+        return 3;
+    }
+    if n.outputs > 10 {
+        return 3;
+    }
+    2
+}
+
+// `inputs 15 outputs 19 divisors 6 literals 80`
+fn print_counts(n: Network) {
+    line::put_labelled(0, b"inputs ", n.inputs as u64);
+    line::put_labelled(0, b" outputs ", n.outputs as u64);
+    line::put_labelled(0, b" divisors ", n.divisors as u64);
+    line::put_labelled(0, b" literals ", form::literals(n));
+    line::new();
+}
+
+// `x15 = `
+fn put_head(letter: u8, number: usize, width: usize) {
+    let at = line::put_name(0, letter, number);
+    line::pad(at, width);
+    line::put(0, b" = ");
+}
+
+// `x15 = x3+x5  literals 2`: node i, by the name of a letter and a number.
+fn print_node(n: Network, i: usize, letter: u8, number: usize) {
+    put_head(letter, number, name_width(n));
+    form::put_text(0, n, i);
+    line::put_labelled(0, b"  literals ", node::literals(n, i));
+    line::new();
+}
+
+fn print_divisors(n: Network) {
+    let mut i = 0;
+    while i < n.divisors {
+        print_node(
+            n,
+            num::wrapping_add_usize(n.outputs, i),
+            b'x',
+            num::wrapping_add_usize(n.inputs, i),
+        );
+        i += 1;
+    }
+}
+
+fn print_outputs(n: Network) {
+    let mut i = 0;
+    while i < n.outputs {
+        print_node(n, i, b'y', i);
+        i += 1;
+    }
+}
+
+// The counts, then a line for each divisor and each output.
+pub fn show(n: Network) {
+    print_counts(n);
+    print_divisors(n);
+    print_outputs(n);
+}
+
+// ---- one setting
+
+// The setting with input i as the character says.
+fn set(value: u64, i: usize, b: u8) -> Setting {
+    if b == b'0' {
+        return Setting::Is(value);
+    }
+    if b != b'1' {
+        return Setting::Wrong;
+    }
+    if i >= 64 {
+        return Setting::Wrong;
+    }
+    Setting::Is(value | (1u64 << i))
+}
+
+// A character for each input, input 0 first.
+fn setting_of(word: &[u8], inputs: usize) -> Setting {
+    if word.len() != inputs {
+        return Setting::Wrong;
+    }
+    let mut value: u64 = 0;
+    let mut i = 0;
+    while i < word.len() {
+        let next = set(value, i, word[i]);
+        let Setting::Is(x) = next else {
+            return Setting::Wrong;
+        };
+        value = x;
+        i += 1;
+    }
+    Setting::Is(value)
+}
+
+// How many characters a setting needs, to standard error.
+fn complain(inputs: usize) {
+    io::write_all(STDERR_FILENO, b"spindle: the setting needs ");
+    io::print_decimal(STDERR_FILENO, inputs as u64);
+    io::write_all(STDERR_FILENO, b" characters, each 0 or 1, input 0 first\n");
+}
+
+fn print_answer(j: usize, is_on: bool) {
+    line::put_name(0, b'y', j);
+    if is_on {
+        line::print(b" on");
+        return;
+    }
+    line::print(b" off");
+}
+
+fn print_answers(outputs: usize, answer: u64) {
+    let mut j = 0;
+    while j < outputs {
+        print_answer(j, node::has(answer, j));
+        j += 1;
+    }
+}
+
+// A line for each output: on or off.
+pub fn ask(n: Network, word: &[u8]) {
+    let s = setting_of(word, n.inputs);
+    let Setting::Is(setting) = s else {
+        complain(n.inputs);
+        return;
+    };
+    let a = network_evaluate::evaluate(n, setting);
+    match a {
+        Number::Is(answer) => print_answers(n.outputs, answer),
+        Number::No(k) => line::refuse(k, 0),
+    }
+}
