@@ -21,7 +21,7 @@ use Rattle.extract_laws.specs.Run.{roomFor, choose, move, runFrom, inOrder, run
 use Rattle.image_fields.specs.Fields.{bitsOf, valueOf, fieldBits, bytesFrom, bitsIn}
 use Rattle.image_laws.specs.Renumber.{indexOf, newNumber, newLiteral, newCube, newNode, renumbered}
 use Rattle.image_laws.specs.Image.{cubeFields, nodeFields, headFields, netFields, netBytes, imageOf}
-use Rattle.image_laws.specs.Reading.{getField, getMany, getLiterals, getCube, getNode, getNodes, getRaw, padding, summed, inTheOrder, readsEarlier, oneOrder, judgeRaw, readImage}
+use Rattle.image_laws.specs.Reading.{getField, getMany, getLiterals, getCube, getNode, getNodes, getRaw, padding, summed, inTheOrder, readsEarlier, allInOrder, judgeRaw, readImage}
 use Rattle.cases.specs.Tests.{alike, equalCubes, sameInteger, sameDivisor, turn, sameStop, equalNode, sameNet}
 use Rattle.cases.specs.Cases.{Case, begins, finishes, readAs, isRight, f₁, f₆, f₉, f₁₂, image₅, table}
 use Rattle.cases.specs.Meaning.{Says}
@@ -41,7 +41,7 @@ cases-hold = simp cokernels-opened (unfold
     roomFor choose move runFrom inOrder run cubesAt
     ready nextReady listMore listing numbered indexOf newNumber newLiteral newCube newNode renumbered
     bit bitsOf valueOf fieldBits bytesFrom bitsIn cubeFields nodeFields headFields netFields netBytes imageOf
-    getField getMany getLiterals getCube getNode getNodes getRaw padding summed inTheOrder readsEarlier oneOrder judgeRaw readImage
+    getField getMany getLiterals getCube getNode getNodes getRaw padding summed inTheOrder readsEarlier allInOrder judgeRaw readImage
     in refl)
 
 -- so what each row says is so

@@ -4,13 +4,12 @@ use mathlib.Core.Path.{_≡_, refl, sym, ap, ap₂, _∙_}
 use mathlib.Core.Bool.{Bool, true, false, cond}
 use mathlib.Core.List.{List, [], _∷_, _++_}
 use native.Mathlib.Numerals.{one-add}
-use native.Mathlib.Nat.{zero-add, pow-suc, mod-eq-of-lt, mod-one, mod-lt, zero-lt-suc, le-of-suc-le-suc, not-suc-le-zero}
+use native.Mathlib.Nat.{pow-suc, mod-eq-of-lt, mod-one, mod-lt, zero-lt-suc, le-of-suc-le-suc, not-suc-le-zero}
 use native.Mathlib.Omega.{arith}
 use lib.ListN.{length, getD, take, replicate, length-append, length-replicate}
 use lib.Seq.{take-suc}
 use lib.Pow.{pow-add, mod-pow-add}
 use Rattle.sets.specs.Masks.{bit, nonzero}
-use Rattle.sets.proofs.Digits.{bit-shr}
 use Rattle.image_fields.specs.Fields.{bitsOf, valueOf}
 
 pub bits-length : (w v : ℕ) → length (bitsOf w v) ≡ w
@@ -86,14 +85,6 @@ value-none (suc k) = omega (arith, value-none k)
 pub value-zeros : (l : List Bool) (k : ℕ) → valueOf (l ++ replicate k false) ≡ valueOf l * 2 ^ k
 value-zeros l k =
     value-join l (replicate k false) ∙ ap₂ _+_ (ap (λ n. valueOf l * 2 ^ n) (length-replicate k false)) (value-none k) ∙ omega arith
-
-pub bits-append : (a b v : ℕ) → bitsOf (a + b) v ≡ bitsOf a (v / 2 ^ b) ++ bitsOf b v
-unfolding bitsOf
-bits-append zero b v = ap (λ n. bitsOf n v) (zero-add b)
-bits-append (suc a) b v =
-    let s : suc a + b ≡ suc (a + b) = omega arith in
-    let c : a + b ≡ b + a = omega arith in
-    ap (λ n. bitsOf n v) s ∙ ap₂ _∷_ (ap (bit v) c ∙ sym (bit-shr v b a)) (bits-append a b v)
 
 -- the bits by their places
 pub bits-at : (w v i : ℕ) → i < w → getD (bitsOf w v) i false ≡ bit v (w - 1 - i)

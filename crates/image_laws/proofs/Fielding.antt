@@ -1,5 +1,5 @@
 -- The fields of a network: one after the other, and how many bits they take. Assumes nothing.
-use Prim.Native.Nat.{ℕ, _+_, _*_}
+use Prim.Native.Nat.{ℕ, _+_, _-_, _*_}
 use mathlib.Core.Path.{_≡_, refl, sym, ap, _∙_}
 use mathlib.Core.Bool.{Bool}
 use mathlib.Core.List.{List, [], _∷_, _++_, map, append-assoc}
@@ -7,18 +7,51 @@ use native.Mathlib.Omega.{arith}
 use lib.ListN.{length, length-append}
 use Rattle.sets.specs.Lists.{total}
 use Rattle.sets.proofs.Lists.{total-append, map-map}
-use Rattle.image_fields.specs.Fields.{Field, bitsOf, fieldBits, bytesFor}
+use Rattle.image_fields.specs.Fields.{Field, bitsOf, fieldBits}
 use Rattle.image_fields.proofs.Bits.{bits-length}
-use Rattle.image_fields.proofs.Bytes.{bytes-length}
 use Rattle.expression.specs.Expression.{literalsOf}
 use Rattle.network.specs.Net.{Node, Net, nodes, cubeCount, literalCount}
 use Rattle.network.specs.Handed.{flat}
-use Rattle.image_laws.specs.Image.{field, cubeFields, nodeFields, headFields, netFields, netBytes}
+use Rattle.image_laws.specs.Widths.{editionWidth, edition1, headWidth}
+use Rattle.image_laws.specs.Image.{field, cubeFields, nodeFields, headFields, netFields}
 
 pub fields-append : (a b : List Field) → fieldBits (a ++ b) ≡ fieldBits a ++ fieldBits b
 unfolding fieldBits
 fields-append [] b = refl
-fields-append (f ∷ a) b = ap (bitsOf (f .width) (f .value) ++_) (fields-append a b) ∙ sym (append-assoc (bitsOf (f .width) (f .value)) (fieldBits a) (fieldBits b))
+fields-append (f ∷ a) b =
+    ap (bitsOf (f .width) (f .value) ++_) (fields-append a b) ∙ sym (append-assoc (bitsOf (f .width) (f .value)) (fieldBits a) (fieldBits b))
+
+-- ---- the bits of each field
+
+abbrev pub inputsBits : ℕ → List Bool
+inputsBits n = bitsOf (edition1 .inputs) (n - 1)
+
+abbrev pub outputsBits : ℕ → List Bool
+outputsBits m = bitsOf (edition1 .outputs) (m - 1)
+
+abbrev pub divisorsBits : ℕ → List Bool
+divisorsBits k = bitsOf (edition1 .divisors) k
+
+-- of a cube count, of a literal count, of a literal
+abbrev pub cubesBits : ℕ → List Bool
+cubesBits k = bitsOf (edition1 .cubes) k
+
+abbrev pub literalsBits : ℕ → List Bool
+literalsBits k = bitsOf (edition1 .literals) k
+
+abbrev pub literalBits : ℕ → List Bool
+literalBits l = bitsOf (edition1 .literal) l
+
+abbrev pub literalFields : List ℕ → List Field
+literalFields c = map (field (edition1 .literal)) c
+
+-- the head, and bits after it
+abbrev pub headed : ℕ → ℕ → ℕ → List Bool → List Bool
+headed n m k l = bitsOf editionWidth (edition1 .number) ++ (inputsBits n ++ (outputsBits m ++ (divisorsBits k ++ l)))
+
+pub head-fields : (n m k : ℕ) (l : List Bool) → fieldBits (headFields n m k) ++ l ≡ headed n m k l
+unfolding headFields fieldBits
+head-fields n m k l = simp append-assoc
 
 -- ---- the fields of a network: the head, each divisor, each output
 
@@ -41,38 +74,47 @@ net-bits n =
 
 -- ---- how many bits
 
-literal-bits-length : (c : List ℕ) → length (fieldBits (map (field 7) c)) ≡ 7 * length c
+literal-bits-length : (c : List ℕ) → length (fieldBits (literalFields c)) ≡ edition1 .literal * length c
 unfolding fieldBits
 literal-bits-length [] = refl
-literal-bits-length (l ∷ c) = length-append (bitsOf 7 l) (fieldBits (map (field 7) c)) ∙ omega (arith, bits-length 7 l, literal-bits-length c)
+literal-bits-length (l ∷ c) =
+    length-append (literalBits l) (fieldBits (literalFields c)) ∙ omega (arith, bits-length (edition1 .literal) l, literal-bits-length c)
 
-pub cube-bits-length : (c : List ℕ) → length (fieldBits (cubeFields c)) ≡ 7 + 7 * length c
+pub cube-bits-length : (c : List ℕ) → length (fieldBits (cubeFields c)) ≡ edition1 .literals + edition1 .literal * length c
 unfolding fieldBits cubeFields
-cube-bits-length c = length-append (bitsOf 7 (length c)) (fieldBits (map (field 7) c)) ∙ omega (arith, bits-length 7 (length c), literal-bits-length c)
+cube-bits-length c =
+    length-append (literalsBits (length c)) (fieldBits (literalFields c))
+    ∙ omega (arith, bits-length (edition1 .literals) (length c), literal-bits-length c)
 
-cubes-bits-length : (f : List (List ℕ)) → length (fieldBits (flat (map cubeFields f))) ≡ 7 * (length f + literalsOf f)
+cubes-bits-length : (f : List (List ℕ)) → length (fieldBits (flat (map cubeFields f))) ≡ edition1 .literals * length f + edition1 .literal * literalsOf f
 unfolding fieldBits
 cubes-bits-length [] = refl
 cubes-bits-length (c ∷ f) =
     ap length (fields-append (cubeFields c) (flat (map cubeFields f))) ∙ length-append (fieldBits (cubeFields c)) (fieldBits (flat (map cubeFields f)))
     ∙ omega (arith, cube-bits-length c, cubes-bits-length f)
 
-pub node-bits-length : (f : List (List ℕ)) → length (fieldBits (nodeFields f)) ≡ 11 + 7 * (length f + literalsOf f)
-unfolding fieldBits nodeFields
-node-bits-length f = length-append (bitsOf 11 (length f)) (fieldBits (flat (map cubeFields f))) ∙ omega (arith, bits-length 11 (length f), cubes-bits-length f)
+-- the bits of nodes: so many nodes, cubes and literals
+abbrev pub bitsFor : ℕ → ℕ → ℕ → ℕ
+bitsFor nodes cubes literals = edition1 .cubes * nodes + (edition1 .literals * cubes + edition1 .literal * literals)
 
-pub nodes-bits-length : (fs : List (List (List ℕ))) → length (nodeBits fs) ≡ 11 * length fs + 7 * (total length fs + total literalsOf fs)
+pub node-bits-length : (f : List (List ℕ)) → length (fieldBits (nodeFields f)) ≡ bitsFor 1 (length f) (literalsOf f)
+unfolding fieldBits nodeFields
+node-bits-length f =
+    length-append (cubesBits (length f)) (fieldBits (flat (map cubeFields f)))
+    ∙ omega (arith, bits-length (edition1 .cubes) (length f), cubes-bits-length f)
+
+pub nodes-bits-length : (fs : List (List (List ℕ))) → length (nodeBits fs) ≡ bitsFor (length fs) (total length fs) (total literalsOf fs)
 unfolding fieldBits
 nodes-bits-length [] = refl
 nodes-bits-length (f ∷ fs) =
     ap length (fields-append (nodeFields f) (flat (map nodeFields fs))) ∙ length-append (fieldBits (nodeFields f)) (nodeBits fs)
     ∙ omega (arith, node-bits-length f, nodes-bits-length fs)
 
-pub head-bits-length : (n m k : ℕ) → length (fieldBits (headFields n m k)) ≡ 20
+head-bits-length : (n m k : ℕ) → length (fieldBits (headFields n m k)) ≡ headWidth
 unfolding fieldBits headFields bitsOf
 head-bits-length n m k = refl
 
-pub net-bits-length : (n : Net) → length (fieldBits (netFields n)) ≡ 20 + 11 * length (nodes n) + 7 * (cubeCount n + literalCount n)
+pub net-bits-length : (n : Net) → length (fieldBits (netFields n)) ≡ headWidth + bitsFor (length (nodes n)) (cubeCount n) (literalCount n)
 net-bits-length n =
     let ds = divisorCubes n in
     ap length (net-bits n) ∙ length-append (headBits n) (nodeBits ds ++ nodeBits (n .outputs))
@@ -86,7 +128,3 @@ net-bits-length n =
       total-append length (n .outputs) ds,
       total-append literalsOf (n .outputs) ds,
     )
-
-pub net-bytes-length : (n : Net) → length (netBytes n) ≡ bytesFor (20 + 11 * length (nodes n) + 7 * (cubeCount n + literalCount n))
-unfolding netBytes
-net-bytes-length n = bytes-length (fieldBits (netFields n)) ∙ ap bytesFor (net-bits-length n)

@@ -16,13 +16,14 @@ use Rattle.sets.proofs.Lists.{_∈_, all-in, all-out, ahead, total-append}
 use Rattle.sets.proofs.Sets.{mem-of, of-mem, sub-in, proper-out, proper-sub}
 use Rattle.expression.specs.Expression.{isCube, loose, ordered, literalsOf}
 use Rattle.network.specs.Net.{Node, Net, nodes}
-use Rattle.network.specs.Meaning.{Reads, Through, itself, others}
+use Rattle.network.specs.Meaning.{Reads}
 use Rattle.network.specs.Held.{numbered, reach, mostCubes, mostLiterals}
 use Rattle.network.specs.Rules.{Lawful}
 use Rattle.network.proofs.Numbering.{numbered-length, numbered-cubes, reach-in, reach-out}
-use Rattle.image_laws.specs.Reading.{Raw, rawNodes, rawNet, summed, inTheOrder, readsEarlier, oneOrder}
+use Rattle.image_laws.specs.Reading.{Raw, rawNodes, rawNet, summed, inTheOrder, readsEarlier, allInOrder}
 use Rattle.image_laws.specs.Meaning.{OneOrder, FitCube, FitRaw}
 use Rattle.image_laws.proofs.Fielding.{divisorCubes}
+use Rattle.image_laws.proofs.Renumbering.{through-less}
 
 module _ {A : Type 0} where
   swap-in : {x : A} (a b : List A) → x ∈ (a ++ b) → x ∈ (b ++ a)
@@ -52,23 +53,18 @@ earlier-in v (f ∷ fs) h =
     ((both (reach v f) true (reach-in v (f ∷ []) (λ g m u r. h (record { number = v; cubes = f }) (here refl) u (subst (λ z. Reads z u) (List·Memᴰ·eq-of-singleton m) r)))) .0)
     (earlier-in (suc v) fs (λ e m. h e (there m)))
 
--- so that numbers fall along what is read
-through-less : (n : Net) → ((e : Node) → e ∈ n .divisors → (u : ℕ) → Reads (e .cubes) u → u < e .number) → {u v : ℕ} → Through n u v → v < u
-through-less n h (itself {e = e} {g = g} i j r) = h e i (g .number) r
-through-less n h (others {e = e} {g = g} i j r t) = omega (arith, h e i (g .number) r, through-less n h t)
-
 -- ---- what is read is lawful and in order
 
-module _ (r : Raw) (fits : FitRaw r) (sums : summed r ≡ true) (order : oneOrder r ≡ true) where
+module _ (r : Raw) (fits : FitRaw r) (sums : summed r ≡ true) (order : allInOrder r ≡ true) where
   raw-in : {f : List (List ℕ)} → f ∈ nodes (rawNet r) → f ∈ rawNodes r
   raw-in {f} m = swap-in (r .outputs) (r .divisors) (subst (λ ds. f ∈ (r .outputs ++ ds)) (numbered-cubes (r .inputs) (r .divisors)) m)
 
   ranks : (f : List (List ℕ)) → f ∈ nodes (rawNet r) → inTheOrder f ≡ true
-  unfolding oneOrder
+  unfolding allInOrder
   ranks f m = all-out inTheOrder (raw-in m) ((both (all inTheOrder (rawNodes r)) (readsEarlier (r .inputs) (r .divisors)) order) .0)
 
   pub raw-order : OneOrder (rawNet r)
-  unfolding oneOrder inTheOrder
+  unfolding allInOrder inTheOrder
   raw-order = record {
     cubes = λ f m. (both (ordered f) (pairwise loose f) ((both (all asc f) (ordered f && pairwise loose f) (ranks f m)) .1)) .0;
     earlier = earlier-out (r .inputs) (r .divisors) ((both (all inTheOrder (rawNodes r)) (readsEarlier (r .inputs) (r .divisors)) order) .1);
@@ -142,8 +138,8 @@ module _ (n : Net) (h : Lawful n) where
       (le-leb (total length (rawNodes (rawOf n))) mostCubes (omega (arith, total-append length (n .outputs) (divisorCubes n), total-append length (divisorCubes n) (n .outputs), h .cubes)))
       (le-leb (total literalsOf (rawNodes (rawOf n))) mostLiterals (omega (arith, total-append literalsOf (n .outputs) (divisorCubes n), total-append literalsOf (divisorCubes n) (n .outputs), h .literals)))
 
-  pub lawful-order : OneOrder n → oneOrder (rawOf n) ≡ true
-  unfolding oneOrder inTheOrder
+  pub lawful-order : OneOrder n → allInOrder (rawOf n) ≡ true
+  unfolding allInOrder inTheOrder
   lawful-order o =
       together (all inTheOrder (rawNodes (rawOf n))) (readsEarlier (n .inputs) (divisorCubes n))
       (all-in inTheOrder (rawNodes (rawOf n)) (λ f m.

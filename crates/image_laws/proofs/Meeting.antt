@@ -8,28 +8,29 @@ use lib.Dec.{ltb}
 use lib.ListN.{length, take, drop, take-append-drop}
 use lib.Seq.{length-take-le}
 use Rattle.image_fields.specs.Fields.{valueOf}
-use Rattle.image_laws.specs.Reading.{Got, got, bad, andThen, getField, getMany, getLiterals, getCube, getNode, Raw, getNodes, getRaw}
+use Rattle.image_laws.specs.Widths.{edition1}
+use Rattle.image_laws.specs.Reading.{Parsed, got, bad, andThen, getField, getMany, getLiterals, getCube, getNode, Raw, getNodes, getRaw}
 use Rattle.image_laws.specs.Layout.{Layout, ends, next, manyLayout, literalsLayout, cubeLayout, nodeLayout, nodesLayout, imageLayout, Meets, here, later, Stray, Cut}
 use Rattle.image_laws.proofs.Reading.{field-whole}
 
 -- field by field
-readBy : Layout → List Bool → Got Raw
+readBy : Layout → List Bool → Parsed Raw
 readBy (ends r) l = got r l
 readBy (next w ok g) l = andThen (getField w ok l) (λ x r. readBy (g x) r)
 
 -- ---- an image is read so
 
 -- what is read, then what follows
-abbrev As : {A : Type 0} → (List Bool → Got A) → ((A → Layout) → Layout) → Type 0
+abbrev As : {A : Type 0} → (List Bool → Parsed A) → ((A → Layout) → Layout) → Type 0
 As {A} f g = (k : A → Layout) (l : List Bool) → readBy (g k) l ≡ andThen (f l) (λ x r. readBy (k x) r)
 
 module _ {A B : Type 0} where
-  then-then : (m : Got A) (f : A → List Bool → Got B) (k : B → List Bool → Got Raw) (p : A → List Bool → Got Raw)
+  then-then : (m : Parsed A) (f : A → List Bool → Parsed B) (k : B → List Bool → Parsed Raw) (p : A → List Bool → Parsed Raw)
       → ((x : A) (r : List Bool) → p x r ≡ andThen (f x r) k) → andThen m p ≡ andThen (andThen m f) k
   then-then (got x r) f k p h = h x r
   then-then (bad e) f k p h = refl
 
-many-as : {A : Type 0} (f : List Bool → Got A) (g : (A → Layout) → Layout) → As f g → (n : ℕ) → As (getMany f n) (manyLayout g n)
+many-as : {A : Type 0} (f : List Bool → Parsed A) (g : (A → Layout) → Layout) → As f g → (n : ℕ) → As (getMany f n) (manyLayout g n)
 unfolding getMany manyLayout readBy
 many-as f g h zero k l = refl
 many-as f g h (suc n) k l =
@@ -40,15 +41,15 @@ literals-as : (v n : ℕ) (seen : List ℕ) → As (getLiterals v n seen) (liter
 unfolding getLiterals literalsLayout readBy
 literals-as v zero seen k l = refl
 literals-as v (suc n) seen k l =
-    then-then (getField 7 _ l) _ _ _ (λ x r. literals-as v n (x ∷ seen) (λ xs. k (x ∷ xs)) r ∙ then-then (getLiterals v n (x ∷ seen) r) _ _ _ (λ xs t. refl))
+    then-then (getField (edition1 .literal) _ l) _ _ _ (λ x r. literals-as v n (x ∷ seen) (λ xs. k (x ∷ xs)) r ∙ then-then (getLiterals v n (x ∷ seen) r) _ _ _ (λ xs t. refl))
 
 cube-as : (v : ℕ) → As (getCube v) (cubeLayout v)
 unfolding getCube cubeLayout readBy
-cube-as v k l = then-then (getField 7 _ l) _ _ _ (λ c r. literals-as v c [] k r)
+cube-as v k l = then-then (getField (edition1 .literals) _ l) _ _ _ (λ c r. literals-as v c [] k r)
 
 node-as : (v : ℕ) → As (getNode v) (nodeLayout v)
 unfolding getNode nodeLayout readBy
-node-as v k l = then-then (getField 11 _ l) _ _ _ (λ c r. many-as (getCube v) (cubeLayout v) (cube-as v) c k r)
+node-as v k l = then-then (getField (edition1 .cubes) _ l) _ _ _ (λ c r. many-as (getCube v) (cubeLayout v) (cube-as v) c k r)
 
 nodes-as : (n m k : ℕ) (l : List Bool) → readBy (nodesLayout n m k) l ≡ getNodes n m k l
 unfolding getNodes nodesLayout readBy
@@ -61,7 +62,7 @@ image-as l = simp nodes-as
 -- ---- the two ends
 
 -- what is read along a layout: all of it, or else which end the bits meet
-pub data Along (g : Layout) (l : List Bool) : Got Raw → Type 0 where
+pub data Along (g : Layout) (l : List Bool) : Parsed Raw → Type 0 where
   all : {r : Raw} {rest : List Bool} → Along g l (got r rest)
   stray : Meets Stray g l → Along g l (bad 12)
   cut : Meets Cut g l → Along g l (bad 11)
@@ -70,7 +71,7 @@ module _ (w : ℕ) (ok : ℕ → Bool) (g : ℕ → Layout) (l : List Bool) (all
   past : {End : ℕ → (ℕ → Bool) → List Bool → Type 0} → ok (valueOf (take w l)) ≡ true → Meets End (g (valueOf (take w l))) (drop w l) → Meets End (next w ok g) l
   past {End} y m = subst (Meets End (next w ok g)) (take-append-drop w l) (later (take w l) (length-take-le w l all-there) y m)
 
-  along-past : ok (valueOf (take w l)) ≡ true → {o : Got Raw} → Along (g (valueOf (take w l))) (drop w l) o → Along (next w ok g) l o
+  along-past : ok (valueOf (take w l)) ≡ true → {o : Parsed Raw} → Along (g (valueOf (take w l))) (drop w l) o → Along (next w ok g) l o
   along-past y all = all
   along-past y (stray m) = stray (past y m)
   along-past y (cut m) = cut (past y m)

@@ -2,7 +2,7 @@
 use Prim.Native.Nat.{ℕ, zero, suc, _+_, _-_, _/_, _^_, _<_, _≤_}
 use mathlib.Core.Path.{_≡_, refl, sym, ap, ap₂, _∙_, subst}
 use mathlib.Core.Logic.{_⊎_, inl, inr}
-use mathlib.Core.Bool.{Bool, true, false, cond, not, _&&_}
+use mathlib.Core.Bool.{Bool, true, false, cond, not}
 use mathlib.Core.List.{List, [], _∷_, _++_, map, append-assoc, List·Memᴰ·head as here, List·Memᴰ·tail as there, List·Memᴰ·not-nil, List·Memᴰ·cases-cons, List·Memᴰ·append-cases, Memᴰ·append-left, Memᴰ·append-right}
 use native.Mathlib.Omega.{arith}
 use borrow.Author.Tests.{ltb-true, ltb-false, leb-true, eqb-true, eqb-false, not-true, lt-ltb, le-ltb, le-leb}
@@ -19,10 +19,11 @@ use Rattle.image_fields.proofs.Bits.{bits-length, value-lt, value-bits, bits-va
 use Rattle.network.specs.Held.{mostInputs, mostOutputs, mostVariables, mostCubes}
 use Rattle.network.specs.Handed.{flat}
 use Rattle.network.proofs.Numbering.{numbered-length, numbered-cubes}
-use Rattle.image_laws.specs.Image.{field, cubeFields, nodeFields, headFields}
-use Rattle.image_laws.specs.Reading.{Got, got, bad, andThen, getField, getMany, getLiterals, getCube, getNode, Raw, getNodes, getRaw, rawNodes, rawNet}
+use Rattle.image_laws.specs.Widths.{editionWidth, edition1}
+use Rattle.image_laws.specs.Image.{cubeFields, nodeFields, headFields}
+use Rattle.image_laws.specs.Reading.{Parsed, got, bad, andThen, getField, getMany, allowed, getLiterals, getCube, getNode, Raw, getNodes, getRaw, rawNodes, rawNet}
 use Rattle.image_laws.specs.Meaning.{FitCube, FitNode, FitRaw, rawBits}
-use Rattle.image_laws.proofs.Fielding.{fields-append, nodeBits, net-bits}
+use Rattle.image_laws.proofs.Fielding.{fields-append, inputsBits, outputsBits, divisorsBits, cubesBits, literalsBits, literalBits, literalFields, headed, head-fields, nodeBits, net-bits}
 
 -- ---- one field
 
@@ -54,12 +55,12 @@ field-get w ok l {v} {rest} h = go (ltb (length l) w) (ok (valueOf (take w l))) 
 -- ---- going on with what is read
 
 module _ {A B : Type 0} where
-  then-out : (m : Got A) (k : A → List Bool → Got B) {y : B} {t : List Bool} → andThen m k ≡ got y t
+  then-out : (m : Parsed A) (k : A → List Bool → Parsed B) {y : B} {t : List Bool} → andThen m k ≡ got y t
       → (x : A) × (r : List Bool) × (m ≡ got x r) × (k x r ≡ got y t)
   then-out (got x r) k h = (x, r, refl, h)
   then-out (bad e) k h = let z : _≡_ {A = ℕ} 0 1 = cc in absurd (omega arith)
 
-module _ {A : Type 0} (g : List Bool → Got A) (put : A → List Field) where
+module _ {A : Type 0} (g : List Bool → Parsed A) (put : A → List Field) where
   pub many-put : (xs : List A) (rest : List Bool) → ((x : A) → x ∈ xs → (t : List Bool) → g (fieldBits (put x) ++ t) ≡ got x t)
       → getMany g (length xs) (fieldBits (flat (map put xs)) ++ rest) ≡ got xs rest
   unfolding getMany fieldBits
@@ -100,15 +101,15 @@ module _ {A : Type 0} (g : List Bool → Got A) (put : A → List Field) where
 
 pub literals-put : (v : ℕ) (d : List ℕ) → v ≤ mostVariables → proper d ≡ true → (c seen : List ℕ) (rest : List Bool)
     → ((x : ℕ) → x ∈ c → x ∈ d) → ((x : ℕ) → x ∈ seen → x ∈ d) → ((x : ℕ) → x ∈ c → x / 2 < v)
-    → getLiterals v (length c) seen (fieldBits (map (field 7) c) ++ rest) ≡ got c rest
+    → getLiterals v (length c) seen (fieldBits (literalFields c) ++ rest) ≡ got c rest
 unfolding getLiterals fieldBits
 literals-put v d few single [] seen rest a b k = refl
 literals-put v d few single (x ∷ c) seen rest a b k =
     let h : x / 2 < v = k x (here refl) in
     let free : mem (oppositeOf x) seen ≡ false = refuted (λ m. clash (mem-of (b (oppositeOf x) (of-mem (oppositeOf x) seen m))) (proper-out d x single (mem-of (a x (here refl))))) in
     rw (
-      append-assoc (bitsOf 7 x) (fieldBits (map (field 7) c)) rest,
-      field-put 7 x (λ y. ltb (y / 2) v && not (mem (oppositeOf y) seen)) (fieldBits (map (field 7) c) ++ rest) (omega arith) (rw (lt-ltb (x / 2) v h, free)),
+      append-assoc (literalBits x) (fieldBits (literalFields c)) rest,
+      field-put (edition1 .literal) x (allowed v seen) (fieldBits (literalFields c) ++ rest) (omega arith) (rw (lt-ltb (x / 2) v h, free)),
       literals-put v d few single c (x ∷ seen) rest (λ y m. a y (there m)) (λ y m. elim (List·Memᴰ·cases-cons m) [ inl e ↦ rw e (a x (here refl)) | inr t ↦ b y t ]) (λ y m. k y (there m)),
     )
 
@@ -123,7 +124,7 @@ proper-more x c h k = proper-in (x ∷ c) (λ z m. refuted (λ o. go z (List·Me
     go z (inr t) (inr u) = clash (mem-of u) (proper-out c z h (mem-of t))
 
 pub record GotLiterals (v k : ℕ) (seen : List ℕ) (l : List Bool) (c : List ℕ) (rest : List Bool) : Type 0 where
-  pub bits : l ≡ fieldBits (map (field 7) c) ++ rest
+  pub bits : l ≡ fieldBits (literalFields c) ++ rest
   pub count : length c ≡ k
   pub known : (x : ℕ) → x ∈ c → x / 2 < v
   pub free : (x : ℕ) → x ∈ c → mem (oppositeOf x) seen ≡ false
@@ -137,18 +138,18 @@ literals-get v zero seen l c rest e =
     subst (λ d. GotLiterals v 0 seen l d rest) n
     (record { bits = t; count = refl; known = λ x m. absurd (List·Memᴰ·not-nil m); free = λ x m. absurd (List·Memᴰ·not-nil m); single = refl })
 literals-get v (suc k) seen l c rest e =
-    let p = then-out (getField 7 (λ x. ltb (x / 2) v && not (mem (oppositeOf x) seen)) l) _ e in
+    let p = then-out (getField (edition1 .literal) (allowed v seen) l) _ e in
     let x = p .0 in
     let q = then-out (getLiterals v k (x ∷ seen) (p .1)) _ (p .3) in
     let xs = q .0 in
-    let f = field-get 7 (λ y. ltb (y / 2) v && not (mem (oppositeOf y) seen)) l (p .2) in
+    let f = field-get (edition1 .literal) (allowed v seen) l (p .2) in
     let w = both (ltb (x / 2) v) (not (mem (oppositeOf x) seen)) (f .2) in
     let o = literals-get v k (x ∷ seen) (p .1) xs (q .1) (q .2) in
     let u = q .3 in
     let n : x ∷ xs ≡ c = cc in
     let t : q .1 ≡ rest = cc in
     subst (λ d. GotLiterals v (suc k) seen l d rest) n (record {
-      bits = f .0 ∙ ap (bitsOf 7 x ++_) (o .bits ∙ ap (fieldBits (map (field 7) xs) ++_) t) ∙ sym (append-assoc (bitsOf 7 x) (fieldBits (map (field 7) xs)) rest);
+      bits = f .0 ∙ ap (literalBits x ++_) (o .bits ∙ ap (fieldBits (literalFields xs) ++_) t) ∙ sym (append-assoc (literalBits x) (fieldBits (literalFields xs)) rest);
       count = ap suc (o .count);
       known = λ y m. elim (List·Memᴰ·cases-cons m) [ inl g ↦ rw g (ltb-true (x / 2) v (w .0)) | inr g ↦ o .known y g ];
       free = λ y m. elim (List·Memᴰ·cases-cons m) [
@@ -164,18 +165,18 @@ pub cube-put : (v : ℕ) → v ≤ mostVariables → (c : List ℕ) → FitCube 
 unfolding getCube cubeFields fieldBits
 cube-put v h c f rest =
     rw (
-      append-assoc (bitsOf 7 (length c)) (fieldBits (map (field 7) c)) rest,
-      field-put 7 (length c) (λ k. leb k v) (fieldBits (map (field 7) c) ++ rest) (omega (arith, f .few)) (le-leb (length c) v (f .few)),
+      append-assoc (literalsBits (length c)) (fieldBits (literalFields c)) rest,
+      field-put (edition1 .literals) (length c) (λ k. leb k v) (fieldBits (literalFields c) ++ rest) (omega (arith, f .few)) (le-leb (length c) v (f .few)),
     )
     (literals-put v c h (f .single) c [] rest (λ x m. m) (λ x m. absurd (List·Memᴰ·not-nil m)) (f .known))
 
 pub cube-get : (v : ℕ) (l : List Bool) (c : List ℕ) (rest : List Bool) → getCube v l ≡ got c rest → (l ≡ fieldBits (cubeFields c) ++ rest) × FitCube v c
 unfolding getCube cubeFields fieldBits
 cube-get v l c rest e =
-    let p = then-out (getField 7 (λ k. leb k v) l) _ e in
-    let f = field-get 7 (λ k. leb k v) l (p .2) in
+    let p = then-out (getField (edition1 .literals) (λ k. leb k v) l) _ e in
+    let f = field-get (edition1 .literals) (λ k. leb k v) l (p .2) in
     let o = literals-get v (p .0) [] (p .1) c rest (p .3) in (
-      f .0 ∙ ap₂ (λ k t. bitsOf 7 k ++ t) (sym (o .count)) (o .bits) ∙ sym (append-assoc (bitsOf 7 (length c)) (fieldBits (map (field 7) c)) rest),
+      f .0 ∙ ap₂ (λ k t. literalsBits k ++ t) (sym (o .count)) (o .bits) ∙ sym (append-assoc (literalsBits (length c)) (fieldBits (literalFields c)) rest),
       record { few = omega (arith, o .count, leb-true (p .0) v (f .2)); known = o .known; single = o .single },
     )
 
@@ -183,30 +184,22 @@ pub node-put : (v : ℕ) → v ≤ mostVariables → (f : List (List ℕ)) → F
 unfolding getNode nodeFields fieldBits
 node-put v h f k rest =
     rw (
-      append-assoc (bitsOf 11 (length f)) (fieldBits (flat (map cubeFields f))) rest,
-      field-put 11 (length f) (λ c. leb c mostCubes) (fieldBits (flat (map cubeFields f)) ++ rest) (omega (arith, k .few)) (le-leb (length f) mostCubes (k .few)),
+      append-assoc (cubesBits (length f)) (fieldBits (flat (map cubeFields f))) rest,
+      field-put (edition1 .cubes) (length f) (λ c. leb c mostCubes) (fieldBits (flat (map cubeFields f)) ++ rest) (omega (arith, k .few)) (le-leb (length f) mostCubes (k .few)),
     )
     (many-put (getCube v) cubeFields f rest (λ c m. cube-put v h c (k .cubes c m)))
 
 pub node-get : (v : ℕ) (l : List Bool) (f : List (List ℕ)) (rest : List Bool) → getNode v l ≡ got f rest → (l ≡ fieldBits (nodeFields f) ++ rest) × FitNode v f
 unfolding getNode nodeFields fieldBits
 node-get v l f rest e =
-    let p = then-out (getField 11 (λ c. leb c mostCubes) l) _ e in
-    let g = field-get 11 (λ c. leb c mostCubes) l (p .2) in
+    let p = then-out (getField (edition1 .cubes) (λ c. leb c mostCubes) l) _ e in
+    let g = field-get (edition1 .cubes) (λ c. leb c mostCubes) l (p .2) in
     let o = many-get (getCube v) cubeFields (FitCube v) (cube-get v) (p .0) (p .1) f rest (p .3) in (
-      g .0 ∙ ap₂ (λ k t. bitsOf 11 k ++ t) (sym (o .1)) (o .0) ∙ sym (append-assoc (bitsOf 11 (length f)) (fieldBits (flat (map cubeFields f))) rest),
+      g .0 ∙ ap₂ (λ k t. cubesBits k ++ t) (sym (o .1)) (o .0) ∙ sym (append-assoc (cubesBits (length f)) (fieldBits (flat (map cubeFields f))) rest),
       record { few = omega (arith, o .1, leb-true (p .0) mostCubes (g .2)); cubes = o .2 },
     )
 
 -- ---- the whole
-
--- the four fields of the head, and bits after them
-abbrev headed : ℕ → ℕ → ℕ → List Bool → List Bool
-headed n m k l = bitsOf 4 1 ++ (bitsOf 5 (n - 1) ++ (bitsOf 5 (m - 1) ++ (bitsOf 6 k ++ l)))
-
-head-fields : (n m k : ℕ) (l : List Bool) → fieldBits (headFields n m k) ++ l ≡ headed n m k l
-unfolding headFields fieldBits
-head-fields n m k l = simp append-assoc
 
 raw-fields : (r : Raw) (rest : List Bool)
     → rawBits r ++ rest ≡ headed (r .inputs) (length (r .outputs)) (length (r .divisors)) ((nodeBits (r .divisors) ++ nodeBits (r .outputs)) ++ rest)
@@ -223,10 +216,10 @@ head-put n m k l a b c =
     let n₁ : suc (n - 1) ≡ n = omega arith in
     let m₁ : suc (m - 1) ≡ m = omega arith in
     rw (
-      field-put 4 1 (eqb 1) (bitsOf 5 (n - 1) ++ (bitsOf 5 (m - 1) ++ (bitsOf 6 k ++ l))) (omega arith) refl,
-      field-put 5 (n - 1) (λ x. true) (bitsOf 5 (m - 1) ++ (bitsOf 6 k ++ l)) (omega arith) refl,
-      field-put 5 (m - 1) (λ x. true) (bitsOf 6 k ++ l) (omega arith) refl,
-      field-put 6 k (λ j. leb (suc (n - 1) + j) mostVariables) l (omega arith) (le-leb (suc (n - 1) + k) mostVariables (omega arith)),
+      field-put editionWidth (edition1 .number) (eqb (edition1 .number)) (inputsBits n ++ (outputsBits m ++ (divisorsBits k ++ l))) (omega arith) refl,
+      field-put (edition1 .inputs) (n - 1) (λ x. true) (outputsBits m ++ (divisorsBits k ++ l)) (omega arith) refl,
+      field-put (edition1 .outputs) (m - 1) (λ x. true) (divisorsBits k ++ l) (omega arith) refl,
+      field-put (edition1 .divisors) k (λ j. leb (suc (n - 1) + j) mostVariables) l (omega arith) (le-leb (suc (n - 1) + k) mostVariables (omega arith)),
       n₁,
       m₁,
     )
@@ -279,21 +272,23 @@ nodes-get n m k l r rest e =
 pub put-get : (l : List Bool) (r : Raw) (rest : List Bool) → getRaw l ≡ got r rest → (l ≡ rawBits r ++ rest) × FitRaw r
 unfolding getRaw
 put-get l r rest e =
-    let p₁ = then-out (getField 4 (eqb 1) l) _ e in
-    let p₂ = then-out (getField 5 (λ x. true) (p₁ .1)) _ (p₁ .3) in
-    let p₃ = then-out (getField 5 (λ x. true) (p₂ .1)) _ (p₂ .3) in
-    let p₄ = then-out (getField 6 (λ k. leb (suc (p₂ .0) + k) mostVariables) (p₃ .1)) _ (p₃ .3) in
-    let f₁ = field-get 4 (eqb 1) l (p₁ .2) in
-    let f₂ = field-get 5 (λ x. true) (p₁ .1) (p₂ .2) in
-    let f₃ = field-get 5 (λ x. true) (p₂ .1) (p₃ .2) in
-    let f₄ = field-get 6 (λ k. leb (suc (p₂ .0) + k) mostVariables) (p₃ .1) (p₄ .2) in
+    let p₁ = then-out (getField editionWidth (eqb (edition1 .number)) l) _ e in
+    let p₂ = then-out (getField (edition1 .inputs) (λ x. true) (p₁ .1)) _ (p₁ .3) in
+    let p₃ = then-out (getField (edition1 .outputs) (λ x. true) (p₂ .1)) _ (p₂ .3) in
+    let p₄ = then-out (getField (edition1 .divisors) (λ k. leb (suc (p₂ .0) + k) mostVariables) (p₃ .1)) _ (p₃ .3) in
+    let f₁ = field-get editionWidth (eqb (edition1 .number)) l (p₁ .2) in
+    let f₂ = field-get (edition1 .inputs) (λ x. true) (p₁ .1) (p₂ .2) in
+    let f₃ = field-get (edition1 .outputs) (λ x. true) (p₂ .1) (p₃ .2) in
+    let f₄ = field-get (edition1 .divisors) (λ k. leb (suc (p₂ .0) + k) mostVariables) (p₃ .1) (p₄ .2) in
     let o = nodes-get (suc (p₂ .0)) (suc (p₃ .0)) (p₄ .0) (p₄ .1) r rest (p₄ .3) in
-    let edition : p₁ .0 ≡ 1 = sym (eqb-true 1 (p₁ .0) (f₁ .2)) in
+    let edition : p₁ .0 ≡ edition1 .number = sym (eqb-true (edition1 .number) (p₁ .0) (f₁ .2)) in
     let a : p₂ .0 ≡ r .inputs - 1 = omega (arith, o .inputs) in
     let b : p₃ .0 ≡ length (r .outputs) - 1 = omega (arith, o .outputs) in
     let few : suc (p₂ .0) + p₄ .0 ≤ mostVariables = leb-true (suc (p₂ .0) + p₄ .0) mostVariables (f₄ .2) in (
-      f₁ .0 ∙ ap₂ (λ x t. bitsOf 4 x ++ t) edition (f₂ .0 ∙ ap₂ (λ x t. bitsOf 5 x ++ t) a (f₃ .0 ∙ ap₂ (λ x t. bitsOf 5 x ++ t) b
-          (f₄ .0 ∙ ap₂ (λ x t. bitsOf 6 x ++ t) (sym (o .divisors)) (o .bits))))
+      f₁ .0 ∙ ap₂ (λ x t. bitsOf editionWidth x ++ t) edition
+          (f₂ .0 ∙ ap₂ (λ x t. bitsOf (edition1 .inputs) x ++ t) a
+          (f₃ .0 ∙ ap₂ (λ x t. bitsOf (edition1 .outputs) x ++ t) b
+          (f₄ .0 ∙ ap₂ (λ x t. divisorsBits x ++ t) (sym (o .divisors)) (o .bits))))
           ∙ sym (raw-fields r rest),
       record {
         inputs = omega (arith, o .inputs, f₂ .1);

@@ -7,7 +7,7 @@ use mathlib.Core.List.{List, [], _++_, append-assoc, append-nil}
 use native.Mathlib.Omega.{arith}
 use lib.ListN.{length, length-append}
 use Rattle.image_fields.specs.Fields.{bitsIn}
-use Rattle.image_laws.specs.Reading.{Got, got, Raw, getRaw, rawNet, padding, summed, oneOrder, Outcome, accepted, refused, judgeRaw, readImage}
+use Rattle.image_laws.specs.Reading.{Parsed, got, Raw, getRaw, rawNet, padding, summed, allInOrder, Outcome, accepted, refused, judgeRaw, readImage}
 use Rattle.image_laws.specs.Layout.{imageLayout, Meets, Cut}
 use Rattle.image_laws.specs.Meaning.{FitRaw, rawBits, Fills, ImageAnswer, field, early, over, sums, order, taken}
 use Rattle.image_laws.proofs.Reading.{get-put, put-get}
@@ -20,7 +20,7 @@ begins-early r l m f e h = go (raw-along l) refl
     whole : getRaw (l ++ m) ≡ got r []
     whole = ap getRaw (sym e ∙ sym (append-nil (rawBits r))) ∙ get-put r [] f
 
-    go : {o : Got Raw} → Along imageLayout l o → getRaw l ≡ o → Meets Cut imageLayout l
+    go : {o : Parsed Raw} → Along imageLayout l o → getRaw l ≡ o → Meets Cut imageLayout l
     go (cut t) q = t
     go (stray t) q = let z : _≡_ {A = ℕ} 0 1 = cc (whole, stray-read m t) in absurd (omega arith)
     go (all {r = x} {rest = t}) q =
@@ -38,15 +38,15 @@ pub judged : (bytes : List ℕ) → ImageAnswer bytes (readImage bytes)
 unfolding readImage judgeRaw
 judged bytes = go (raw-along (bitsIn bytes)) refl
   where
-    whole : (r : Raw) (l : List Bool) (a b c : Bool) → Fills bytes r l → padding l ≡ a → summed r ≡ b → oneOrder r ≡ c
+    whole : (r : Raw) (l : List Bool) (a b c : Bool) → Fills bytes r l → padding l ≡ a → summed r ≡ b → allInOrder r ≡ c
         → ImageAnswer bytes (cond a (cond b (cond c (accepted (rawNet r)) (refused 13)) (refused 12)) (refused 11))
     whole r l true true true s p q o = taken s p q o
     whole r l true true false s p q o = order s p q o
     whole r l true false c s p q o = sums s p q
     whole r l false b c s p q o = over s p
 
-    go : {o : Got Raw} → Along imageLayout (bitsIn bytes) o → getRaw (bitsIn bytes) ≡ o → ImageAnswer bytes (judgeRaw o)
-    go (all {r = r} {rest = l}) e = whole r l (padding l) (summed r) (oneOrder r) (fills-in bytes r l e) refl refl refl
+    go : {o : Parsed Raw} → Along imageLayout (bitsIn bytes) o → getRaw (bitsIn bytes) ≡ o → ImageAnswer bytes (judgeRaw o)
+    go (all {r = r} {rest = l}) e = whole r l (padding l) (summed r) (allInOrder r) (fills-in bytes r l e) refl refl refl
     go (stray m) e = field m
     go (cut m) e = early m
 

@@ -1,14 +1,14 @@
 -- A network renumbered in the order of its listing follows the rules, stands in the one order, is of the same size and has the same outputs; one in that order stays as it is. Assumes nothing.
 use Prim.Native.Nat.{ℕ, zero, suc, _+_, _-_, _/_, _<_, _≤_}
 use mathlib.Core.Path.{_≡_, refl, sym, ap, ap₂, _∙_, subst}
-use mathlib.Core.Logic.{_⊎_, inl, inr, _↔_}
+use mathlib.Core.Logic.{_⊎_, inl, inr}
 use mathlib.Core.Bool.{Bool, true, false, not, _||_}
 use mathlib.Core.List.{List, [], _∷_, _++_, map, append-nil, append-assoc, List·Memᴰ·head as here, List·Memᴰ·not-nil, List·Memᴰ·cases-cons, List·Memᴰ·append-cases, Memᴰ·append-left, Memᴰ·append-right, Memᴰ·cast}
 use native.Mathlib.Omega.{arith}
 use lib.Dec.{leb, ltb}
 use lib.ListN.{length, length-map}
 use borrow.Author.Tests.{eq-eqb, ltb-true, ltb-false, le-leb, lt-ltb}
-use Rattle.sets.specs.Lists.{all, total, pairwise, from}
+use Rattle.sets.specs.Lists.{all, total, from}
 use Rattle.sets.specs.Sets.{mem}
 use Rattle.sets.specs.Masks.{bit, packed}
 use Rattle.sets.proofs.Truth.{both, together, or-left, or-right, decided, clash, refuted}
@@ -29,7 +29,7 @@ use Rattle.network.proofs.Listings.{ready-out, listing-once, listing-number, li
 use Rattle.network.proofs.Evaluating.{evaluate-settled, evaluate-read}
 use Rattle.image_laws.specs.Renumber.{indexOf, newNumber, newNode, renumbered}
 use Rattle.image_laws.specs.Meaning.{OneOrder}
-use Rattle.image_laws.proofs.NewNumbers.{index-before, index-new, index-from, Named, Over, Reaches, oldNumber, new-input, new-listed, old-new, new-injective, new-below, new-node-reads, new-node-length, new-node-literals, new-node-expression, new-node-value, new-node-same}
+use Rattle.image_laws.proofs.NewNumbers.{index-before, index-new, index-from, Named, Reaches, oldNumber, new-input, new-listed, old-new, new-injective, new-below, new-node-reads, new-node-length, new-node-literals, new-node-expression, new-node-value, new-node-same}
 
 -- the expressions of divisors
 abbrev cubes : List Node → List (List (List ℕ))
@@ -47,9 +47,6 @@ module _ (n : Net) (w : Lawful n) where
   -- it has the number of each divisor, each once
   pub listed-whole : length (listing n) ≡ length (n .divisors)
   listed-whole = (lawful-sound n w) .whole
-
-  pub listed-once : pairwise differ (listing n) ≡ true
-  listed-once = listing-once n
 
   pub listed-range : (v : ℕ) → v ∈ listing n → (n .inputs ≤ v) × (v < variables n)
   listed-range v m = let r = listing-number n v m in (
@@ -74,9 +71,6 @@ module _ (n : Net) (w : Lawful n) where
 
   pub variable-named : (v : ℕ) → v < variables n → Named (n .inputs) (listing n) v
   variable-named v h = elim (decided (ltb v (n .inputs))) [ inl t ↦ inl (ltb-true v (n .inputs) t) | inr t ↦ inr (range-listed v (ltb-false v (n .inputs) t) h) ]
-
-  pub variable-over : (c : List ℕ) → ((x : ℕ) → x ∈ c → x / 2 < variables n) → Over (n .inputs) (listing n) c
-  variable-over c k x m = variable-named (x / 2) (k x m)
 
   pub node-reaches : {f : List (List ℕ)} → f ∈ nodes n → Reaches (n .inputs) (listing n) f
   node-reaches {f} m v r = variable-named v (w .known f m v r)
@@ -380,15 +374,3 @@ renumbered-same n w o = λ i. record {
         ∙ ap (map (λ v. cubesAt v (n .divisors))) (sym numbers)
         ∙ map-map (λ v. cubesAt v (n .divisors)) (λ (e : Node). e .number) (n .divisors)
         ∙ map-cong (λ (e : Node). cubesAt (e .number) (n .divisors)) (λ (e : Node). e .cubes) (n .divisors) (λ e m. cubes-at n ((lawful-sound n w) .distinct) m)
-
--- and no other does
-pub renumbered-iff : (n : Net) → Lawful n → (renumbered n ≡ n) ↔ OneOrder n
-renumbered-iff n w = (λ e. subst OneOrder e (renumbered-order n w), renumbered-same n w)
-
--- once is enough
-pub renumbered-once : (n : Net) → Lawful n → renumbered (renumbered n) ≡ renumbered n
-renumbered-once n w = renumbered-same (renumbered n) (renumbered-lawful n w) (renumbered-order n w)
-
--- the new listing is the numbers in turn
-pub listing-renumbered : (n : Net) → Lawful n → listing (renumbered n) ≡ from (n .inputs) (length (n .divisors))
-listing-renumbered n w = earlier-listing (renumbered n) (renumbered-lawful n w) ((renumbered-order n w) .earlier) ∙ ap₂ from (renumbered-inputs n) (renumbered-divisors n w)

@@ -18,7 +18,7 @@ use Rattle.network.specs.Net.{Net}
 use Rattle.network.specs.Rules.{Lawful}
 use Rattle.image_laws.specs.Renumber.{renumbered}
 use Rattle.image_laws.specs.Image.{netFields, netBytes, imageOf}
-use Rattle.image_laws.specs.Reading.{Raw, rawNet, padding, summed, oneOrder, accepted, refused, readImage}
+use Rattle.image_laws.specs.Reading.{Raw, rawNet, padding, summed, allInOrder, accepted, refused, readImage}
 use Rattle.image_laws.specs.Meaning.{OneOrder, rawBits, Fills, ImageAnswer, early, over, taken}
 use Rattle.image_laws.proofs.Refusing.{begins-early, judged-iff, judged-read}
 use Rattle.image_laws.proofs.Renumbering.{renumbered-same, renumbered-lawful, renumbered-order}
@@ -50,7 +50,7 @@ record Accepts (bytes : List ℕ) (n : Net) : Type 0 where
   fills : Fills bytes raw rest
   padded : padding rest ≡ true
   sums : summed raw ≡ true
-  order : oneOrder raw ≡ true
+  order : allInOrder raw ≡ true
   same : rawNet raw ≡ n
 
 taken-out : {bytes : List ℕ} {n : Net} → ImageAnswer bytes (accepted n) → Accepts bytes n

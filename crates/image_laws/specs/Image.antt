@@ -5,22 +5,24 @@ use lib.ListN.{length}
 use Rattle.image_fields.specs.Fields.{Field, fieldBits, bytesOf}
 use Rattle.network.specs.Net.{Node, Net}
 use Rattle.network.specs.Handed.{flat}
+use Rattle.image_laws.specs.Widths.{editionWidth, edition1}
 use Rattle.image_laws.specs.Renumber.{renumbered}
 
 abbrev pub field : ℕ → ℕ → Field
 field w v = record { width = w; value = v }
 
--- literal count 7, literals 7 each
+-- a literal count, and the literals
 unfoldable pub cubeFields : List ℕ → List Field
-cubeFields c = field 7 (length c) ∷ map (field 7) c
+cubeFields c = field (edition1 .literals) (length c) ∷ map (field (edition1 .literal)) c
 
--- cube count 11, each cube
+-- a cube count, and each cube
 unfoldable pub nodeFields : List (List ℕ) → List Field
-nodeFields f = field 11 (length f) ∷ flat (map cubeFields f)
+nodeFields f = field (edition1 .cubes) (length f) ∷ flat (map cubeFields f)
 
--- edition 4 bits (1), n-1 5, m-1 5, k 6
+-- the edition, n-1, m-1 and k
 unfoldable pub headFields : ℕ → ℕ → ℕ → List Field
-headFields n m k = field 4 1 ∷ field 5 (n - 1) ∷ field 5 (m - 1) ∷ field 6 k ∷ []
+headFields n m k =
+    field editionWidth (edition1 .number) ∷ field (edition1 .inputs) (n - 1) ∷ field (edition1 .outputs) (m - 1) ∷ field (edition1 .divisors) k ∷ []
 
 -- then each divisor, then each output
 unfoldable pub netFields : Net → List Field

@@ -1,15 +1,14 @@
 -- The fields of an image as they are met in turn, and where they come to a bad end.
-use Prim.Native.Nat.{ℕ, zero, suc, _+_, _/_, _<_}
+use Prim.Native.Nat.{ℕ, zero, suc, _+_, _<_}
 use mathlib.Core.Path.{_≡_}
-use mathlib.Core.Bool.{Bool, true, false, not, _&&_}
+use mathlib.Core.Bool.{Bool, true, false}
 use mathlib.Core.List.{List, [], _∷_, _++_}
-use lib.Dec.{leb, ltb, eqb}
+use lib.Dec.{leb, eqb}
 use lib.ListN.{length}
-use Rattle.sets.specs.Literal.{oppositeOf}
-use Rattle.sets.specs.Sets.{mem}
 use Rattle.image_fields.specs.Fields.{valueOf}
 use Rattle.network.specs.Held.{mostVariables, mostCubes}
-use Rattle.image_laws.specs.Reading.{Raw}
+use Rattle.image_laws.specs.Widths.{editionWidth, edition1}
+use Rattle.image_laws.specs.Reading.{allowed, Raw}
 
 pub data Layout : Type 0 where
   -- no field more
@@ -25,25 +24,28 @@ manyLayout g (suc n) k = g (λ x. manyLayout g n (λ xs. k (x ∷ xs)))
 -- literals of v variables, none the opposite of one before
 unfoldable pub literalsLayout : ℕ → ℕ → List ℕ → (List ℕ → Layout) → Layout
 literalsLayout v zero seen k = k []
-literalsLayout v (suc n) seen k = next 7 (λ x. ltb (x / 2) v && not (mem (oppositeOf x) seen)) (λ x. literalsLayout v n (x ∷ seen) (λ xs. k (x ∷ xs)))
+literalsLayout v (suc n) seen k = next (edition1 .literal) (allowed v seen) (λ x. literalsLayout v n (x ∷ seen) (λ xs. k (x ∷ xs)))
 
--- literal count 7, literals 7 each
+-- a literal count, and the literals
 unfoldable pub cubeLayout : ℕ → (List ℕ → Layout) → Layout
-cubeLayout v k = next 7 (λ c. leb c v) (λ c. literalsLayout v c [] k)
+cubeLayout v k = next (edition1 .literals) (λ c. leb c v) (λ c. literalsLayout v c [] k)
 
--- cube count 11, each cube
+-- a cube count, and each cube
 unfoldable pub nodeLayout : ℕ → (List (List ℕ) → Layout) → Layout
-nodeLayout v k = next 11 (λ c. leb c mostCubes) (λ c. manyLayout (cubeLayout v) c k)
+nodeLayout v k = next (edition1 .cubes) (λ c. leb c mostCubes) (λ c. manyLayout (cubeLayout v) c k)
 
 -- each divisor, then each output
 unfoldable pub nodesLayout : ℕ → ℕ → ℕ → Layout
 nodesLayout n m k =
     manyLayout (nodeLayout (n + k)) k (λ ds. manyLayout (nodeLayout (n + k)) m (λ os. ends (record { inputs = n; divisors = ds; outputs = os })))
 
--- edition 4 bits (1), n-1 5, m-1 5, k 6
+-- the edition, n-1, m-1 and k
 unfoldable pub imageLayout : Layout
 imageLayout =
-    next 4 (eqb 1) (λ e. next 5 (λ x. true) (λ a. next 5 (λ x. true) (λ b. next 6 (λ k. leb (suc a + k) mostVariables) (λ k. nodesLayout (suc a) (suc b) k))))
+    next editionWidth (eqb (edition1 .number)) (λ e.
+    next (edition1 .inputs) (λ x. true) (λ a.
+    next (edition1 .outputs) (λ x. true) (λ b.
+    next (edition1 .divisors) (λ k. leb (suc a + k) mostVariables) (λ k. nodesLayout (suc a) (suc b) k))))
 
 -- fields in range are met in turn, and where the next is due the bits are at such an end
 pub data Meets (End : ℕ → (ℕ → Bool) → List Bool → Type 0) : Layout → List Bool → Type 0 where

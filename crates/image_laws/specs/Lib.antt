@@ -1,3 +1,4 @@
+pub mod Widths
 pub mod Renumber
 pub mod Image
 pub mod Reading

@@ -11,7 +11,7 @@ use Rattle.network.specs.Net.{Node, Net, nodes}
 use Rattle.network.specs.Held.{mostInputs, mostOutputs, mostVariables, mostCubes}
 use Rattle.network.specs.Meaning.{Reads}
 use Rattle.image_laws.specs.Image.{netFields}
-use Rattle.image_laws.specs.Reading.{Raw, rawNodes, rawNet, padding, summed, oneOrder, Outcome, accepted, refused}
+use Rattle.image_laws.specs.Reading.{Raw, rawNodes, rawNet, padding, summed, allInOrder, Outcome, accepted, refused}
 use Rattle.image_laws.specs.Layout.{imageLayout, Meets, Stray, Cut}
 
 -- a network stands in the one order: cubes in cube order, and a divisor reads inputs and earlier divisors alone
@@ -55,5 +55,5 @@ pub data ImageAnswer (bytes : List ℕ) : Outcome → Type 0 where
   over : {r : Raw} {rest : List Bool} → Fills bytes r rest → padding rest ≡ false → ImageAnswer bytes (refused 11)
   -- the sums of the counts, then the one order
   sums : {r : Raw} {rest : List Bool} → Fills bytes r rest → padding rest ≡ true → summed r ≡ false → ImageAnswer bytes (refused 12)
-  order : {r : Raw} {rest : List Bool} → Fills bytes r rest → padding rest ≡ true → summed r ≡ true → oneOrder r ≡ false → ImageAnswer bytes (refused 13)
-  taken : {r : Raw} {rest : List Bool} → Fills bytes r rest → padding rest ≡ true → summed r ≡ true → oneOrder r ≡ true → ImageAnswer bytes (accepted (rawNet r))
+  order : {r : Raw} {rest : List Bool} → Fills bytes r rest → padding rest ≡ true → summed r ≡ true → allInOrder r ≡ false → ImageAnswer bytes (refused 13)
+  taken : {r : Raw} {rest : List Bool} → Fills bytes r rest → padding rest ≡ true → summed r ≡ true → allInOrder r ≡ true → ImageAnswer bytes (accepted (rawNet r))

@@ -11,40 +11,45 @@ use Rattle.image_fields.specs.Fields.{valueOf, bitsIn}
 use Rattle.expression.specs.Expression.{loose, ordered, literalsOf}
 use Rattle.network.specs.Net.{Net}
 use Rattle.network.specs.Held.{numbered, reach, mostVariables, mostCubes, mostLiterals}
+use Rattle.image_laws.specs.Widths.{editionWidth, edition1}
 
 -- what is read and the bits after it, or the number of a refusal
-pub data Got (A : Type 0) : Type 0 where
-  got : A → List Bool → Got A
-  bad : ℕ → Got A
+pub data Parsed (A : Type 0) : Type 0 where
+  got : A → List Bool → Parsed A
+  bad : ℕ → Parsed A
 
 module _ {A B : Type 0} where
   -- go on with what is read
-  abbrev pub andThen : Got A → (A → List Bool → Got B) → Got B
+  abbrev pub andThen : Parsed A → (A → List Bool → Parsed B) → Parsed B
   andThen (got x l) k = k x l
   andThen (bad e) k = bad e
 
 -- a field of w bits: 11 where the image ends before its last bit, else 12 where its number is out of range
-unfoldable pub getField : ℕ → (ℕ → Bool) → List Bool → Got ℕ
+unfoldable pub getField : ℕ → (ℕ → Bool) → List Bool → Parsed ℕ
 getField w ok l = cond (ltb (length l) w) (bad 11) (cond (ok (valueOf (take w l))) (got (valueOf (take w l)) (drop w l)) (bad 12))
 
 module _ {A : Type 0} where
   -- so many of the same kind
-  unfoldable pub getMany : (List Bool → Got A) → ℕ → List Bool → Got (List A)
+  unfoldable pub getMany : (List Bool → Parsed A) → ℕ → List Bool → Parsed (List A)
   getMany g zero l = got [] l
   getMany g (suc k) l = andThen (g l) (λ x r. andThen (getMany g k r) (λ xs t. got (x ∷ xs) t))
 
--- so many literals of v variables, none of which is the opposite of one read before
-unfoldable pub getLiterals : ℕ → ℕ → List ℕ → List Bool → Got (List ℕ)
+-- a literal of v variables, not the opposite of one read before
+abbrev pub allowed : ℕ → List ℕ → ℕ → Bool
+allowed v seen x = ltb (x / 2) v && not (mem (oppositeOf x) seen)
+
+-- so many literals
+unfoldable pub getLiterals : ℕ → ℕ → List ℕ → List Bool → Parsed (List ℕ)
 getLiterals v zero seen l = got [] l
 getLiterals v (suc k) seen l =
-    andThen (getField 7 (λ x. ltb (x / 2) v && not (mem (oppositeOf x) seen)) l) (λ x r. andThen (getLiterals v k (x ∷ seen) r) (λ xs t. got (x ∷ xs) t))
+    andThen (getField (edition1 .literal) (allowed v seen) l) (λ x r. andThen (getLiterals v k (x ∷ seen) r) (λ xs t. got (x ∷ xs) t))
 
 -- literal count at most v, and as many literals
-unfoldable pub getCube : ℕ → List Bool → Got (List ℕ)
-getCube v l = andThen (getField 7 (λ c. leb c v) l) (λ c r. getLiterals v c [] r)
+unfoldable pub getCube : ℕ → List Bool → Parsed (List ℕ)
+getCube v l = andThen (getField (edition1 .literals) (λ c. leb c v) l) (λ c r. getLiterals v c [] r)
 
-unfoldable pub getNode : ℕ → List Bool → Got (List (List ℕ))
-getNode v l = andThen (getField 11 (λ c. leb c mostCubes) l) (λ c r. getMany (getCube v) c r)
+unfoldable pub getNode : ℕ → List Bool → Parsed (List (List ℕ))
+getNode v l = andThen (getField (edition1 .cubes) (λ c. leb c mostCubes) l) (λ c r. getMany (getCube v) c r)
 
 -- the fields of an image as they stand
 pub record Raw : Type 0 where
@@ -52,16 +57,16 @@ pub record Raw : Type 0 where
   pub divisors : List (List (List ℕ))
   pub outputs : List (List (List ℕ))
 
-unfoldable pub getNodes : ℕ → ℕ → ℕ → List Bool → Got Raw
+unfoldable pub getNodes : ℕ → ℕ → ℕ → List Bool → Parsed Raw
 getNodes n m k l =
     andThen (getMany (getNode (n + k)) k l) (λ ds r. andThen (getMany (getNode (n + k)) m r) (λ os t. got (record { inputs = n; divisors = ds; outputs = os }) t))
 
-unfoldable pub getRaw : List Bool → Got Raw
+unfoldable pub getRaw : List Bool → Parsed Raw
 getRaw l =
-    andThen (getField 4 (eqb 1) l) (λ e r₁.
-    andThen (getField 5 (λ x. true) r₁) (λ a r₂.
-    andThen (getField 5 (λ x. true) r₂) (λ b r₃.
-    andThen (getField 6 (λ k. leb (suc a + k) mostVariables) r₃) (λ k r₄. getNodes (suc a) (suc b) k r₄))))
+    andThen (getField editionWidth (eqb (edition1 .number)) l) (λ e r₁.
+    andThen (getField (edition1 .inputs) (λ x. true) r₁) (λ a r₂.
+    andThen (getField (edition1 .outputs) (λ x. true) r₂) (λ b r₃.
+    andThen (getField (edition1 .divisors) (λ k. leb (suc a + k) mostVariables) r₃) (λ k r₄. getNodes (suc a) (suc b) k r₄))))
 
 -- ---- the whole
 
@@ -88,17 +93,17 @@ unfoldable pub readsEarlier : ℕ → List (List (List ℕ)) → Bool
 readsEarlier v [] = true
 readsEarlier v (f ∷ l) = reach v f && readsEarlier (suc v) l
 
-unfoldable pub oneOrder : Raw → Bool
-oneOrder r = all inTheOrder (rawNodes r) && readsEarlier (r .inputs) (r .divisors)
+unfoldable pub allInOrder : Raw → Bool
+allInOrder r = all inTheOrder (rawNodes r) && readsEarlier (r .inputs) (r .divisors)
 
 pub data Outcome : Type 0 where
   accepted : Net → Outcome
   refused : ℕ → Outcome
 
 -- then 11 for what is left over, 12 for the sums, 13 for the order
-unfoldable pub judgeRaw : Got Raw → Outcome
+unfoldable pub judgeRaw : Parsed Raw → Outcome
 judgeRaw (bad k) = refused k
-judgeRaw (got r l) = cond (padding l) (cond (summed r) (cond (oneOrder r) (accepted (rawNet r)) (refused 13)) (refused 12)) (refused 11)
+judgeRaw (got r l) = cond (padding l) (cond (summed r) (cond (allInOrder r) (accepted (rawNet r)) (refused 13)) (refused 12)) (refused 11)
 
 unfoldable pub readImage : List ℕ → Outcome
 readImage bytes = judgeRaw (getRaw (bitsIn bytes))

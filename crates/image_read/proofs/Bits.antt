@@ -11,6 +11,7 @@ use borrow.Author.Tests.{ne-eqb}
 use Rattle.sets.specs.Lists.{all}
 use Rattle.image_fields.specs.Fields.{valueOf}
 use Rattle.image_fields.proofs.Bits.{value-lt}
+use Rattle.image_read.specs.Parts.{widest}
 
 -- so many bits hold a number below the power
 pub value-below : (w : ℕ) (l : List Bool) → valueOf (take w l) < 2 ^ w
@@ -18,10 +19,9 @@ value-below w l =
     let p : 2 ^ length (take w l) ≤ 2 ^ w = pow-le-pow-right (lit< tt) (omega (arith, length-take w l)) in
     omega (arith, value-lt (take w l))
 
--- no field is wider than 11 bits
-pub value-small : (w : ℕ) (l : List Bool) → w ≤ 11 → valueOf (take w l) < 2048
+pub value-small : (w : ℕ) (l : List Bool) → w ≤ widest → valueOf (take w l) < 2 ^ widest
 value-small w l h =
-    let p : 2 ^ w ≤ 2 ^ 11 = pow-le-pow-right (lit< tt) h in
+    let p : 2 ^ w ≤ 2 ^ widest = pow-le-pow-right (lit< tt) h in
     omega (arith, value-below w l)
 
 pub bit-small : (b : Bool) → cond b 1 0 ≤ 1

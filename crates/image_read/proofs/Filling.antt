@@ -17,8 +17,9 @@ use Rattle.cube.specs.Cube.{lits}
 use Rattle.expression.specs.Words.{cubesOf, Put}
 use Rattle.network.specs.Handed.{flat}
 use Rattle.network.proofs.Handing.{flat-last}
-use Rattle.network.specs.Held.{mostCubes}
-use Rattle.image_laws.specs.Reading.{Got, bad, getMany, getCube, getNode}
+use Rattle.network.specs.Held.{mostVariables, mostCubes}
+use Rattle.image_laws.specs.Widths.{edition1, mostCubeBits, mostCubesBits, mostNodeBits}
+use Rattle.image_laws.specs.Reading.{Parsed, bad, getMany, getCube, getNode}
 use Rattle.image_read.specs.Parts.{FieldIs, setOf, CubeGot, added, Near, Added, CubesGot, CubesAre, NodesGot}
 use Rattle.image_read.specs.declared.Field.the-variants.{Is, Cut}
 use Rattle.image_read.specs.declared.Taken.{Taken}
@@ -52,7 +53,7 @@ added-then {s} {t} {u} {a} {b} {c} {f} {g} p q = record {
   proper = all-append proper f g ∙ ap₂ _&&_ (p .proper) (q .proper);
 }
 
-added-one : {most : ℕ} {bits : List Bool} {start : ℕ} {g : Got (List ℕ)} {c : Taken} (h : CubeGot most bits start g c) (s : State) (old new : List ℕ)
+added-one : {most : ℕ} {bits : List Bool} {start : ℕ} {g : Parsed (List ℕ)} {c : Taken} (h : CubeGot most bits start g c) (s : State) (old new : List ℕ)
     → Put old new (s .cubes) (lits (c .cube)) → Added s (added s c) old new (h .read ∷ [])
 added-one h s old new p = record {
   stored = p .cubes ∙ ap (set (cubesOf old) (s .cubes)) (h .cube);
@@ -81,7 +82,7 @@ pub record Filling (bits : List Bool) (v k i : ℕ) (start : State) (old new : L
   pub read : List (List ℕ)
   pub going : Going (getCube v) k i (drop (start .at) bits) (drop (s .at) bits) read
   pub put : Added start s old new read
-  pub near : Near (512 * i) start s
+  pub near : Near (mostCubeBits * i) start s
 
 pub fill-none : (bits : List Bool) (v k : ℕ) (start : State) (ws : List ℕ) → Filling bits v k 0 start ws ws start
 fill-none bits v k start ws = record {
@@ -95,7 +96,7 @@ module _ {bits : List Bool} {v k i : ℕ} {start : State} {old new : List ℕ} {
   pub fill-bad : i < k → (e : ℕ) → getCube v (drop (s .at) bits) ≡ bad e → getMany (getCube v) k (drop (start .at) bits) ≡ bad e
   fill-bad more e q = going-bad (getCube v) k (h .going) more e q
 
-  pub fill-next : i < k → (c : Taken) → CubeGot 512 bits (s .at) (getCube v (drop (s .at) bits)) c → (new' : List ℕ) → Put new new' (s .cubes) (lits (c .cube))
+  pub fill-next : i < k → (c : Taken) → CubeGot mostCubeBits bits (s .at) (getCube v (drop (s .at) bits)) c → (new' : List ℕ) → Put new new' (s .cubes) (lits (c .cube))
       → (t : State) → t ≡ added s c → Filling bits v k (i + 1) start old new' t
   fill-next more c q new' p t e = subst (Filling bits v k (i + 1) start old new') (sym e) (record {
     read = h .read ++ (q .read ∷ []);
@@ -108,7 +109,7 @@ module _ {bits : List Bool} {v k i : ℕ} {start : State} {old new : List ℕ} {
     };
   })
 
-  pub fill-end : k ≤ i → i ≤ 1088 → CubesGot 600000 bits start (getMany (getCube v) k (drop (start .at) bits)) old new s
+  pub fill-end : k ≤ i → i ≤ mostCubes → CubesGot mostCubesBits bits start (getMany (getCube v) k (drop (start .at) bits)) old new s
   fill-end done few = record {
     read = h .read;
     is = going-end (getCube v) k (h .going) done;
@@ -120,25 +121,25 @@ module _ {bits : List Bool} {v k i : ℕ} {start : State} {old new : List ℕ} {
 
 -- after the cube count
 abbrev past : State → State
-past s = record { at = s .at + 11; cubes = s .cubes; literals = s .literals; ascending = s .ascending }
+past s = record { at = s .at + edition1 .cubes; cubes = s .cubes; literals = s .literals; ascending = s .ascending }
 
 module _ (bits : List Bool) (v : ℕ) (s : State) where
-  pub node-cut : FieldIs 11 (drop (s .at) bits) Cut → getNode v (drop (s .at) bits) ≡ bad 11
+  pub node-cut : FieldIs (edition1 .cubes) (drop (s .at) bits) Cut → getNode v (drop (s .at) bits) ≡ bad 11
   unfolding getNode
-  node-cut h = rw (field-cut 11 (λ c. leb c mostCubes) (drop (s .at) bits) h)
+  node-cut h = rw (field-cut (edition1 .cubes) (λ c. leb c mostCubes) (drop (s .at) bits) h)
 
-  module _ (k : ℕ) (h : FieldIs 11 (drop (s .at) bits) (Is k)) where
+  module _ (k : ℕ) (h : FieldIs (edition1 .cubes) (drop (s .at) bits) (Is k)) where
     pub node-bad : mostCubes < k → getNode v (drop (s .at) bits) ≡ bad 12
     unfolding getNode
-    node-bad m = rw (field-bad 11 (λ c. leb c mostCubes) (drop (s .at) bits) k h (lt-leb k mostCubes m))
+    node-bad m = rw (field-bad (edition1 .cubes) (λ c. leb c mostCubes) (drop (s .at) bits) k h (lt-leb k mostCubes m))
 
-    node-on : k ≤ mostCubes → getNode v (drop (s .at) bits) ≡ getMany (getCube v) k (drop (s .at + 11) bits)
+    node-on : k ≤ mostCubes → getNode v (drop (s .at) bits) ≡ getMany (getCube v) k (drop (past s .at) bits)
     unfolding getNode
-    node-on m = rw (field-got 11 (λ c. leb c mostCubes) bits (s .at) k h (le-leb k mostCubes m))
+    node-on m = rw (field-got (edition1 .cubes) (λ c. leb c mostCubes) bits (s .at) k h (le-leb k mostCubes m))
 
     -- the cubes after the count
     pub node-are : k ≤ mostCubes → (old new : List ℕ) (r : Step)
-        → CubesAre 600000 bits (past s) (getMany (getCube v) k (drop (s .at + 11) bits)) old new r → CubesAre 1048576 bits s (getNode v (drop (s .at) bits)) old new r
+        → CubesAre mostCubesBits bits (past s) (getMany (getCube v) k (drop (past s .at) bits)) old new r → CubesAre mostNodeBits bits s (getNode v (drop (s .at) bits)) old new r
     node-are m old new (Bad e) q = node-on m ∙ q
     node-are m old new (On t) c = record {
       read = c .read;
@@ -155,7 +156,7 @@ pub record Counting (bits : List Bool) (v k i : ℕ) (start : State) (old new : 
   pub going : Going (getNode v) k i (drop (start .at) bits) (drop (s .at) bits) read
   pub put : Added start s old new (flat read)
   pub counts : are ≡ sets was first (map length read)
-  pub near : Near (1048576 * i) start s
+  pub near : Near (mostNodeBits * i) start s
 
 pub count-none : (bits : List Bool) (v k : ℕ) (start : State) (ws : List ℕ) (first : ℕ) (cs : List ℕ) → Counting bits v k 0 start ws ws first cs cs start
 count-none bits v k start ws first cs = record {
@@ -170,7 +171,7 @@ module _ {bits : List Bool} {v k i : ℕ} {start : State} {old new : List ℕ} {
   pub count-bad : i < k → (e : ℕ) → getNode v (drop (s .at) bits) ≡ bad e → getMany (getNode v) k (drop (start .at) bits) ≡ bad e
   count-bad more e q = going-bad (getNode v) k (h .going) more e q
 
-  pub count-next : i < k → (new' : List ℕ) (t : State) → CubesGot 1048576 bits s (getNode v (drop (s .at) bits)) new new' t
+  pub count-next : i < k → (new' : List ℕ) (t : State) → CubesGot mostNodeBits bits s (getNode v (drop (s .at) bits)) new new' t
       → Counting bits v k (i + 1) start old new' first was (set are (first + i) (t .cubes - s .cubes)) t
   count-next more new' t c = record {
     read = h .read ++ (c .read ∷ []);
@@ -184,7 +185,7 @@ module _ {bits : List Bool} {v k i : ℕ} {start : State} {old new : List ℕ} {
     near = record { at = omega (arith, h .near .at, c .near .at); cubes = omega (arith, h .near .cubes, c .near .cubes); literals = omega (arith, h .near .literals, c .near .literals) };
   }
 
-  pub count-end : i ≡ k → i ≤ 96 → NodesGot k bits start (getMany (getNode v) k (drop (start .at) bits)) old new first was are s
+  pub count-end : i ≡ k → i ≤ mostVariables → NodesGot k bits start (getMany (getNode v) k (drop (start .at) bits)) old new first was are s
   count-end done few = record {
     read = h .read;
     number = omega (arith, h .going .number);

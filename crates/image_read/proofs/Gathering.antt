@@ -16,7 +16,9 @@ use Rattle.sets.proofs.Truth.{both, either, clash}
 use Rattle.sets.proofs.Sets.{ext, union-mem, union-asc, union-all, proper-in, proper-out}
 use Rattle.cube.specs.Cube.{lits, joined}
 use Rattle.cube.specs.declared.Cube.{Cube}
-use Rattle.image_laws.specs.Reading.{Got, got, bad, andThen, getField, getLiterals, getCube}
+use Rattle.network.specs.Held.{mostVariables}
+use Rattle.image_laws.specs.Widths.{edition1, mostLiteralBits, mostCubeBits}
+use Rattle.image_laws.specs.Reading.{Parsed, got, bad, andThen, getField, allowed, getLiterals, getCube}
 use Rattle.image_read.specs.Parts.{FieldIs, setOf, CubeGot, CubeIs}
 use Rattle.image_read.specs.declared.Field.the-variants.{Is, Cut}
 use Rattle.image_read.specs.declared.Turn.{Turn}
@@ -25,28 +27,24 @@ use Rattle.image_read.proofs.Flags.{and-true, and-flip}
 use Rattle.image_read.proofs.Fielding.{field-cut, field-bad, field-got}
 
 -- what is read after these, the last of which comes first
-abbrev after : List ℕ → Got (List ℕ) → Got (List ℕ)
+abbrev after : List ℕ → Parsed (List ℕ) → Parsed (List ℕ)
 after s (got xs l) = got (reverseAux s xs) l
 after s (bad k) = bad k
-
--- a literal of v variables whose opposite is not among those seen
-abbrev allowed : ℕ → List ℕ → ℕ → Bool
-allowed v seen x = ltb (x / 2) v && not (mem (oppositeOf x) seen)
 
 -- each is below all that were read after it, where the last of all comes first
 abbrev falls : List ℕ → Bool
 falls s = pairwise (λ a b. ltb b a) s
 
 module _ (v k : ℕ) (s : List ℕ) (l : List Bool) where
-  literals-bad : (e : ℕ) → getField 7 (allowed v s) l ≡ bad e → after s (getLiterals v (suc k) s l) ≡ bad e
+  literals-bad : (e : ℕ) → getField (edition1 .literal) (allowed v s) l ≡ bad e → after s (getLiterals v (suc k) s l) ≡ bad e
   unfolding getLiterals
   literals-bad e h = rw h
 
-  literals-next : (x : ℕ) (r : List Bool) → getField 7 (allowed v s) l ≡ got x r → after s (getLiterals v (suc k) s l) ≡ after (x ∷ s) (getLiterals v k (x ∷ s) r)
+  literals-next : (x : ℕ) (r : List Bool) → getField (edition1 .literal) (allowed v s) l ≡ got x r → after s (getLiterals v (suc k) s l) ≡ after (x ∷ s) (getLiterals v k (x ∷ s) r)
   unfolding getLiterals
   literals-next x r h = rw h (go (getLiterals v k (x ∷ s) r))
     where
-      go : (g : Got (List ℕ)) → after s (andThen g (λ xs t. got (x ∷ xs) t)) ≡ after (x ∷ s) g
+      go : (g : Parsed (List ℕ)) → after s (andThen g (λ xs t. got (x ∷ xs) t)) ≡ after (x ∷ s) g
       go (got xs t) = refl
       go (bad e) = refl
 
@@ -171,7 +169,7 @@ gather-none bits v k start set e = record {
   clean = refl;
 }
   where
-    none : (g : Got (List ℕ)) → after [] g ≡ g
+    none : (g : Parsed (List ℕ)) → after [] g ≡ g
     none (got xs l) = refl
     none (bad e) = refl
 
@@ -186,20 +184,20 @@ module _ {bits : List Bool} {v k start at i : ℕ} {set : List ℕ} {up : Bool} 
   same-test : (x : ℕ) → allowed v set x ≡ allowed v (g .seen) x
   same-test x = ap (λ b. ltb (x / 2) v && not b) (ap (mem (oppositeOf x)) (g .held) ∙ set-mem (oppositeOf x) (g .seen))
 
-  pub gather-cut : FieldIs 7 (drop at bits) Cut → getLiterals v k [] (drop start bits) ≡ bad 11
-  gather-cut h = opened ∙ literals-bad v last (g .seen) (drop at bits) 11 (field-cut 7 (allowed v (g .seen)) (drop at bits) h)
+  pub gather-cut : FieldIs (edition1 .literal) (drop at bits) Cut → getLiterals v k [] (drop start bits) ≡ bad 11
+  gather-cut h = opened ∙ literals-bad v last (g .seen) (drop at bits) 11 (field-cut (edition1 .literal) (allowed v (g .seen)) (drop at bits) h)
 
-  module _ (x : ℕ) (h : FieldIs 7 (drop at bits) (Is x)) where
+  module _ (x : ℕ) (h : FieldIs (edition1 .literal) (drop at bits) (Is x)) where
     pub gather-bad : allowed v set x ≡ false → getLiterals v k [] (drop start bits) ≡ bad 12
-    gather-bad e = opened ∙ literals-bad v last (g .seen) (drop at bits) 12 (field-bad 7 (allowed v (g .seen)) (drop at bits) x h (sym (same-test x) ∙ e))
+    gather-bad e = opened ∙ literals-bad v last (g .seen) (drop at bits) 12 (field-bad (edition1 .literal) (allowed v (g .seen)) (drop at bits) x h (sym (same-test x) ∙ e))
 
-    pub gather-next : v ≤ 64 → allowed v set x ≡ true → (set' : List ℕ) → set' ≡ joined x set → (up' : Bool) → up' ≡ (up && all (λ y. ltb y x) set)
-        → Gathering bits v k start (at + 7) (i + 1) set' up'
+    pub gather-next : v ≤ mostVariables → allowed v set x ≡ true → (set' : List ℕ) → set' ≡ joined x set → (up' : Bool) → up' ≡ (up && all (λ y. ltb y x) set)
+        → Gathering bits v k start (at + edition1 .literal) (i + 1) set' up'
     unfolding union
     gather-next few e set' s up' u = record {
       seen = x ∷ g .seen;
       number = ap suc (g .number) ∙ sym (add-one i);
-      going = opened ∙ literals-next v last (g .seen) (drop at bits) x (drop (at + 7) bits) (field-got 7 (allowed v (g .seen)) bits at x h good);
+      going = opened ∙ literals-next v last (g .seen) (drop at bits) x (drop (at + edition1 .literal) bits) (field-got (edition1 .literal) (allowed v (g .seen)) bits at x h good);
       held = s ∙ rw (lt-ltb x 128 (omega (arith, ltb-true (x / 2) v (parts .0)))) (more-set (g .held));
       rising = u ∙ ap₂ _&&_ (g .rising) (ap (all (λ y. ltb y x)) (g .held) ∙ set-all (λ y. ltb y x) (g .seen)) ∙ and-flip (falls (g .seen)) (all (λ y. ltb y x) (g .seen));
       clean = proper-more x (g .seen) (g .clean) (not-true (mem (oppositeOf x) (g .seen)) (parts .1));
@@ -216,8 +214,8 @@ module _ {bits : List Bool} {v k start at i : ℕ} {set : List ℕ} {up : Bool} 
 
 module _ {bits : List Bool} {v k start at i : ℕ} {set : List ℕ} {up : Bool} (g : Gathering bits v k start at i set up) where
   -- all are read
-  pub gather-end : k ≤ i → i ≤ 64 → at ≤ start + 448 → (c : Cube) → lits c ≡ set → i ≡ k
-      → CubeGot 448 bits start (getLiterals v k [] (drop start bits)) (record { cube = c; literals = k; ascending = up; at = at })
+  pub gather-end : k ≤ i → i ≤ mostVariables → at ≤ start + mostLiteralBits → (c : Cube) → lits c ≡ set → i ≡ k
+      → CubeGot mostLiteralBits bits start (getLiterals v k [] (drop start bits)) (record { cube = c; literals = k; ascending = up; at = at })
   unfolding getLiterals
   gather-end done few near c e q = record {
     read = reverseAux (g .seen) [];
@@ -233,21 +231,21 @@ module _ {bits : List Bool} {v k start at i : ℕ} {set : List ℕ} {up : Bool} 
 -- ---- the literal count before them
 
 module _ (bits : List Bool) (v at : ℕ) where
-  pub cube-cut : FieldIs 7 (drop at bits) Cut → getCube v (drop at bits) ≡ bad 11
+  pub cube-cut : FieldIs (edition1 .literals) (drop at bits) Cut → getCube v (drop at bits) ≡ bad 11
   unfolding getCube
-  cube-cut h = rw (field-cut 7 (λ c. leb c v) (drop at bits) h)
+  cube-cut h = rw (field-cut (edition1 .literals) (λ c. leb c v) (drop at bits) h)
 
-  module _ (k : ℕ) (h : FieldIs 7 (drop at bits) (Is k)) where
+  module _ (k : ℕ) (h : FieldIs (edition1 .literals) (drop at bits) (Is k)) where
     pub cube-bad : v < k → getCube v (drop at bits) ≡ bad 12
     unfolding getCube
-    cube-bad m = rw (field-bad 7 (λ c. leb c v) (drop at bits) k h (lt-leb k v m))
+    cube-bad m = rw (field-bad (edition1 .literals) (λ c. leb c v) (drop at bits) k h (lt-leb k v m))
 
-    cube-on : k ≤ v → getCube v (drop at bits) ≡ getLiterals v k [] (drop (at + 7) bits)
+    cube-on : k ≤ v → getCube v (drop at bits) ≡ getLiterals v k [] (drop (at + edition1 .literals) bits)
     unfolding getCube
-    cube-on m = rw (field-got 7 (λ c. leb c v) bits at k h (le-leb k v m))
+    cube-on m = rw (field-got (edition1 .literals) (λ c. leb c v) bits at k h (le-leb k v m))
 
     -- the literals after the count
-    pub cube-is : k ≤ v → (r : Turn) → CubeIs 448 bits (at + 7) (getLiterals v k [] (drop (at + 7) bits)) r → CubeIs 512 bits at (getCube v (drop at bits)) r
+    pub cube-is : k ≤ v → (r : Turn) → CubeIs mostLiteralBits bits (at + edition1 .literals) (getLiterals v k [] (drop (at + edition1 .literals) bits)) r → CubeIs mostCubeBits bits at (getCube v (drop at bits)) r
     cube-is m (turn.Bad e) q = cube-on m ∙ q
     cube-is m (turn.Cube r) c = record {
       read = c .read;

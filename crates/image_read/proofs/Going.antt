@@ -5,28 +5,28 @@ use mathlib.Core.Bool.{Bool}
 use mathlib.Core.List.{List, [], _∷_, _++_, append-assoc, append-nil}
 use native.Mathlib.Omega.{arith}
 use lib.ListN.{length, length-append}
-use Rattle.image_laws.specs.Reading.{Got, got, bad, andThen, getMany}
+use Rattle.image_laws.specs.Reading.{Parsed, got, bad, andThen, getMany}
 
 module _ {A : Type 0} where
   -- what is read after these
-  abbrev onto : List A → Got (List A) → Got (List A)
+  abbrev onto : List A → Parsed (List A) → Parsed (List A)
   onto p (got xs l) = got (p ++ xs) l
   onto p (bad k) = bad k
 
-  onto-none : (g : Got (List A)) → onto [] g ≡ g
+  onto-none : (g : Parsed (List A)) → onto [] g ≡ g
   onto-none (got xs l) = refl
   onto-none (bad k) = refl
 
-  onto-more : (p : List A) (x : A) (g : Got (List A)) → onto p (andThen g (λ xs t. got (x ∷ xs) t)) ≡ onto (p ++ (x ∷ [])) g
+  onto-more : (p : List A) (x : A) (g : Parsed (List A)) → onto p (andThen g (λ xs t. got (x ∷ xs) t)) ≡ onto (p ++ (x ∷ [])) g
   onto-more p x (got xs l) = ap (λ q. got q l) (sym (append-assoc p (x ∷ []) xs))
   onto-more p x (bad k) = refl
 
   -- i of k are read
-  pub record Going (f : List Bool → Got A) (k i : ℕ) (start l : List Bool) (read : List A) : Type 0 where
+  pub record Going (f : List Bool → Parsed A) (k i : ℕ) (start l : List Bool) (read : List A) : Type 0 where
     pub number : length read ≡ i
     pub going : getMany f k start ≡ onto read (getMany f (k - i) l)
 
-  module _ (f : List Bool → Got A) (k : ℕ) where
+  module _ (f : List Bool → Parsed A) (k : ℕ) where
     pub going-none : (l : List Bool) → Going f k 0 l l []
     going-none l = record { number = refl; going = sym (onto-none (getMany f (k - 0) l) ∙ ap (λ n. getMany f n l) (omega arith)) }
 

@@ -10,10 +10,11 @@ use lib.Dec.{leb, eqb}
 use lib.ListN.{length, take, drop}
 use borrow.Author.Tests.{ne-eqb, eq-eqb, leb-true, leb-false}
 use Rattle.sets.proofs.Truth.{decided}
-use Rattle.image_fields.specs.Fields.{valueOf, bitsIn}
+use Rattle.image_fields.specs.Fields.{bytesFor, valueOf, bitsIn}
 use Rattle.image_fields.proofs.Bytes.{left-length}
 use Rattle.network.specs.Held.{mostVariables}
-use Rattle.image_laws.specs.Reading.{Got, bad, Raw, andThen, getField, getNodes, getRaw}
+use Rattle.image_laws.specs.Widths.{editionWidth, edition1, headWidth}
+use Rattle.image_laws.specs.Reading.{Parsed, bad, Raw, andThen, getField, getNodes, getRaw}
 use Rattle.image_read.specs.Parts.{FieldIs, sizesOf, HeadIs}
 use Rattle.image_read.specs.declared.Field.the-variants.{Is, Cut}
 use Rattle.image_read.specs.declared.Head.{Head}
@@ -24,54 +25,64 @@ use Rattle.image_read.proofs.Fielding.{field-cut, field-bad, field-got}
 pub field-below : (w v : ℕ) (l : List Bool) → FieldIs w l (Is v) → v < 2 ^ w
 field-below w v l h = subst (λ n. n < 2 ^ w) (sym (h .1)) (value-below w l)
 
+-- where the fields begin
+abbrev pub inputsAt : ℕ
+inputsAt = editionWidth
+
+abbrev pub outputsAt : ℕ
+outputsAt = inputsAt + edition1 .inputs
+
+abbrev pub divisorsAt : ℕ
+divisorsAt = outputsAt + edition1 .outputs
+
 -- what follows the edition, the inputs, the outputs
-abbrev afterOutputs : ℕ → ℕ → List Bool → Got Raw
-afterOutputs a b l = andThen (getField 6 (λ k. leb (suc a + k) mostVariables) l) (λ k r. getNodes (suc a) (suc b) k r)
+abbrev afterOutputs : ℕ → ℕ → List Bool → Parsed Raw
+afterOutputs a b l = andThen (getField (edition1 .divisors) (λ k. leb (suc a + k) mostVariables) l) (λ k r. getNodes (suc a) (suc b) k r)
 
-abbrev afterInputs : ℕ → List Bool → Got Raw
-afterInputs a l = andThen (getField 5 (λ x. true) l) (λ b r. afterOutputs a b r)
+abbrev afterInputs : ℕ → List Bool → Parsed Raw
+afterInputs a l = andThen (getField (edition1 .outputs) (λ x. true) l) (λ b r. afterOutputs a b r)
 
-abbrev afterEdition : List Bool → Got Raw
-afterEdition l = andThen (getField 5 (λ x. true) l) (λ a r. afterInputs a r)
+abbrev afterEdition : List Bool → Parsed Raw
+afterEdition l = andThen (getField (edition1 .inputs) (λ x. true) l) (λ a r. afterInputs a r)
 
 module _ (bits : List Bool) where
-  pub edition-cut : FieldIs 4 bits Cut → getRaw bits ≡ bad 11
+  pub edition-cut : FieldIs editionWidth bits Cut → getRaw bits ≡ bad 11
   unfolding getRaw
-  edition-cut h = rw (field-cut 4 (eqb 1) bits h)
+  edition-cut h = rw (field-cut editionWidth (eqb (edition1 .number)) bits h)
 
-  module _ (e : ℕ) (h : FieldIs 4 bits (Is e)) where
-    pub edition-bad : (e ≡ 1 → ⊥) → getRaw bits ≡ bad 12
+  module _ (e : ℕ) (h : FieldIs editionWidth bits (Is e)) where
+    pub edition-bad : (e ≡ edition1 .number → ⊥) → getRaw bits ≡ bad 12
     unfolding getRaw
-    edition-bad d = rw (field-bad 4 (eqb 1) bits e h (ne-eqb 1 e (λ q. d (sym q))))
+    edition-bad d = rw (field-bad editionWidth (eqb (edition1 .number)) bits e h (ne-eqb (edition1 .number) e (λ q. d (sym q))))
 
-    module _ (one : e ≡ 1) where
-      edition-on : getRaw bits ≡ afterEdition (drop 4 bits)
+    module _ (one : e ≡ edition1 .number) where
+      edition-on : getRaw bits ≡ afterEdition (drop inputsAt bits)
       unfolding getRaw
-      edition-on = rw (field-got 4 (eqb 1) bits 0 e h (eq-eqb 1 e (sym one)))
+      edition-on = rw (field-got editionWidth (eqb (edition1 .number)) bits 0 e h (eq-eqb (edition1 .number) e (sym one)))
 
-      inputs-cut : FieldIs 5 (drop 4 bits) Cut → getRaw bits ≡ bad 11
-      inputs-cut q = edition-on ∙ rw (field-cut 5 (λ x. true) (drop 4 bits) q) refl
+      inputs-cut : FieldIs (edition1 .inputs) (drop inputsAt bits) Cut → getRaw bits ≡ bad 11
+      inputs-cut q = edition-on ∙ rw (field-cut (edition1 .inputs) (λ x. true) (drop inputsAt bits) q) refl
 
-      module _ (a : ℕ) (ha : FieldIs 5 (drop 4 bits) (Is a)) where
-        inputs-on : getRaw bits ≡ afterInputs a (drop 9 bits)
-        inputs-on = edition-on ∙ rw (field-got 5 (λ x. true) bits 4 a ha refl) refl
+      module _ (a : ℕ) (ha : FieldIs (edition1 .inputs) (drop inputsAt bits) (Is a)) where
+        inputs-on : getRaw bits ≡ afterInputs a (drop outputsAt bits)
+        inputs-on = edition-on ∙ rw (field-got (edition1 .inputs) (λ x. true) bits inputsAt a ha refl) refl
 
-        module _ (b : ℕ) (hb : FieldIs 5 (drop 9 bits) (Is b)) where
-          outputs-on : getRaw bits ≡ afterOutputs a b (drop 14 bits)
-          outputs-on = inputs-on ∙ rw (field-got 5 (λ x. true) bits 9 b hb refl) refl
+        module _ (b : ℕ) (hb : FieldIs (edition1 .outputs) (drop outputsAt bits) (Is b)) where
+          outputs-on : getRaw bits ≡ afterOutputs a b (drop divisorsAt bits)
+          outputs-on = inputs-on ∙ rw (field-got (edition1 .outputs) (λ x. true) bits outputsAt b hb refl) refl
 
           abbrev test : ℕ → Bool
           test k = leb (suc a + k) mostVariables
 
-          divisors-cut : FieldIs 6 (drop 14 bits) Cut → getRaw bits ≡ bad 11
-          divisors-cut q = outputs-on ∙ rw (field-cut 6 test (drop 14 bits) q) refl
+          divisors-cut : FieldIs (edition1 .divisors) (drop divisorsAt bits) Cut → getRaw bits ≡ bad 11
+          divisors-cut q = outputs-on ∙ rw (field-cut (edition1 .divisors) test (drop divisorsAt bits) q) refl
 
-          module _ (k : ℕ) (hk : FieldIs 6 (drop 14 bits) (Is k)) where
-            sizes-on : test k ≡ true → getRaw bits ≡ getNodes (suc a) (suc b) k (drop 20 bits)
-            sizes-on q = outputs-on ∙ rw (field-got 6 test bits 14 k hk q) refl
+          module _ (k : ℕ) (hk : FieldIs (edition1 .divisors) (drop divisorsAt bits) (Is k)) where
+            sizes-on : test k ≡ true → getRaw bits ≡ getNodes (suc a) (suc b) k (drop headWidth bits)
+            sizes-on q = outputs-on ∙ rw (field-got (edition1 .divisors) test bits divisorsAt k hk q) refl
 
             sizes-off : test k ≡ false → getRaw bits ≡ bad 12
-            sizes-off q = outputs-on ∙ rw (field-bad 6 test (drop 14 bits) k hk q) refl
+            sizes-off q = outputs-on ∙ rw (field-bad (edition1 .divisors) test (drop divisorsAt bits) k hk q) refl
 
             -- all fields are there
             pub sizes-are : (r : Head) → r ≡ sizesOf a b k → HeadIs bits r
@@ -83,7 +94,7 @@ module _ (bits : List Bool) where
                 few : leb (a + 1 + k) mostVariables ≡ true → HeadIs bits (sizesOf a b k)
                 few q = rw q (record {
                   is = sizes-on (sym same ∙ q) ∙ rw (add-one, add-one) refl;
-                  sized = record { outputs = omega (arith, field-below 5 b (drop 9 bits) hb); variables = leb-true (a + 1 + k) mostVariables q };
+                  sized = record { outputs = omega (arith, field-below (edition1 .outputs) b (drop outputsAt bits) hb); variables = leb-true (a + 1 + k) mostVariables q };
                 })
 
                 many : leb (a + 1 + k) mostVariables ≡ false → HeadIs bits (sizesOf a b k)
@@ -99,13 +110,13 @@ module _ (bytes : List ℕ) (at w v : ℕ) where
   field-short h k = let short : length (drop at (bitsIn bytes)) < w = omega (arith, left-length bytes at) in short
 
 -- the edition is there, and not all that follows it before the nodes
-pub front-cut : (bytes : List ℕ) (e : ℕ) → FieldIs 4 (bitsIn bytes) (Is e) → e ≡ 1 → 1 ≤ length bytes → length bytes < 3 → getRaw (bitsIn bytes) ≡ bad 11
-front-cut bytes e h one some few = ⊎-elim two less (decided (leb 2 (length bytes)))
+pub front-cut : (bytes : List ℕ) (e : ℕ) → FieldIs editionWidth (bitsIn bytes) (Is e) → e ≡ edition1 .number → 1 ≤ length bytes → length bytes < bytesFor headWidth → getRaw (bitsIn bytes) ≡ bad 11
+front-cut bytes e h one some few = ⊎-elim two less (decided (leb (bytesFor divisorsAt) (length bytes)))
   where
-    two : leb 2 (length bytes) ≡ true → getRaw (bitsIn bytes) ≡ bad 11
+    two : leb (bytesFor divisorsAt) (length bytes) ≡ true → getRaw (bitsIn bytes) ≡ bad 11
     two t =
-        let l = leb-true 2 (length bytes) t in
-        divisors-cut (bitsIn bytes) e h one _ (field-is bytes 4 5 _ (omega (arith, l)) refl) _ (field-is bytes 9 5 _ (omega (arith, l)) refl) (field-short bytes 14 6 0 (omega arith) (omega arith))
+        let l = leb-true (bytesFor divisorsAt) (length bytes) t in
+        divisors-cut (bitsIn bytes) e h one _ (field-is bytes inputsAt (edition1 .inputs) _ (omega (arith, l)) refl) _ (field-is bytes outputsAt (edition1 .outputs) _ (omega (arith, l)) refl) (field-short bytes divisorsAt (edition1 .divisors) 0 (omega arith) (omega arith))
 
-    less : leb 2 (length bytes) ≡ false → getRaw (bitsIn bytes) ≡ bad 11
-    less f = inputs-cut (bitsIn bytes) e h one (field-short bytes 4 5 0 (omega (arith, leb-false 2 (length bytes) f)) (omega arith))
+    less : leb (bytesFor divisorsAt) (length bytes) ≡ false → getRaw (bitsIn bytes) ≡ bad 11
+    less f = inputs-cut (bitsIn bytes) e h one (field-short bytes inputsAt (edition1 .inputs) 0 (omega (arith, leb-false (bytesFor divisorsAt) (length bytes) f)) (omega arith))

@@ -13,7 +13,7 @@ use Rattle.sets.proofs.Truth.{both}
 use Rattle.expression.specs.Words.{cubesOf}
 use Rattle.expression.specs.Expression.{literalsOf}
 use Rattle.expression.proofs.Words.{zeros}
-use Rattle.network.specs.Handed.{flat}
+use Rattle.network.specs.Handed.{flat, nodeSlots, cubeSlots}
 use Rattle.network.specs.Held.{mostCubes}
 use Rattle.network_nodes.specs.Nodes.{cut}
 use Rattle.network.proofs.Handing.{cut-flat, flat-length, flat-append}
@@ -35,22 +35,22 @@ sets-asc (c ∷ f) h = let q = both (asc c) (all asc f) h in ap₂ _∷_ (set-as
 pub cubes-stand : {s t : State} {new : List ℕ} (f : List (List ℕ)) → Added s t blankWords new f → s .cubes ≡ 0 → all asc f ≡ true → length f ≤ mostCubes
     → cubesOf new ≡ f ++ replicate (mostCubes - length f) []
 cubes-stand {s} f h z a few =
-    h .stored ∙ ap₂ (sets (cubesOf blankWords)) z (sets-asc f a) ∙ ap (λ l. sets l 0 f) (zeros 1088)
-    ∙ sets-eq f (replicate 1088 []) 0 (omega (arith, length-replicate {A = List ℕ} 1088 [])) ∙ ap (λ n. f ++ drop n (replicate 1088 [])) plain ∙ ap (f ++_) (drop-blank (length f) 1088 [])
+    h .stored ∙ ap₂ (sets (cubesOf blankWords)) z (sets-asc f a) ∙ ap (λ l. sets l 0 f) (zeros cubeSlots)
+    ∙ sets-eq f (replicate cubeSlots []) 0 (omega (arith, length-replicate {A = List ℕ} cubeSlots [])) ∙ ap (λ n. f ++ drop n (replicate cubeSlots [])) plain ∙ ap (f ++_) (drop-blank (length f) cubeSlots [])
   where
     plain : 0 + length f ≡ length f
     plain = omega arith
 
 -- counts of outputs first, then of divisors, then zeros
-module _ (os ds given counts : List ℕ) (few : length os + length ds ≤ 96) (g : given ≡ sets blankCounts (length os) ds) (c : counts ≡ sets given 0 os) where
+module _ (os ds given counts : List ℕ) (few : length os + length ds ≤ nodeSlots) (g : given ≡ sets blankCounts (length os) ds) (c : counts ≡ sets given 0 os) where
   abbrev front : List ℕ
   front = take (length os) blankCounts
 
   abbrev back : List ℕ
   back = ds ++ drop (length os + length ds) blankCounts
 
-  size : length blankCounts ≡ 96
-  size = length-replicate {A = ℕ} 96 0
+  size : length blankCounts ≡ nodeSlots
+  size = length-replicate {A = ℕ} nodeSlots 0
 
   front-long : length front ≡ length os
   front-long = length-take-le (length os) blankCounts (omega (arith, size))
@@ -58,13 +58,13 @@ module _ (os ds given counts : List ℕ) (few : length os + length ds ≤ 96) (g
   given-stand : given ≡ front ++ back
   given-stand = g ∙ sets-eq ds blankCounts (length os) (omega (arith, size)) ∙ append-assoc front ds (drop (length os + length ds) blankCounts)
 
-  pub counts-stand : counts ≡ os ++ (ds ++ replicate (96 - (length os + length ds)) 0)
+  pub counts-stand : counts ≡ os ++ (ds ++ replicate (nodeSlots - (length os + length ds)) 0)
   counts-stand =
       let plain : 0 + length os ≡ length os = omega arith in
       c ∙ ap (λ l. sets l 0 os) given-stand
       ∙ sets-eq os (front ++ back) 0 (omega (arith, length-append front back, front-long))
       ∙ ap (os ++_) (ap (λ n. drop n (front ++ back)) plain ∙ drop-at front back (length os) front-long)
-      ∙ ap (λ l. os ++ (ds ++ l)) (drop-blank (length os + length ds) 96 0)
+      ∙ ap (λ l. os ++ (ds ++ l)) (drop-blank (length os + length ds) nodeSlots 0)
 
 -- the nodes are cut out of the cubes again
 pub nodes-stand : (fs : List (List (List ℕ))) (words counts : List ℕ) (n : ℕ) → cubesOf words ≡ flat fs ++ replicate n [] → counts ≡ map length fs → cut counts (cubesOf words) ≡ fs

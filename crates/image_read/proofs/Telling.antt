@@ -16,14 +16,15 @@ use Rattle.sets.proofs.Truth.{both, together, decided, clash, refuted}
 use Rattle.expression.specs.Words.{cubesOf}
 use Rattle.expression.specs.Expression.{literalsOf}
 use Rattle.network.specs.Net.{Net, nodes, cubeCount}
-use Rattle.network.specs.Handed.{flat, Blank}
+use Rattle.network.specs.Handed.{flat, nodeSlots, cubeSlots, Blank}
 use Rattle.network.specs.Held.{mostCubes, mostLiterals}
 use Rattle.network.proofs.Handing.{flat-length, holds-one, blank-one}
 use Rattle.image_fields.specs.Fields.{bitsIn}
 use Rattle.expression.proofs.Words.{fit}
 use Rattle.network.proofs.Numbering.{numbered-cubes, numbered-length}
 use Rattle.network.proofs.Places.{all-append}
-use Rattle.image_laws.specs.Reading.{got, bad, Raw, rawNodes, rawNet, Outcome, accepted, refused, padding, summed, oneOrder, inTheOrder, readsEarlier, judgeRaw, getMany, getNode, getNodes, getRaw, readImage}
+use Rattle.image_laws.specs.Widths.{headWidth}
+use Rattle.image_laws.specs.Reading.{got, bad, Raw, rawNodes, rawNet, Outcome, accepted, refused, padding, summed, allInOrder, inTheOrder, readsEarlier, judgeRaw, getMany, getNode, getNodes, getRaw, readImage}
 use Rattle.image_read.specs.Answers.{Told}
 use Rattle.image_read.specs.Parts.{nodesAt, nodesIn, orderedIn, outputCounts, divisorCounts, Judging, verdict, judgedOf, Copied, blankCounts, Half, Whole}
 use Rattle.image_read.specs.declared.Answer.{Answer}
@@ -118,24 +119,24 @@ module _ {bits : List Bool} {z : Sizes} {d : ℕ} {t : State} {apart words count
   abbrev slots : ℕ
   slots = length (map length os) + length (map length ds)
 
-  few-nodes : slots ≤ 96
+  few-nodes : slots ≤ nodeSlots
   few-nodes = omega (arith, many-outputs, many-divisors, w .half .sized .outputs, w .half .sized .variables)
 
-  counts-are : counts ≡ map length os ++ (map length ds ++ replicate (96 - slots) 0)
+  counts-are : counts ≡ map length os ++ (map length ds ++ replicate (nodeSlots - slots) 0)
   counts-are =
       counts-stand (map length os) (map length ds) (w .given) counts few-nodes
       (w .half .divisors .counts ∙ ap (λ n. sets blankCounts n (map length ds)) (sym many-outputs)) (w .outputs .counts)
 
   outputs-are : outputCounts z counts ≡ map length os
-  outputs-are = ap (take (z .outputs)) counts-are ∙ take-at (map length os) (map length ds ++ replicate (96 - slots) 0) (z .outputs) many-outputs
+  outputs-are = ap (take (z .outputs)) counts-are ∙ take-at (map length os) (map length ds ++ replicate (nodeSlots - slots) 0) (z .outputs) many-outputs
 
   divisors-are : divisorCounts z counts ≡ map length ds
   divisors-are =
       ap (λ l. take (z .divisors) (drop (z .outputs) l)) counts-are
-      ∙ ap (take (z .divisors)) (drop-at (map length os) (map length ds ++ replicate (96 - slots) 0) (z .outputs) many-outputs)
-      ∙ take-at (map length ds) (replicate (96 - slots) 0) (z .divisors) many-divisors
+      ∙ ap (take (z .divisors)) (drop-at (map length os) (map length ds ++ replicate (nodeSlots - slots) 0) (z .outputs) many-outputs)
+      ∙ take-at (map length ds) (replicate (nodeSlots - slots) 0) (z .divisors) many-divisors
 
-  pub whole-judging : length counts ≡ 96 → Judging sums z counts
+  pub whole-judging : length counts ≡ nodeSlots → Judging sums z counts
   whole-judging size = record {
     at = omega (arith, w .outputs .near .at, w .half .divisors .near .at);
     sized = w .half .sized;
@@ -176,16 +177,16 @@ module _ {bits : List Bool} {z : Sizes} {d : ℕ} {t : State} {apart words count
     outputs-in : nodesIn (outputCounts z counts) words ≡ os
     outputs-in = nodes-stand os words (outputCounts z counts) (mostCubes - length (flat os)) words-stand outputs-are
 
-    up-order : orderedIn (z .inputs) (nodesIn (divisorCounts z counts) apart) (nodesIn (outputCounts z counts) words) ≡ oneOrder raw
-    unfolding oneOrder
+    up-order : orderedIn (z .inputs) (nodesIn (divisorCounts z counts) apart) (nodesIn (outputCounts z counts) words) ≡ allInOrder raw
+    unfolding allInOrder
     up-order =
         ap₂ (orderedIn (z .inputs)) divisors-in outputs-in
         ∙ ap₂ (λ a b. a && (b && readsEarlier (z .inputs) ds)) (all-tidy ds (parts .0) (w .half .divisors .put .proper)) (all-tidy os (parts .1) (w .outputs .put .proper))
         ∙ sym (and-assoc (all inTheOrder ds) (all inTheOrder os) (readsEarlier (z .inputs) ds))
         ∙ ap (_&& readsEarlier (z .inputs) ds) (sym (all-append inTheOrder ds os))
 
-  down-order : sums .ascending ≡ false → oneOrder raw ≡ false
-  unfolding oneOrder
+  down-order : sums .ascending ≡ false → allInOrder raw ≡ false
+  unfolding allInOrder
   down-order e = refuted (λ h. clash (go h) (sym asc-sum ∙ e))
     where
       go : (all inTheOrder (ds ++ os) && readsEarlier (z .inputs) ds) ≡ true → (all asc (flat ds) && all asc (flat os)) ≡ true
@@ -197,7 +198,7 @@ module _ {bits : List Bool} {z : Sizes} {d : ℕ} {t : State} {apart words count
   abbrev found : Bool
   found = sums .ascending && orderedIn (z .inputs) (nodesIn (divisorCounts z counts) apart) (nodesIn (outputCounts z counts) words)
 
-  order-are : sums .cubes ≤ mostCubes → found ≡ oneOrder raw
+  order-are : sums .cubes ≤ mostCubes → found ≡ allInOrder raw
   order-are few = ⊎-elim (λ u. ap (_&& test) u ∙ up-order few u) (λ u. ap (_&& test) u ∙ sym (down-order u)) (decided (sums .ascending))
     where
       test : Bool
@@ -206,7 +207,7 @@ module _ {bits : List Bool} {z : Sizes} {d : ℕ} {t : State} {apart words count
   -- ---- the verdict
 
   abbrev outcome : Outcome
-  outcome = picked (padding (drop (t .at) bits)) (summed raw) (oneOrder raw) (rawNet raw)
+  outcome = picked (padding (drop (t .at) bits)) (summed raw) (allInOrder raw) (rawNet raw)
 
   outcome-is : judgeRaw (nodesAt bits z) ≡ outcome
   unfolding judgeRaw
@@ -215,7 +216,7 @@ module _ {bits : List Bool} {z : Sizes} {d : ℕ} {t : State} {apart words count
   judged-is : judgedOf bits sums z apart words counts ≡ answerOf outcome
   judged-is =
       ap (λ q. verdict (padding (drop (t .at) bits)) q found) summed-are
-      ∙ verdict-same (padding (drop (t .at) bits)) (summed raw) found (oneOrder raw) (rawNet raw) (λ q. order-are (few q))
+      ∙ verdict-same (padding (drop (t .at) bits)) (summed raw) found (allInOrder raw) (rawNet raw) (λ q. order-are (few q))
     where
       few : summed raw ≡ true → sums .cubes ≤ mostCubes
       few q = leb-true (sums .cubes) mostCubes (both (leb (sums .cubes) mostCubes) (leb (sums .literals) mostLiterals) (summed-are ∙ q) .0)
@@ -224,8 +225,8 @@ module _ {bits : List Bool} {z : Sizes} {d : ℕ} {t : State} {apart words count
   whole-refused a k r j e h = told-refused (judgeRaw (nodesAt bits z)) k r (outcome-is ∙ answer-refused outcome k (sym judged-is ∙ sym j ∙ e)) h
 
   module _ (a : Answer) (judged : a ≡ judgedOf bits sums z apart words counts) (yes : a ≡ Accepted) where
-    passed : (summed raw ≡ true) × (oneOrder raw ≡ true) × (outcome ≡ accepted (rawNet raw))
-    passed = picked-yes (padding (drop (t .at) bits)) (summed raw) (oneOrder raw) (rawNet raw) (sym judged-is ∙ sym judged ∙ yes)
+    passed : (summed raw ≡ true) × (allInOrder raw ≡ true) × (outcome ≡ accepted (rawNet raw))
+    passed = picked-yes (padding (drop (t .at) bits)) (summed raw) (allInOrder raw) (rawNet raw) (sym judged-is ∙ sym judged ∙ yes)
 
     pub whole-few : d + t .cubes ≤ mostCubes
     whole-few = leb-true (sums .cubes) mostCubes (both (leb (sums .cubes) mostCubes) (leb (sums .literals) mostLiterals) (summed-are ∙ passed .0) .0)
@@ -240,19 +241,19 @@ module _ {bits : List Bool} {z : Sizes} {d : ℕ} {t : State} {apart words count
     nodes-are = ap (os ++_) (numbered-cubes (z .inputs) ds)
 
     module _ (new : List ℕ) (c : Copied apart d words new (t .cubes)) where
-      cubes-hold : cubesOf new ≡ flat (nodes net) ++ replicate (1088 - cubeCount net) []
+      cubes-hold : cubesOf new ≡ flat (nodes net) ++ replicate (cubeSlots - cubeCount net) []
       cubes-hold =
           both-stand os ds words apart new (omega (arith, divisor-cubes, output-cubes, whole-few)) (words-stand whole-few whole-up) (apart-stand whole-few whole-up)
           (c .cubes (omega (arith, divisor-cubes, ap length (apart-stand whole-few whole-up) ∙ length-append (flat ds) (replicate (mostCubes - length (flat ds)) [])))
           ∙ ap₂ (λ n k. sets (cubesOf words) n (take k (cubesOf apart))) output-cubes divisor-cubes)
-          ∙ ap (λ l. flat l ++ replicate (1088 - total length l) []) (sym nodes-are)
+          ∙ ap (λ l. flat l ++ replicate (cubeSlots - total length l) []) (sym nodes-are)
 
-      counts-hold : counts ≡ map length (nodes net) ++ replicate (96 - length (nodes net)) 0
+      counts-hold : counts ≡ map length (nodes net) ++ replicate (nodeSlots - length (nodes net)) 0
       counts-hold =
           let n : slots ≡ length (os ++ ds) = omega (arith, length-map os length, length-map ds length, length-append os ds) in
-          counts-are ∙ sym (append-assoc (map length os) (map length ds) (replicate (96 - slots) 0))
-          ∙ ap₂ (λ l m. l ++ replicate (96 - m) 0) (sym (map-append length os ds)) n
-          ∙ ap (λ l. map length l ++ replicate (96 - length l) 0) (sym nodes-are)
+          counts-are ∙ sym (append-assoc (map length os) (map length ds) (replicate (nodeSlots - slots) 0))
+          ∙ ap₂ (λ l m. l ++ replicate (nodeSlots - m) 0) (sym (map-append length os ds)) n
+          ∙ ap (λ l. map length l ++ replicate (nodeSlots - length l) 0) (sym nodes-are)
 
       pub whole-told : Told (judgeRaw (nodesAt bits z)) (record { answer = a; network = record { inputs = z .inputs; outputs = z .outputs; divisors = z .divisors; counts = counts; words = new } })
       whole-told =
@@ -271,7 +272,7 @@ module _ {bits : List Bool} {z : Sizes} {d : ℕ} {t : State} {apart words count
 -- ---- nodes that are not there
 
 module _ (bits : List Bool) (z : Sizes) (k : ℕ) (r : Image) (h : (r .answer ≡ Refused k) × Blank (r .network)) where
-  pub divisors-refused : getMany (getNode (z .inputs + z .divisors)) (z .divisors) (drop 20 bits) ≡ bad k → Told (judgeRaw (nodesAt bits z)) r
+  pub divisors-refused : getMany (getNode (z .inputs + z .divisors)) (z .divisors) (drop headWidth bits) ≡ bad k → Told (judgeRaw (nodesAt bits z)) r
   unfolding getNodes judgeRaw
   divisors-refused e = rw e h
 

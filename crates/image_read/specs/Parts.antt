@@ -12,10 +12,11 @@ use Rattle.cube.specs.Cube.{lits}
 use Rattle.image_fields.specs.Fields.{valueOf}
 use Rattle.expression.specs.Words.{cubesOf}
 use Rattle.expression.specs.Expression.{expression, ordered}
-use Rattle.network.specs.Handed.{flat}
-use Rattle.network.specs.Held.{mostVariables, mostCubes, mostLiterals}
+use Rattle.network.specs.Handed.{flat, nodeSlots}
+use Rattle.network.specs.Held.{mostOutputs, mostVariables, mostCubes, mostLiterals}
 use Rattle.network_nodes.specs.Nodes.{cut}
-use Rattle.image_laws.specs.Reading.{Got, got, bad, Raw, getMany, getNode, getNodes, getRaw, padding, readsEarlier}
+use Rattle.image_laws.specs.Widths.{edition1, headWidth, mostNodeBits, mostBits}
+use Rattle.image_laws.specs.Reading.{Parsed, got, bad, Raw, getMany, getNode, getNodes, getRaw, padding, readsEarlier}
 use Rattle.image_read.specs.declared.Answer.{Answer}
 use Rattle.image_read.specs.declared.Answer.the-variants.{Accepted, Refused}
 use Rattle.image_read.specs.declared.Field.{Field}
@@ -30,9 +31,13 @@ use Rattle.image_read.specs.declared.Sizes.{Sizes}
 use Rattle.image_read.specs.declared.Head.{Head}
 use Rattle.image_read.specs.declared.Head.the-variants as head
 
--- bounds that no image reaches: each part begins below one, and leaves the next to the parts in it
-abbrev pub billions : ℕ → ℕ
-billions n = n * 1000000000
+-- each part begins below one of these bounds, and leaves the next to the parts in it
+abbrev pub times : ℕ → ℕ
+times n = n * mostBits
+
+-- no field is wider than a cube count
+abbrev pub widest : ℕ
+widest = edition1 .cubes
 
 -- ---- fields and cubes
 
@@ -46,18 +51,18 @@ abbrev pub setOf : List ℕ → List ℕ
 setOf c = union c []
 
 -- a cube of these literals was read from a bit on, and no more than the most bits
-pub record CubeGot (most : ℕ) (bits : List Bool) (start : ℕ) (g : Got (List ℕ)) (r : Taken) : Type 0 where
+pub record CubeGot (most : ℕ) (bits : List Bool) (start : ℕ) (g : Parsed (List ℕ)) (r : Taken) : Type 0 where
   pub read : List ℕ
   pub is : g ≡ got read (drop (r .at) bits)
   pub cube : lits (r .cube) ≡ setOf read
   pub literals : r .literals ≡ length read
   pub ascending : r .ascending ≡ asc read
   pub proper : proper read ≡ true
-  pub few : length read ≤ 64
+  pub few : length read ≤ mostVariables
   pub near : r .at ≤ start + most
 
 -- or the number of the refusal
-abbrev pub CubeIs : ℕ → List Bool → ℕ → Got (List ℕ) → Turn → Type 0
+abbrev pub CubeIs : ℕ → List Bool → ℕ → Parsed (List ℕ) → Turn → Type 0
 CubeIs most bits start g (turn.Cube r) = CubeGot most bits start g r
 CubeIs most bits start g (turn.Bad k) = g ≡ bad k
 
@@ -88,28 +93,28 @@ pub record Added (s t : State) (old new : List ℕ) (read : List (List ℕ)) : T
   pub proper : all proper read ≡ true
 
 -- cubes were read, and no number grew by more than the most
-pub record CubesGot (most : ℕ) (bits : List Bool) (s : State) (g : Got (List (List ℕ))) (old new : List ℕ) (t : State) : Type 0 where
+pub record CubesGot (most : ℕ) (bits : List Bool) (s : State) (g : Parsed (List (List ℕ))) (old new : List ℕ) (t : State) : Type 0 where
   pub read : List (List ℕ)
   pub is : g ≡ got read (drop (t .at) bits)
   pub put : Added s t old new read
   pub near : Near most s t
 
 -- or the number of the refusal
-abbrev pub CubesAre : ℕ → List Bool → State → Got (List (List ℕ)) → List ℕ → List ℕ → Step → Type 0
+abbrev pub CubesAre : ℕ → List Bool → State → Parsed (List (List ℕ)) → List ℕ → List ℕ → Step → Type 0
 CubesAre most bits s g old new (step.On t) = CubesGot most bits s g old new t
 CubesAre most bits s g old new (step.Bad k) = g ≡ bad k
 
 -- k nodes were read, their counts put from a place on
-pub record NodesGot (k : ℕ) (bits : List Bool) (s : State) (g : Got (List (List (List ℕ)))) (old new : List ℕ) (first : ℕ) (was are : List ℕ) (t : State) : Type 0 where
+pub record NodesGot (k : ℕ) (bits : List Bool) (s : State) (g : Parsed (List (List (List ℕ)))) (old new : List ℕ) (first : ℕ) (was are : List ℕ) (t : State) : Type 0 where
   pub read : List (List (List ℕ))
   pub number : length read ≡ k
   pub is : g ≡ got read (drop (t .at) bits)
   pub put : Added s t old new (flat read)
   pub counts : are ≡ sets was first (map length read)
-  pub near : Near 134217728 s t
+  pub near : Near (mostVariables * mostNodeBits) s t
 
 -- or the number of the refusal
-abbrev pub NodesAre : ℕ → List Bool → State → Got (List (List (List ℕ))) → List ℕ → List ℕ → ℕ → List ℕ → List ℕ → Step → Type 0
+abbrev pub NodesAre : ℕ → List Bool → State → Parsed (List (List (List ℕ))) → List ℕ → List ℕ → ℕ → List ℕ → List ℕ → Step → Type 0
 NodesAre k bits s g old new first was are (step.On t) = NodesGot k bits s g old new first was are t
 NodesAre k bits s g old new first was are (step.Bad e) = g ≡ bad e
 
@@ -117,12 +122,12 @@ NodesAre k bits s g old new first was are (step.Bad e) = g ≡ bad e
 
 -- numbers of inputs, outputs and divisors that leave room for them
 pub record SizesFit (z : Sizes) : Type 0 where
-  pub outputs : z .outputs ≤ 32
+  pub outputs : z .outputs ≤ mostOutputs
   pub variables : z .inputs + z .divisors ≤ mostVariables
 
 -- the nodes after the first fields
-abbrev pub nodesAt : List Bool → Sizes → Got Raw
-nodesAt bits z = getNodes (z .inputs) (z .outputs) (z .divisors) (drop 20 bits)
+abbrev pub nodesAt : List Bool → Sizes → Parsed Raw
+nodesAt bits z = getNodes (z .inputs) (z .outputs) (z .divisors) (drop headWidth bits)
 
 -- 12 where there are too many variables
 abbrev pub sizesOf : ℕ → ℕ → ℕ → Head
@@ -164,9 +169,9 @@ divisorCounts z counts = take (z .divisors) (drop (z .outputs) counts)
 
 -- what is read is not too long, and the sum of the counts is that of the cubes
 pub record Judging (s : State) (z : Sizes) (counts : List ℕ) : Type 0 where
-  pub at : s .at ≤ billions 6
+  pub at : s .at ≤ times 2
   pub sized : SizesFit z
-  pub places : length counts ≡ 96
+  pub places : length counts ≡ nodeSlots
   pub sum : s .cubes ≡ total (λ c. c) (divisorCounts z counts) + total (λ c. c) (outputCounts z counts)
 
 -- by three tests: what is left over, then the sums, then the order
@@ -184,7 +189,7 @@ pub record Copied (from : List ℕ) (number : ℕ) (old new : List ℕ) (place :
 
 -- before the first node
 abbrev pub first : State
-first = record { at = 20; cubes = 0; literals = 0; ascending = true }
+first = record { at = headWidth; cubes = 0; literals = 0; ascending = true }
 
 -- before the first output: its cubes are put apart from the divisors'
 abbrev pub second : State → State
@@ -195,12 +200,12 @@ abbrev pub blankWords : List ℕ
 blankWords = replicate 2176 0
 
 abbrev pub blankCounts : List ℕ
-blankCounts = replicate 96 0
+blankCounts = replicate nodeSlots 0
 
 -- the divisors are read
 pub record Half (bits : List Bool) (z : Sizes) (s : State) (apart counts : List ℕ) : Type 0 where
   pub sized : SizesFit z
-  pub divisors : NodesGot (z .divisors) bits first (getMany (getNode (z .inputs + z .divisors)) (z .divisors) (drop 20 bits)) blankWords apart (z .outputs) blankCounts counts s
+  pub divisors : NodesGot (z .divisors) bits first (getMany (getNode (z .inputs + z .divisors)) (z .divisors) (drop headWidth bits)) blankWords apart (z .outputs) blankCounts counts s
 
 -- the outputs too
 pub record Whole (bits : List Bool) (z : Sizes) (divisors : ℕ) (t : State) (apart words counts : List ℕ) : Type 0 where

@@ -20,11 +20,23 @@ ghost use Rattle.image_fields.specs.Fields.{valueOf, bitsIn};
 ghost use Rattle.expression.specs.Words.{cubesOf};
 ghost use Rattle.expression.specs.Expression.{ordered};
 ghost use Rattle.network.specs.Handed.{Blank};
-ghost use Rattle.network.specs.Held.{reach};
+ghost use Rattle.network.specs.Held.{mostInputs, mostOutputs, mostVariables, mostCubes, reach};
 ghost use Rattle.network_nodes.specs.Nodes.{cut};
+ghost use Rattle.image_laws.specs.Widths.{mostLiteralBits, mostCubeBits, mostCubesBits, mostNodeBits};
 ghost use Rattle.image_laws.specs.Reading.{getLiterals, getCube, getMany, getNode, padding, readsEarlier, judgeRaw, readImage};
-ghost use Rattle.image_read.specs.Parts.{billions, FieldIs, CubeIs, added, Low, CubesAre, NodesAre, SizesFit, nodesAt, sizesOf, HeadIs, tidy, nodesIn, orderedIn, Counted, Judging, judgedOf, Copied, Half, Whole};
+ghost use Rattle.image_read.specs.Parts.{times, widest, FieldIs, CubeIs, added, Low, CubesAre, NodesAre, SizesFit, nodesAt, sizesOf, HeadIs, tidy, nodesIn, orderedIn, Counted, Judging, judgedOf, Copied, Half, Whole};
 ghost use Rattle.image_read.specs.Answers.{Told};
+
+// Where the fields before the first node begin, and the bytes that they end in.
+const INPUTS_AT: usize = image_laws::EDITION_WIDTH;
+
+const OUTPUTS_AT: usize = INPUTS_AT + image_laws::INPUTS_WIDTH;
+
+const DIVISORS_AT: usize = OUTPUTS_AT + image_laws::OUTPUTS_WIDTH;
+
+const EDITION_BYTES: usize = (image_laws::EDITION_WIDTH + 7) / 8;
+
+const HEAD_BYTES: usize = (image_laws::HEAD_WIDTH + 7) / 8;
 
 pub enum Answer {
     Accepted,
@@ -99,7 +111,7 @@ fn bit_at(bytes: &[u8], p: usize) -> usize
 
 // The number in w bits from a bit on, which are all there.
 fn value_at(bytes: &[u8], at: usize, w: usize) -> usize
-    requires { ⌜ (at + w ≤ 8 * length (now bytes)) × (at ≤ billions 6) × (w ≤ 11) ⌝ }
+    requires { ⌜ (at + w ≤ 8 * length (now bytes)) × (at ≤ times 6) × (w ≤ widest) ⌝ }
     ensures { λ r. ⌜ r ≡ valueOf (take w (drop at (bitsIn (now (bytes .entry))))) ⌝ }
 {
     let mut v = 0;
@@ -113,7 +125,7 @@ fn value_at(bytes: &[u8], at: usize, w: usize) -> usize
 
 // The field of w bits from a bit on.
 fn field_at(bytes: &[u8], at: usize, w: usize) -> Field
-    requires { ⌜ (at ≤ billions 6) × (1 ≤ w) × (w ≤ 11) ⌝ }
+    requires { ⌜ (at ≤ times 6) × (1 ≤ w) × (w ≤ widest) ⌝ }
     ensures { λ r. ⌜ FieldIs w (drop at (bitsIn (now (bytes .entry)))) r ⌝ }
 {
     if bytes.len() < (at + w + 7) / 8 {
@@ -157,15 +169,15 @@ fn both(a: bool, b: bool) -> bool
 
 // So many literals of v variables, from a bit on.
 fn literals(bytes: &[u8], start: usize, v: usize, k: usize) -> Turn
-    requires { ⌜ (start ≤ billions 5) × (v ≤ 64) × (k ≤ 64) ⌝ }
-    ensures { λ r. ⌜ CubeIs 448 (bitsIn (now (bytes .entry))) start (getLiterals v k [] (drop start (bitsIn (now (bytes .entry))))) r ⌝ }
+    requires { ⌜ (start ≤ times 5) × (v ≤ mostVariables) × (k ≤ mostVariables) ⌝ }
+    ensures { λ r. ⌜ CubeIs mostLiteralBits (bitsIn (now (bytes .entry))) start (getLiterals v k [] (drop start (bitsIn (now (bytes .entry))))) r ⌝ }
 {
     let mut seen = cube::empty();
     let mut ascending = true;
     let mut at = start;
     let mut i = 0;
     while i < k {
-        let f = field_at(bytes, at, 7);
+        let f = field_at(bytes, at, image_laws::LITERAL_WIDTH);
         let Field::Is(x) = f else {
             return Turn::Bad(11);
         };
@@ -175,7 +187,7 @@ fn literals(bytes: &[u8], start: usize, v: usize, k: usize) -> Turn
         }
         ascending = both(ascending, is_below(seen, l));
         seen = cube::with(seen, l);
-        at += 7;
+        at += image_laws::LITERAL_WIDTH;
         i += 1;
     }
     Turn::Cube(Taken {
@@ -188,22 +200,22 @@ fn literals(bytes: &[u8], start: usize, v: usize, k: usize) -> Turn
 
 // The cube from a bit on.
 fn cube_at(bytes: &[u8], at: usize, v: usize) -> Turn
-    requires { ⌜ (at ≤ billions 4) × (v ≤ 64) ⌝ }
-    ensures { λ r. ⌜ CubeIs 512 (bitsIn (now (bytes .entry))) at (getCube v (drop at (bitsIn (now (bytes .entry))))) r ⌝ }
+    requires { ⌜ (at ≤ times 4) × (v ≤ mostVariables) ⌝ }
+    ensures { λ r. ⌜ CubeIs mostCubeBits (bitsIn (now (bytes .entry))) at (getCube v (drop at (bitsIn (now (bytes .entry))))) r ⌝ }
 {
-    let f = field_at(bytes, at, 7);
+    let f = field_at(bytes, at, image_laws::LITERALS_WIDTH);
     let Field::Is(k) = f else {
         return Turn::Bad(11);
     };
     if k > v {
         return Turn::Bad(12);
     }
-    literals(bytes, at + 7, v, k)
+    literals(bytes, at + image_laws::LITERALS_WIDTH, v, k)
 }
 
 // One cube more.
 fn added(s: State, c: Taken) -> State
-    requires { ⌜ Low (billions 5) s × (c .literals ≤ 64) ⌝ }
+    requires { ⌜ Low (times 5) s × (c .literals ≤ mostVariables) ⌝ }
     ensures { λ r. ⌜ r ≡ added s c ⌝ }
 {
     let ascending = both(s.ascending, c.ascending);
@@ -217,8 +229,8 @@ fn added(s: State, c: Taken) -> State
 
 // So many cubes, put one after the other; past the last place nothing is put.
 fn cubes(bytes: &[u8], start: State, v: usize, k: usize, words: &mut [u64]) -> Step
-    requires { ⌜ Low (billions 3) start × (v ≤ 64) × (k ≤ 1088) ⌝ }
-    ensures { λ r. ⌜ CubesAre 600000 (bitsIn (now (bytes .entry))) start (getMany (getCube v) k (drop (start .at) (bitsIn (now (bytes .entry))))) (now (words .entry)) (now (words .exit)) r ⌝ }
+    requires { ⌜ Low (times 3) start × (v ≤ mostVariables) × (k ≤ mostCubes) ⌝ }
+    ensures { λ r. ⌜ CubesAre mostCubesBits (bitsIn (now (bytes .entry))) start (getMany (getCube v) k (drop (start .at) (bitsIn (now (bytes .entry))))) (now (words .entry)) (now (words .exit)) r ⌝ }
 {
     let mut s = start;
     let mut i = 0;
@@ -240,10 +252,10 @@ fn cubes(bytes: &[u8], start: State, v: usize, k: usize, words: &mut [u64]) -> S
 
 // The node from here on: its cube count and its cubes.
 fn node(bytes: &[u8], start: State, v: usize, words: &mut [u64]) -> Step
-    requires { ⌜ Low (billions 2) start × (v ≤ 64) ⌝ }
-    ensures { λ r. ⌜ CubesAre 1048576 (bitsIn (now (bytes .entry))) start (getNode v (drop (start .at) (bitsIn (now (bytes .entry))))) (now (words .entry)) (now (words .exit)) r ⌝ }
+    requires { ⌜ Low (times 2) start × (v ≤ mostVariables) ⌝ }
+    ensures { λ r. ⌜ CubesAre mostNodeBits (bitsIn (now (bytes .entry))) start (getNode v (drop (start .at) (bitsIn (now (bytes .entry))))) (now (words .entry)) (now (words .exit)) r ⌝ }
 {
-    let f = field_at(bytes, start.at, 11);
+    let f = field_at(bytes, start.at, image_laws::CUBES_WIDTH);
     let Field::Is(k) = f else {
         return Step::Bad(11);
     };
@@ -251,7 +263,7 @@ fn node(bytes: &[u8], start: State, v: usize, words: &mut [u64]) -> Step
         return Step::Bad(12);
     }
     let mut s = start;
-    s.at = start.at + 11;
+    s.at = start.at + image_laws::CUBES_WIDTH;
     cubes(bytes, s, v, k, words)
 }
 
@@ -265,7 +277,7 @@ fn nodes(
     words: &mut [u64],
     counts: &mut [usize],
 ) -> Step
-    requires { ⌜ Low (billions 1) start × (v ≤ 64) × (first + number ≤ length (now counts)) × (number ≤ 96) ⌝ }
+    requires { ⌜ Low (times 1) start × (v ≤ mostVariables) × (first + number ≤ length (now counts)) × (number ≤ mostVariables) ⌝ }
     ensures { λ r. ⌜ NodesAre number (bitsIn (now (bytes .entry))) start (getMany (getNode v) number (drop (start .at) (bitsIn (now (bytes .entry))))) (now (words .entry)) (now (words .exit)) first (now (counts .entry)) (now (counts .exit)) r ⌝ }
 {
     let mut s = start;
@@ -284,7 +296,7 @@ fn nodes(
 
 // The numbers that the first fields give: 12 where there are too many variables.
 fn sizes_of(a: usize, b: usize, k: usize) -> Head
-    requires { ⌜ (a < 32) × (b < 32) × (k < 64) ⌝ }
+    requires { ⌜ (a < mostInputs) × (b < mostOutputs) × (k < mostVariables) ⌝ }
     ensures { λ r. ⌜ r ≡ sizesOf a b k ⌝ }
 {
     if a + 1 + k > network::VARIABLES {
@@ -297,29 +309,29 @@ fn sizes_of(a: usize, b: usize, k: usize) -> Head
     })
 }
 
-// The fields before the first node: 4 bits and then 16, of which none is refused before the last is read.
+// The fields before the first node: of those after the edition none is refused before the last is read.
 fn front(bytes: &[u8]) -> Head
     ensures { λ r. ⌜ HeadIs (bitsIn (now (bytes .entry))) r ⌝ }
 {
-    if bytes.len() < 1 {
+    if bytes.len() < EDITION_BYTES {
         return Head::Bad(11);
     }
-    if value_at(bytes, 0, 4) != 1 {
+    if value_at(bytes, 0, image_laws::EDITION_WIDTH) != image_laws::EDITION {
         return Head::Bad(12);
     }
-    if bytes.len() < 3 {
+    if bytes.len() < HEAD_BYTES {
         return Head::Bad(11);
     }
     sizes_of(
-        value_at(bytes, 4, 5),
-        value_at(bytes, 9, 5),
-        value_at(bytes, 14, 6),
+        value_at(bytes, INPUTS_AT, image_laws::INPUTS_WIDTH),
+        value_at(bytes, OUTPUTS_AT, image_laws::OUTPUTS_WIDTH),
+        value_at(bytes, DIVISORS_AT, image_laws::DIVISORS_WIDTH),
     )
 }
 
 // Whether only zero bits are left, fewer than a byte.
 fn is_padded(bytes: &[u8], at: usize) -> bool
-    requires { ⌜ at ≤ billions 6 ⌝ }
+    requires { ⌜ at ≤ times 6 ⌝ }
     ensures { λ r. ⌜ r ≡ padding (drop at (bitsIn (now (bytes .entry)))) ⌝ }
 {
     let n = bytes.len();
@@ -359,7 +371,7 @@ fn is_tidy(f: &[u64]) -> bool
 
 // Whether each node is an expression in cube order.
 fn all_tidy(words: &[u64], counts: &[usize]) -> bool
-    requires { ⌜ total (λ c. c) (now counts) ≤ 1088 ⌝ }
+    requires { ⌜ total (λ c. c) (now counts) ≤ mostCubes ⌝ }
     ensures { λ r. ⌜ r ≡ all tidy (cut (now (counts .entry)) (cubesOf (now (words .entry)))) ⌝ }
 {
     let mut a = 0;
@@ -377,7 +389,7 @@ fn all_tidy(words: &[u64], counts: &[usize]) -> bool
 
 // Whether every literal is of one of v variables.
 fn reaches(f: &[u64], v: usize) -> bool
-    requires { ⌜ v ≤ 64 ⌝ }
+    requires { ⌜ v ≤ mostVariables ⌝ }
     ensures { λ r. ⌜ r ≡ reach v (cubesOf (now (f .entry))) ⌝ }
 {
     let next = cube::plain(Variable(v as u32));
@@ -393,7 +405,7 @@ fn reaches(f: &[u64], v: usize) -> bool
 
 // Whether each divisor, numbered from n on, reads earlier variables alone.
 fn all_earlier(words: &[u64], counts: &[usize], n: usize) -> bool
-    requires { ⌜ (total (λ c. c) (now counts) ≤ 1088) × (n + length (now counts) ≤ 64) ⌝ }
+    requires { ⌜ (total (λ c. c) (now counts) ≤ mostCubes) × (n + length (now counts) ≤ mostVariables) ⌝ }
     ensures { λ r. ⌜ r ≡ readsEarlier n (cut (now (counts .entry)) (cubesOf (now (words .entry)))) ⌝ }
 {
     let mut a = 0;
@@ -418,7 +430,7 @@ fn in_order(
     words: &[u64],
     outputs: &[usize],
 ) -> bool
-    requires { ⌜ Counted (now divisors) (now outputs) × (inputs + length (now divisors) ≤ 64) ⌝ }
+    requires { ⌜ Counted (now divisors) (now outputs) × (inputs + length (now divisors) ≤ mostVariables) ⌝ }
     ensures { λ r. ⌜ r ≡ (ascending && orderedIn inputs (nodesIn (now (divisors .entry)) (now (apart .entry))) (nodesIn (now (outputs .entry)) (now (words .entry)))) ⌝ }
 {
     if !ascending {
@@ -464,7 +476,7 @@ fn judge(bytes: &[u8], s: State, z: Sizes, apart: &[u64], words: &[u64], counts:
 
 // The first so many cubes of a slice, put from a place on.
 fn copy(from: &[u64], number: usize, to: &mut [u64], place: usize)
-    requires { ⌜ (number ≤ 1088) × (place ≤ 1088) ⌝ }
+    requires { ⌜ (number ≤ mostCubes) × (place ≤ mostCubes) ⌝ }
     ensures { λ r. ⌜ Copied (now (from .entry)) number (now (to .entry)) (now (to .exit)) place ⌝ }
 {
     let mut i = 0;
@@ -551,7 +563,7 @@ fn body(bytes: &[u8], z: Sizes) -> Image
     let mut counts = [0usize; network::NODES];
     let mut apart = [0u64; network::WORDS];
     let start = State {
-        at: 20,
+        at: image_laws::HEAD_WIDTH,
         cubes: 0,
         literals: 0,
         ascending: true,

@@ -12,8 +12,8 @@ use Rattle.image_fields.specs.Fields.{bitsOf, fieldBits}
 use Rattle.network_nodes.specs.Nodes.{cut}
 use Rattle.network.specs.Handed.{flat}
 use Rattle.network_nodes.proofs.Cutting.{cut-node, cut-length}
-use Rattle.image_laws.specs.Image.{field, cubeFields, nodeFields, headFields}
-use Rattle.image_laws.proofs.Fielding.{fields-append}
+use Rattle.image_laws.specs.Image.{cubeFields, nodeFields, headFields}
+use Rattle.image_laws.proofs.Fielding.{literalBits, literalsBits, cubesBits, literalFields, headed, head-fields, fields-append}
 use Rattle.image_write.specs.Parts.{nodesFrom, bitsFrom}
 
 -- ---- a field
@@ -28,43 +28,42 @@ field-none i v e = rw e
 
 -- ---- the head
 
-pub head-bits : (n m k : ℕ) → fieldBits (headFields n m k) ≡ bitsOf 4 1 ++ (bitsOf 5 (n - 1) ++ (bitsOf 5 (m - 1) ++ bitsOf 6 k))
-unfolding fieldBits headFields
-head-bits n m k = ap (λ (l : List Bool). bitsOf 4 1 ++ (bitsOf 5 (n - 1) ++ (bitsOf 5 (m - 1) ++ l))) (append-nil (bitsOf 6 k))
+pub head-bits : (n m k : ℕ) → fieldBits (headFields n m k) ≡ headed n m k []
+head-bits n m k = sym (append-nil (fieldBits (headFields n m k))) ∙ head-fields n m k []
 
 -- ---- a cube
 
--- the literals' fields
-abbrev pub literalBits : List ℕ → List Bool
-literalBits c = fieldBits (map (field 7) c)
+-- the bits of the literals' fields
+abbrev pub spread : List ℕ → List Bool
+spread c = fieldBits (literalFields c)
 
-pub cube-bits : (c : List ℕ) (n : ℕ) → n ≡ length c → fieldBits (cubeFields c) ≡ bitsOf 7 n ++ literalBits c
+pub cube-bits : (c : List ℕ) (n : ℕ) → n ≡ length c → fieldBits (cubeFields c) ≡ literalsBits n ++ spread c
 unfolding fieldBits cubeFields
-cube-bits c n e = ap (λ k. bitsOf 7 k ++ literalBits c) (sym e)
+cube-bits c n e = ap (λ k. literalsBits k ++ spread c) (sym e)
 
-pub literals-next : (c d : List ℕ) (x : ℕ) → c ≡ x ∷ d → literalBits c ≡ bitsOf 7 x ++ literalBits d
+pub literals-next : (c d : List ℕ) (x : ℕ) → c ≡ x ∷ d → spread c ≡ literalBits x ++ spread d
 unfolding fieldBits
-literals-next c d x e = ap literalBits e
+literals-next c d x e = ap spread e
 
-pub literals-none : (c : List ℕ) → c ≡ [] → literalBits c ≡ []
+pub literals-none : (c : List ℕ) → c ≡ [] → spread c ≡ []
 unfolding fieldBits
-literals-none c e = ap literalBits e
+literals-none c e = ap spread e
 
 -- ---- a node
 
--- the fields of the cubes from i on
-abbrev pub cubesBits : List (List ℕ) → ℕ → List Bool
-cubesBits f i = fieldBits (flat (map cubeFields (drop i f)))
+-- the bits of the cubes' fields from i on
+abbrev pub spreadFrom : List (List ℕ) → ℕ → List Bool
+spreadFrom f i = fieldBits (flat (map cubeFields (drop i f)))
 
-pub node-bits : (f : List (List ℕ)) (n : ℕ) → n ≡ length f → fieldBits (nodeFields f) ≡ bitsOf 11 n ++ cubesBits f 0
+pub node-bits : (f : List (List ℕ)) (n : ℕ) → n ≡ length f → fieldBits (nodeFields f) ≡ cubesBits n ++ spreadFrom f 0
 unfolding fieldBits nodeFields
-node-bits f n e = ap (λ k. bitsOf 11 k ++ cubesBits f 0) (sym e)
+node-bits f n e = ap (λ k. cubesBits k ++ spreadFrom f 0) (sym e)
 
-pub cubes-next : (f : List (List ℕ)) (i : ℕ) (c : List ℕ) → i < length f → c ≡ getD f i [] → cubesBits f i ≡ fieldBits (cubeFields c) ++ cubesBits f (i + 1)
+pub cubes-next : (f : List (List ℕ)) (i : ℕ) (c : List ℕ) → i < length f → c ≡ getD f i [] → spreadFrom f i ≡ fieldBits (cubeFields c) ++ spreadFrom f (i + 1)
 cubes-next f i c h e =
     ap (λ (l : List (List ℕ)). fieldBits (flat (map cubeFields l))) (drop-next f i [] h ∙ ap (_∷ drop (i + 1) f) (sym e)) ∙ fields-append (cubeFields c) (flat (map cubeFields (drop (i + 1) f)))
 
-pub cubes-none : (f : List (List ℕ)) (i : ℕ) → length f ≤ i → cubesBits f i ≡ []
+pub cubes-none : (f : List (List ℕ)) (i : ℕ) → length f ≤ i → spreadFrom f i ≡ []
 unfolding fieldBits
 cubes-none f i h = ap (λ (l : List (List ℕ)). fieldBits (flat (map cubeFields l))) (drop-of-length-le f h)
 

@@ -1,5 +1,5 @@
 -- What the writer answers: 10, 9, or the image of the network renumbered; no two answers differ. Assumes nothing.
-use Prim.Native.Nat.{ℕ, _+_, _-_, _<_, _≤_}
+use Prim.Native.Nat.{ℕ, _+_, _-_, _*_, _<_, _≤_}
 use mathlib.Core.Path.{_≡_, refl, sym, ap, ap₂, _∙_}
 use mathlib.Core.Bool.{Bool, true, false}
 use mathlib.Core.List.{List, [], _++_}
@@ -16,7 +16,7 @@ use Rattle.network.specs.Net.{Node, Net, nodes, cubesAt}
 use Rattle.network.specs.Listing.{listing}
 use Rattle.network.specs.Held.{netOf, rules}
 use Rattle.network_nodes.specs.Nodes.{cut}
-use Rattle.network.specs.Handed.{Holds}
+use Rattle.network.specs.Handed.{nodeSlots, Holds}
 use Rattle.network.specs.declared.Network.{Network}
 use Rattle.network.specs.declared.Judged.the-variants.{Accepted, Refused}
 use Rattle.network.proofs.Handing.{cut-flat, used-held}
@@ -24,12 +24,13 @@ use Rattle.network.proofs.Holding.{rules-iff, rules-sound, rules-outputs, rules
 use Rattle.network.proofs.Numbering.{numbered-length}
 use Rattle.network_nodes.proofs.Cutting.{cut-take}
 use Rattle.image_laws.specs.Renumber.{newNode, renumbered}
+use Rattle.image_laws.specs.Widths.{headWidth}
 use Rattle.image_laws.specs.Image.{headFields, netFields, netBytes, imageOf}
 use Rattle.image_laws.proofs.Fielding.{divisorCubes, nodeBits, net-bits, net-bits-length, nodes-bits-length}
 use Rattle.image_number.specs.Answers.{toldBy}
 use Rattle.image_number.specs.declared.Renumbered.{Renumbered}
 use Rattle.image_write.specs.Answers.{refusedBy, Told}
-use Rattle.image_write.specs.Parts.{overlaid, LaidBits, nodesFrom, bitsFrom, allBits, Held, Writable}
+use Rattle.image_write.specs.Parts.{overlaid, LaidBits, nodesFrom, bitsFrom, allBits, mostHeldBits, Held, Writable}
 use Rattle.image_write.specs.declared.Wrote.{Wrote}
 use Rattle.image_write.specs.declared.Wrote.the-variants as wrote
 
@@ -79,14 +80,14 @@ module _ (r : Network) (m : Net) (h : Holds r m) where
       ∙ sym (net-bits m)
 
   -- so many of them
-  pub size-held : 20 + length (bitsFrom 0 e (r .words) (r .counts)) ≡ length (fieldBits (netFields m))
+  pub size-held : headWidth + length (bitsFrom 0 e (r .words) (r .counts)) ≡ length (fieldBits (netFields m))
   size-held = omega (arith, ap (λ (x : List (List (List ℕ))). length (nodeBits x)) (from-zero e ∙ front), nodes-bits-length (nodes m), net-bits-length m)
 
 -- ---- the network renumbered
 
-module _ (n : Network) (slots : length (n .counts) ≡ 96) (lawful : rules n ≡ true) (r : Network) (h : Holds r (renumbered (netOf n))) where
+module _ (n : Network) (slots : length (n .counts) ≡ nodeSlots) (lawful : rules n ≡ true) (r : Network) (h : Holds r (renumbered (netOf n))) where
   -- it has inputs, outputs and divisors as before
-  pub sizes : (1 ≤ r .inputs) × (1 ≤ r .outputs) × (r .outputs + r .divisors ≤ 96)
+  pub sizes : (1 ≤ r .inputs) × (1 ≤ r .outputs) × (r .outputs + r .divisors ≤ nodeSlots)
   unfolding renumbered
   sizes =
       let f = (rules-iff n slots) .0 lawful in
@@ -94,24 +95,24 @@ module _ (n : Network) (slots : length (n .counts) ≡ 96) (lawful : rules n ≡
       let d : r .divisors ≡ n .divisors = h .divisors ∙ numbered-length (n .inputs) _ ∙ length-map (listing (netOf n)) (λ v. newNode (n .inputs) (listing (netOf n)) (cubesAt v ((netOf n) .divisors))) ∙ (rules-sound n lawful) .whole ∙ rules-divisors n slots lawful in
       (omega (arith, h .inputs, f .inputs), omega (arith, o, f .outputs), omega (arith, o, d, f .outputs, f .inputs, f .variables))
 
-  module _ (places : length (r .counts) ≡ 96) (whole : length (r .words) ≡ 2176) where
+  module _ (places : length (r .counts) ≡ nodeSlots) (whole : length (r .words) ≡ 2176) where
     pub held : Held (r .words) (r .counts) (r .outputs + r .divisors)
     held = record { counted = omega (arith, sizes .2); nodes = sizes .2; few = omega (arith, cubes-length (r .words)) }
 
     module _ (o : List ℕ) (bits : ℕ) (b : bits ≡ length (bitsFrom 0 (r .outputs + r .divisors) (r .words) (r .counts))) where
-      image-length : length (imageOf (netOf n)) ≡ bytesFor (20 + bits)
+      image-length : length (imageOf (netOf n)) ≡ bytesFor (headWidth + bits)
       unfolding imageOf netBytes
       image-length =
           bytes-length (fieldBits (netFields (renumbered (netOf n))))
-          ∙ ap bytesFor (sym (size-held r (renumbered (netOf n)) h) ∙ ap (20 +_) (sym b))
+          ∙ ap bytesFor (sym (size-held r (renumbered (netOf n)) h) ∙ ap (headWidth +_) (sym b))
 
       -- 9 where the image is longer
-      pub told-long : length o < bytesFor (20 + bits) → Told (refusedBy n o) n o o (wrote.Refused 9)
+      pub told-long : length o < bytesFor (headWidth + bits) → Told (refusedBy n o) n o o (wrote.Refused 9)
       unfolding refusedBy
       told-long l = rw (lawful, lt-ltb (length o) (length (imageOf (netOf n))) (omega (arith, image-length))) (refl, refl)
 
-      module _ (l : bytesFor (20 + bits) ≤ length o) where
-        pub ready : bits ≤ 96000000 → Writable (r .inputs) (r .outputs) (r .divisors) (r .words) (r .counts) o
+      module _ (l : bytesFor (headWidth + bits) ≤ length o) where
+        pub ready : bits ≤ nodeSlots * mostHeldBits → Writable (r .inputs) (r .outputs) (r .divisors) (r .words) (r .counts) o
         unfolding bytesFrom
         ready s =
             let t = ap length (bits-held r (renumbered (netOf n)) h) ∙ sym (size-held r (renumbered (netOf n)) h) in
@@ -123,7 +124,7 @@ module _ (n : Network) (slots : length (n .counts) ≡ 96) (lawful : rules n ≡
             }
 
         -- the image at the front, the rest as it was
-        pub told-written : (o′ : List ℕ) (p : ℕ) → LaidBits o o′ 0 p (allBits (r .inputs) (r .outputs) (r .divisors) (r .words) (r .counts)) → Told (refusedBy n o) n o o′ (wrote.Bytes (bytesFor (20 + bits)))
+        pub told-written : (o′ : List ℕ) (p : ℕ) → LaidBits o o′ 0 p (allBits (r .inputs) (r .outputs) (r .divisors) (r .words) (r .counts)) → Told (refusedBy n o) n o o′ (wrote.Bytes (bytesFor (headWidth + bits)))
         unfolding refusedBy bytesFrom imageOf netBytes
         told-written o′ p k =
             let w : o′ ≡ imageOf (netOf n) ++ drop (length (imageOf (netOf n))) o =

@@ -1,13 +1,16 @@
 -- Words for the contracts of the private functions: bits written so far, room for more, bits laid after them.
-use Prim.Native.Nat.{ℕ, _+_, _-_, _*_, _<_, _≤_}
+use Prim.Native.Nat.{ℕ, _+_, _-_, _*_, _^_, _<_, _≤_}
 use mathlib.Core.Path.{_≡_}
 use mathlib.Core.Bool.{Bool}
 use mathlib.Core.List.{List, _++_, map}
 use lib.ListN.{length, take, drop}
 use Rattle.image_fields.specs.Fields.{bytesFor, bytesOf, fieldBits}
+use Rattle.cube.specs.Cube.{width}
 use Rattle.expression.specs.Words.{cubesOf}
 use Rattle.network_nodes.specs.Nodes.{cut}
-use Rattle.network.specs.Handed.{flat}
+use Rattle.network.specs.Held.{mostCubes}
+use Rattle.network.specs.Handed.{flat, nodeSlots}
+use Rattle.image_laws.specs.Widths.{edition1}
 use Rattle.image_laws.specs.Image.{nodeFields, headFields}
 
 -- the bytes of the bits at the front of the old bytes
@@ -21,7 +24,7 @@ pub record RoomFor (o : List ℕ) (at w : ℕ) : Type 0 where
   pub number : length bits ≡ at
   pub bytes : o ≡ overlaid bits old
   pub room : at + w ≤ 8 * length o
-  pub short : at + w < 4294967296
+  pub short : at + w < 2 ^ 32
 
 -- the bits bs stand from bit `at` on after whatever was written, up to bit r
 pub record LaidBits (o o′ : List ℕ) (at r : ℕ) (bs : List Bool) : Type 0 where
@@ -39,11 +42,15 @@ bitsFrom a e words counts = fieldBits (flat (map nodeFields (nodesFrom a e words
 abbrev pub allBits : ℕ → ℕ → ℕ → List ℕ → List ℕ → List Bool
 allBits n m k words counts = fieldBits (headFields n m k) ++ (bitsFrom m (m + k) words counts ++ bitsFrom 0 m words counts)
 
+-- the most bits of a node as it is held: each variable both ways in every cube
+abbrev pub mostHeldBits : ℕ
+mostHeldBits = edition1 .cubes + mostCubes * (edition1 .literals + edition1 .literal * (2 * width))
+
 -- there are so many nodes, of no more cubes than a network may have
 pub record Held (words counts : List ℕ) (e : ℕ) : Type 0 where
   pub counted : e ≤ length counts
-  pub nodes : e ≤ 96
-  pub few : length (cubesOf words) ≤ 1088
+  pub nodes : e ≤ nodeSlots
+  pub few : length (cubesOf words) ≤ mostCubes
 
 -- a network of inputs and outputs, and room for its bits
 pub record Writable (n m k : ℕ) (words counts o : List ℕ) : Type 0 where

@@ -7,14 +7,16 @@ use network::Network;
 ghost use mathlib.Core.Path.{_≡_};
 ghost use mathlib.Core.Bool.{cond};
 ghost use mathlib.Core.List.{[], _∷_};
-ghost use Prim.Native.Nat.{_+_, _-_, _^_, _<_, _≤_};
+ghost use Prim.Native.Nat.{_+_, _-_, _*_, _^_, _<_, _≤_};
 ghost use lib.ListN.{length};
 ghost use Rattle.cube.specs.Cube.{lits};
 ghost use Rattle.expression.specs.Words.{cubesOf};
+ghost use Rattle.network.specs.Held.{mostCubes};
+ghost use Rattle.network.specs.Handed.{nodeSlots};
 ghost use Rattle.image_fields.specs.Fields.{bitsOf, fieldBits};
 ghost use Rattle.image_laws.specs.Image.{cubeFields, nodeFields, headFields};
 ghost use Rattle.image_write.specs.Answers.{refusedBy, Told};
-ghost use Rattle.image_write.specs.Parts.{RoomFor, LaidBits, bitsFrom, allBits, Held, Writable};
+ghost use Rattle.image_write.specs.Parts.{RoomFor, LaidBits, bitsFrom, allBits, mostHeldBits, Held, Writable};
 
 pub enum Wrote {
     Bytes(usize),
@@ -65,30 +67,35 @@ fn put_field(o: &mut [u8], at: usize, w: usize, v: u64) -> usize
     p
 }
 
-// Literal count 7, literals 7 each, ascending.
+// A literal count, and the literals, ascending.
 fn put_cube(o: &mut [u8], at: usize, c: Cube) -> usize
     requires { ⌜ RoomFor (now o) at (length (fieldBits (cubeFields (lits c)))) ⌝ }
     ensures { λ r. ⌜ LaidBits (now (o .entry)) (now (o .exit)) at r (fieldBits (cubeFields (lits c))) ⌝ }
 {
-    let mut p = put_field(o, at, 7, cube_sets::count(c) as u64);
+    let mut p = put_field(
+        o,
+        at,
+        image_laws::LITERALS_WIDTH,
+        cube_sets::count(c) as u64,
+    );
     let mut rest = c;
     loop {
         let found = cube_order::first_from(rest, Literal(0));
         let Found::At(l) = found else {
             return p;
         };
-        p = put_field(o, p, 7, l.0 as u64);
+        p = put_field(o, p, image_laws::LITERAL_WIDTH, l.0 as u64);
         rest = cube_sets::without(rest, cube::with(cube::empty(), l));
     }
 }
 
-// Cube count 11, each cube.
+// A cube count, and each cube.
 fn put_node(o: &mut [u8], at: usize, f: &[u64]) -> usize
     requires { ⌜ RoomFor (now o) at (length (fieldBits (nodeFields (cubesOf (now f))))) ⌝ }
     ensures { λ r. ⌜ LaidBits (now (o .entry)) (now (o .exit)) at r (fieldBits (nodeFields (cubesOf (now (f .entry))))) ⌝ }
 {
     let n = expression::number(f);
-    let mut p = put_field(o, at, 11, n as u64);
+    let mut p = put_field(o, at, image_laws::CUBES_WIDTH, n as u64);
     let mut i = 0;
     while i < n {
         p = put_cube(o, p, expression::cube_at(f, i));
@@ -111,15 +118,15 @@ fn put_nodes(o: &mut [u8], at: usize, words: &[u64], counts: &[usize], a: usize,
     p
 }
 
-// Edition 4 bits (1), n-1 5, m-1 5, k 6.
+// The edition, n-1, m-1 and k.
 fn put_head(o: &mut [u8], n: usize, m: usize, k: usize) -> usize
     requires { ⌜ (1 ≤ n) × (1 ≤ m) × RoomFor (now o) 0 (length (fieldBits (headFields n m k))) ⌝ }
     ensures { λ r. ⌜ LaidBits (now (o .entry)) (now (o .exit)) 0 r (fieldBits (headFields n m k)) ⌝ }
 {
-    let p = put_field(o, 0, 4, 1);
-    let q = put_field(o, p, 5, (n - 1) as u64);
-    let r = put_field(o, q, 5, (m - 1) as u64);
-    put_field(o, r, 6, k as u64)
+    let p = put_field(o, 0, image_laws::EDITION_WIDTH, image_laws::EDITION as u64);
+    let q = put_field(o, p, image_laws::INPUTS_WIDTH, (n - 1) as u64);
+    let r = put_field(o, q, image_laws::OUTPUTS_WIDTH, (m - 1) as u64);
+    put_field(o, r, image_laws::DIVISORS_WIDTH, k as u64)
 }
 
 // The head, then each divisor, then each output.
@@ -136,16 +143,18 @@ fn put_all(o: &mut [u8], n: usize, m: usize, k: usize, words: &[u64], counts: &[
 
 // The bits of a node.
 fn node_bits(f: &[u64]) -> usize
-    requires { ⌜ length (cubesOf (now f)) ≤ 1088 ⌝ }
-    ensures { λ r. ⌜ (r ≡ length (fieldBits (nodeFields (cubesOf (now (f .entry)))))) × (r < 1000000) ⌝ }
+    requires { ⌜ length (cubesOf (now f)) ≤ mostCubes ⌝ }
+    ensures { λ r. ⌜ (r ≡ length (fieldBits (nodeFields (cubesOf (now (f .entry)))))) × (r ≤ mostHeldBits) ⌝ }
 {
-    11 + 7 * (expression::number(f) + expression_survey::literals(f) as usize)
+    let cubes = image_laws::LITERALS_WIDTH * expression::number(f);
+    image_laws::CUBES_WIDTH
+        + (cubes + image_laws::LITERAL_WIDTH * (expression_survey::literals(f) as usize))
 }
 
 // The bits of the first e nodes.
 fn nodes_bits(words: &[u64], counts: &[usize], e: usize) -> usize
     requires { ⌜ Held (now words) (now counts) e ⌝ }
-    ensures { λ r. ⌜ (r ≡ length (bitsFrom 0 e (now (words .entry)) (now (counts .entry)))) × (r ≤ 96000000) ⌝ }
+    ensures { λ r. ⌜ (r ≡ length (bitsFrom 0 e (now (words .entry)) (now (counts .entry)))) × (r ≤ nodeSlots * mostHeldBits) ⌝ }
 {
     let mut sum = 0;
     let mut i = 0;
@@ -170,7 +179,7 @@ pub fn write(n: Network, bytes: &mut [u8]) -> Wrote
     let net = r.network;
     let words = net.words;
     let counts = net.counts;
-    let bits = 20 + nodes_bits(&words, &counts, net.outputs + net.divisors);
+    let bits = image_laws::HEAD_WIDTH + nodes_bits(&words, &counts, net.outputs + net.divisors);
     let length = (bits + 7) / 8;
     if length > bytes.len() {
         return Wrote::Refused(9);

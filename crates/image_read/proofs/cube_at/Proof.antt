@@ -6,6 +6,7 @@ use native.Mathlib.Omega.{arith}
 use lib.ListN.{drop}
 use borrow.Author.Needs.{needs}
 use Rattle.image_fields.specs.Fields.{bitsIn}
+use Rattle.image_laws.specs.Widths.{edition1}
 use Rattle.image_read.specs.Parts.{FieldIs}
 use Rattle.image_read.specs.declared.Field.{Field}
 use Rattle.image_read.specs.declared.Field.the-variants.{Is}
@@ -20,8 +21,8 @@ abbrev bits-from : tie.Start → List Bool
 bits-from s = drop (s .args .at) (bitsIn (s .args .bytes .now))
 
 -- the field that was read
-read : (k : tie.After-known-told) → FieldIs 7 (bits-from (start k)) (Is (k .before .f .given .0 .0))
-read k = subst (λ (x : Field). FieldIs 7 (bits-from (start k)) x) (k .before .f .given .1) (k .before .before .before .field-at .ensures)
+read : (k : tie.After-known-told) → FieldIs (edition1 .literals) (bits-from (start k)) (Is (k .before .f .given .0 .0))
+read k = subst (λ (x : Field). FieldIs (edition1 .literals) (bits-from (start k)) x) (k .before .f .given .1) (k .before .before .before .field-at .ensures)
 
 field-at-requires : tie.Need-field-at-requires
 field-at-requires c κs = let s = c .before in (omega (arith, s .pre .0), omega arith, omega arith)
@@ -36,7 +37,7 @@ returns : tie.Need-returns
 returns c =
     let a = c .before .before in
     let s = a .before .before in
-    cube-cut (bitsIn (s .args .bytes .now)) (s .args .v) (s .args .at) (subst (λ (x : Field). FieldIs 7 (bits-from s) x) (c .enum-told .given .1) (a .field-at .ensures))
+    cube-cut (bitsIn (s .args .bytes .now)) (s .args .v) (s .args .at) (subst (λ (x : Field). FieldIs (edition1 .literals) (bits-from s) x) (c .enum-told .given .1) (a .field-at .ensures))
 
 returns-2 : tie.Need-returns-2
 returns-2 c =

@@ -5,6 +5,7 @@ use native.Mathlib.Omega.{arith}
 use lib.ListN.{length, drop}
 use borrow.Author.Needs.{needs}
 use Rattle.image_fields.specs.Fields.{bitsIn}
+use Rattle.image_laws.specs.Widths.{mostCubeBits}
 use Rattle.image_laws.specs.Reading.{getCube}
 use Rattle.image_read.specs.Parts.{CubeIs}
 use Rattle.image_read.specs.declared.Turn.{Turn}
@@ -31,7 +32,7 @@ Read a x =
     let l = a .before .before in
     let s = l .before .before .before in
     let bits = bitsIn (s .args .bytes .now) in
-    CubeIs 512 bits (l .loop .s .at) (getCube (s .args .v) (drop (l .loop .s .at) bits)) x
+    CubeIs mostCubeBits bits (l .loop .s .at) (getCube (s .args .v) (drop (l .loop .s .at) bits)) x
 
 read : (a : tie.After-cube-at Inv-loop μ-loop) (x : Turn) → a .cube-at .result ≡ x → Read a x
 read a x e = subst (Read a) e (a .cube-at .ensures)

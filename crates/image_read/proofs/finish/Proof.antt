@@ -3,6 +3,7 @@ use mathlib.Core.Path.{_≡_}
 use native.Mathlib.Omega.{arith}
 use lib.ListN.{length}
 use borrow.Author.Needs.{needs}
+use Rattle.network.specs.Handed.{nodeSlots}
 use Rattle.image_read.proofs.Telling.{whole-judging, whole-refused, whole-few, whole-told}
 use Rattle.image_read.proofs.finish.Statement.{statement}
 use Rattle.image_read.proofs.finish.Tie as tie
@@ -23,7 +24,7 @@ slice-aggregate-judge-2 c = search needs
 judge-requires : tie.Need-judge-requires
 judge-requires c κs =
     let s = c .before .before .before .before .before in
-    let n : length (s .args .t7) ≡ 96 = search needs in
+    let n : length (s .args .t7) ≡ nodeSlots = search needs in
     whole-judging (s .pre) n
 
 enum-known-a : tie.Need-enum-known-a

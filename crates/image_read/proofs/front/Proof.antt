@@ -3,11 +3,11 @@ use mathlib.Core.Bool.{Bool}
 use mathlib.Core.List.{List}
 use native.Mathlib.Omega.{arith}
 use lib.ListN.{drop}
-use borrow.Author.Needs.{needs}
 use Rattle.image_fields.specs.Fields.{bitsIn}
+use Rattle.image_laws.specs.Widths.{editionWidth, edition1}
 use Rattle.image_read.specs.Parts.{FieldIs}
 use Rattle.image_read.specs.declared.Field.the-variants.{Is}
-use Rattle.image_read.proofs.Heading.{field-below, field-is, field-short, edition-cut, edition-bad, front-cut, sizes-are}
+use Rattle.image_read.proofs.Heading.{inputsAt, outputsAt, divisorsAt, field-below, field-is, field-short, edition-cut, edition-bad, front-cut, sizes-are}
 use Rattle.image_read.proofs.front.Statement.{statement}
 use Rattle.image_read.proofs.front.Tie as tie
 
@@ -18,23 +18,23 @@ abbrev bits : tie.Start → List Bool
 bits s = bitsIn (s .args .bytes .now)
 
 -- the fields that were read
-edition : (v : tie.After-value-at) → FieldIs 4 (bits (start v)) (Is (v .value-at .result))
-edition v = field-is (start v .args .bytes .now) 0 4 _ (omega (arith, v .before .if1 .left)) (v .value-at .ensures)
+edition : (v : tie.After-value-at) → FieldIs editionWidth (bits (start v)) (Is (v .value-at .result))
+edition v = field-is (start v .args .bytes .now) 0 editionWidth _ (omega (arith, v .before .if1 .left)) (v .value-at .ensures)
 
 abbrev first : tie.After-value-at2 → tie.After-value-at
 first v = v .before .before .before
 
-inputs : (v : tie.After-value-at2) → FieldIs 5 (drop 4 (bits (start (first v)))) (Is (v .value-at2 .result))
-inputs v = field-is (start (first v) .args .bytes .now) 4 5 _ (omega (arith, v .before .if3 .left)) (v .value-at2 .ensures)
+inputs : (v : tie.After-value-at2) → FieldIs (edition1 .inputs) (drop inputsAt (bits (start (first v)))) (Is (v .value-at2 .result))
+inputs v = field-is (start (first v) .args .bytes .now) inputsAt (edition1 .inputs) _ (omega (arith, v .before .if3 .left)) (v .value-at2 .ensures)
 
-outputs : (v : tie.After-value-at3) → FieldIs 5 (drop 9 (bits (start (first (v .before))))) (Is (v .value-at3 .result))
-outputs v = field-is (start (first (v .before)) .args .bytes .now) 9 5 _ (omega (arith, v .before .before .if3 .left)) (v .value-at3 .ensures)
+outputs : (v : tie.After-value-at3) → FieldIs (edition1 .outputs) (drop outputsAt (bits (start (first (v .before))))) (Is (v .value-at3 .result))
+outputs v = field-is (start (first (v .before)) .args .bytes .now) outputsAt (edition1 .outputs) _ (omega (arith, v .before .before .if3 .left)) (v .value-at3 .ensures)
 
-divisors : (v : tie.After-value-at4) → FieldIs 6 (drop 14 (bits (start (first (v .before .before))))) (Is (v .value-at4 .result))
-divisors v = field-is (start (first (v .before .before)) .args .bytes .now) 14 6 _ (omega (arith, v .before .before .before .if3 .left)) (v .value-at4 .ensures)
+divisors : (v : tie.After-value-at4) → FieldIs (edition1 .divisors) (drop divisorsAt (bits (start (first (v .before .before))))) (Is (v .value-at4 .result))
+divisors v = field-is (start (first (v .before .before)) .args .bytes .now) divisorsAt (edition1 .divisors) _ (omega (arith, v .before .before .before .if3 .left)) (v .value-at4 .ensures)
 
 returns : tie.Need-returns
-returns c = let s = c .before .before in edition-cut (bits s) (field-short (s .args .bytes .now) 0 4 0 (omega (arith, c .if1 .taken)) (omega arith))
+returns c = let s = c .before .before in edition-cut (bits s) (field-short (s .args .bytes .now) 0 editionWidth 0 (omega (arith, c .if1 .taken)) (omega arith))
 
 value-at-requires : tie.Need-value-at-requires
 value-at-requires c κs = (omega (arith, c .if1 .left), omega arith, omega arith)
@@ -60,8 +60,11 @@ sizes-of-requires : tie.Need-sizes-of-requires
 sizes-of-requires c κs =
     let b = c .before in
     let a = b .before in
-    let l = bits (start (first a)) in
-    (field-below 5 _ (drop 4 l) (inputs a), field-below 5 _ (drop 9 l) (outputs b), field-below 6 _ (drop 14 l) (divisors c))
+    let l = bits (start (first a)) in (
+      field-below (edition1 .inputs) _ (drop inputsAt l) (inputs a),
+      field-below (edition1 .outputs) _ (drop outputsAt l) (outputs b),
+      field-below (edition1 .divisors) _ (drop divisorsAt l) (divisors c),
+    )
 
 returns-4 : tie.Need-returns-4
 returns-4 c =

@@ -59,7 +59,7 @@ same : (s : tie.Start) → ordered s (lentDivisors s) (lentOutputs s) ≡ sorted
 same s = ap₂ (ordered s) (front s) (back s)
 
 is-padded-requires : tie.Need-is-padded-requires
-is-padded-requires c κs = c .before .before .before .before .pre .at
+is-padded-requires c κs = omega (arith, c .before .before .before .before .pre .at)
 
 returns : tie.Need-returns
 returns c =

@@ -1,5 +1,5 @@
 -- `image_read::literals` meets its contract. The loop's invariant: the literals read so far and those to come are those of the definition. Assumes nothing.
-use Prim.Native.Nat.{ℕ, _+_, _-_, _*_, _≤_, _<_}
+use Prim.Native.Nat.{ℕ, _+_, _-_, _*_, _^_, _≤_, _<_}
 use mathlib.Core.Path.{_≡_, refl, sym, ap, subst, _∙_}
 use mathlib.Core.Bool.{Bool, _&&_}
 use mathlib.Core.List.{List}
@@ -9,6 +9,7 @@ use borrow.Author.Needs.{needs}
 use borrow.Author.Tests.{not-true, not-false}
 use Rattle.cube.specs.Cube.{lits}
 use Rattle.image_fields.specs.Fields.{bitsIn}
+use Rattle.image_laws.specs.Widths.{edition1}
 use Rattle.image_read.specs.Parts.{FieldIs}
 use Rattle.image_read.specs.declared.Field.{Field}
 use Rattle.image_read.specs.declared.Field.the-variants.{Is}
@@ -19,7 +20,7 @@ use Rattle.image_read.proofs.literals.Tie as tie
 
 abbrev Inv-loop : tie.InvT-loop
 Inv-loop bytes start v k seen₀ ascending₀ at₀ i₀ seen ascending at i =
-    (i ≤ k) × (at ≡ start + 7 * i) × Gathering (bitsIn bytes) v k start at i (lits seen) ascending
+    (i ≤ k) × (at ≡ start + edition1 .literal * i) × Gathering (bitsIn bytes) v k start at i (lits seen) ascending
 
 abbrev μ-loop : tie.MeasureT-loop
 μ-loop bytes start v k seen₀ ascending₀ at₀ i₀ seen ascending at i = k - i
@@ -34,11 +35,11 @@ bits-from l = drop (l .loop .at) (bitsIn (l .before .before .before .args .bytes
 abbrev value : tie.After-known-told Inv-loop μ-loop → ℕ
 value k = k .before .f .given .0 .0
 
-read : (k : tie.After-known-told Inv-loop μ-loop) → FieldIs 7 (bits-from (head k)) (Is (value k))
-read k = subst (λ (x : Field). FieldIs 7 (bits-from (head k)) x) (k .before .f .given .1) (k .before .before .before .field-at .ensures)
+read : (k : tie.After-known-told Inv-loop μ-loop) → FieldIs (edition1 .literal) (bits-from (head k)) (Is (value k))
+read k = subst (λ (x : Field). FieldIs (edition1 .literal) (bits-from (head k)) x) (k .before .f .given .1) (k .before .before .before .field-at .ensures)
 
-value-of : (k : tie.After-known-told Inv-loop μ-loop) → value k < 128
-value-of k = field-below 7 (value k) (bits-from (head k)) (read k)
+value-of : (k : tie.After-known-told Inv-loop μ-loop) → value k < 2 ^ (edition1 .literal)
+value-of k = field-below (edition1 .literal) (value k) (bits-from (head k)) (read k)
 
 empty-requires : tie.Need-empty-requires Inv-loop μ-loop
 empty-requires c κs = search needs
@@ -60,7 +61,7 @@ returns : tie.Need-returns Inv-loop μ-loop
 returns c =
     let a = c .before .before in
     let l = a .before .before in
-    gather-cut (l .loop .inv .2) (a .before .loop-test .taken) (subst (λ (x : Field). FieldIs 7 (bits-from l) x) (c .enum-told .given .1) (a .field-at .ensures))
+    gather-cut (l .loop .inv .2) (a .before .loop-test .taken) (subst (λ (x : Field). FieldIs (edition1 .literal) (bits-from l) x) (c .enum-told .given .1) (a .field-at .ensures))
 
 cast-t13 : tie.Need-cast-t13 Inv-loop μ-loop
 cast-t13 c = omega (arith, value-of c)

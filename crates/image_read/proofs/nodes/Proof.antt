@@ -5,6 +5,7 @@ use native.Mathlib.Omega.{arith}
 use lib.ListN.{length, drop, length-set}
 use borrow.Author.Needs.{needs}
 use Rattle.image_fields.specs.Fields.{bitsIn}
+use Rattle.image_laws.specs.Widths.{mostNodeBits}
 use Rattle.image_laws.specs.Reading.{getMany, getNode}
 use Rattle.image_read.specs.Parts.{CubesAre, NodesAre}
 use Rattle.image_read.specs.declared.Step.{Step}
@@ -31,7 +32,7 @@ Read a x =
     let l = a .before .before .before in
     let s = l .before .before .before .before in
     let bits = bitsIn (s .args .bytes .now) in
-    CubesAre 1048576 bits (l .loop .s) (getNode (s .args .v) (drop (l .loop .s .at) bits)) (l .loop .words) (a .node .last .1 .1 .1 .0) x
+    CubesAre mostNodeBits bits (l .loop .s) (getNode (s .args .v) (drop (l .loop .s .at) bits)) (l .loop .words) (a .node .last .1 .1 .1 .0) x
 
 read : (a : tie.After-node Inv-loop μ-loop) (x : Step) → a .node .result ≡ x → Read a x
 read a x e = subst (Read a) e (a .node .ensures)

@@ -5,6 +5,7 @@ use native.Mathlib.Omega.{arith}
 use lib.ListN.{length, drop}
 use borrow.Author.Needs.{needs}
 use Rattle.image_fields.specs.Fields.{bitsIn}
+use Rattle.network.specs.Handed.{nodeSlots}
 use Rattle.image_laws.specs.Reading.{getMany, getNode}
 use Rattle.image_read.specs.Parts.{NodesAre, blankWords, second}
 use Rattle.image_read.specs.declared.Step.{Step}
@@ -38,7 +39,7 @@ nodes-requires : tie.Need-nodes-requires
 nodes-requires c κs =
     let s = c .before .before .before .before .before in
     let n = s .pre .divisors .near in
-    let m : length (s .args .given) ≡ 96 = search needs in (
+    let m : length (s .args .given) ≡ nodeSlots = search needs in (
       record { at = omega (arith, n .at); cubes = omega arith; literals = omega (arith, n .literals) },
       s .pre .sized .variables,
       omega (arith, s .pre .sized .outputs, m),

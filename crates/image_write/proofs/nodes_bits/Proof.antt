@@ -7,13 +7,13 @@ use borrow.Author.Needs.{needs}
 use Rattle.expression.specs.Words.{cubesOf}
 use Rattle.image_fields.specs.Fields.{fieldBits}
 use Rattle.image_laws.specs.Image.{nodeFields}
-use Rattle.image_write.specs.Parts.{bitsFrom}
+use Rattle.image_write.specs.Parts.{bitsFrom, mostHeldBits}
 use Rattle.image_write.proofs.Following.{nodes-next, nodes-none, node-few}
 use Rattle.image_write.proofs.nodes_bits.Statement.{statement}
 use Rattle.image_write.proofs.nodes_bits.Tie as tie
 
 abbrev Inv-loop : tie.InvT-loop
-Inv-loop words counts e sum₀ i₀ sum i = (i ≤ e) × (sum + length (bitsFrom i e words counts) ≡ length (bitsFrom 0 e words counts)) × (sum ≤ 1000000 * i)
+Inv-loop words counts e sum₀ i₀ sum i = (i ≤ e) × (sum + length (bitsFrom i e words counts) ≡ length (bitsFrom 0 e words counts)) × (sum ≤ mostHeldBits * i)
 
 abbrev μ-loop : tie.MeasureT-loop
 μ-loop words counts e sum₀ i₀ sum i = e - i

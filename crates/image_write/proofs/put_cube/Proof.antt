@@ -11,16 +11,17 @@ use Rattle.sets.specs.Sets.{without, firstFrom}
 use Rattle.sets.proofs.Literals.{literals-asc}
 use Rattle.sets.proofs.Scan.{first-inside}
 use Rattle.cube.specs.Cube.{lits, answer, width}
-use Rattle.image_fields.specs.Fields.{bitsOf, fieldBits}
+use Rattle.image_fields.specs.Fields.{fieldBits}
 use Rattle.image_laws.specs.Image.{cubeFields}
+use Rattle.image_laws.proofs.Fielding.{literalsBits, literalBits}
 use Rattle.image_number.proofs.Taking.{first-none, first-some, rest-next}
 use Rattle.image_write.proofs.Laying.{Going, going-all, going-as, going-next, going-trans, going-ready, going-done}
-use Rattle.image_write.proofs.Following.{literalBits, cube-bits, literals-next, literals-none}
+use Rattle.image_write.proofs.Following.{spread, cube-bits, literals-next, literals-none}
 use Rattle.image_write.proofs.put_cube.Statement.{statement}
 use Rattle.image_write.proofs.put_cube.Tie as tie
 
 abbrev Inv-loop : tie.InvT-loop
-Inv-loop o₀ at p₀ rest₀ o p rest = Going o₀ p₀ (literalBits (lits rest₀)) o p (literalBits (lits rest))
+Inv-loop o₀ at p₀ rest₀ o p rest = Going o₀ p₀ (spread (lits rest₀)) o p (spread (lits rest))
 
 abbrev μ-loop : tie.MeasureT-loop
 μ-loop o₀ at p₀ rest₀ o p rest = length (lits rest)
@@ -35,14 +36,14 @@ cast-put-field c = search needs
 abbrev Owed : tie.Start Inv-loop μ-loop → List ℕ → ℕ → List Bool → Type 0
 Owed s o p t = Going (s .args .o .now) (s .args .at) (fieldBits (cubeFields (lits (s .args .c)))) o p t
 
-opened : (c : tie.After-count Inv-loop μ-loop) → let s = c .before .before .before in Owed s (s .args .o .now) (s .args .at) (bitsOf 7 (c .count .result) ++ literalBits (lits (s .args .c)))
+opened : (c : tie.After-count Inv-loop μ-loop) → let s = c .before .before .before in Owed s (s .args .o .now) (s .args .at) (literalsBits (c .count .result) ++ spread (lits (s .args .c)))
 opened c = going-as (going-all _ _ _) (cube-bits _ _ (c .count .ensures))
 
-begun : (c : tie.After-put-field Inv-loop μ-loop) → let s = c .before .before .before .before in Owed s (c .put-field .last .0) (c .put-field .result) (literalBits (lits (s .args .c)))
+begun : (c : tie.After-put-field Inv-loop μ-loop) → let s = c .before .before .before .before in Owed s (c .put-field .last .0) (c .put-field .result) (spread (lits (s .args .c)))
 begun c = going-next (opened (c .before)) (c .put-field .ensures) (c .put-field .kept .0)
 
 put-field-requires : tie.Need-put-field-requires Inv-loop μ-loop
-put-field-requires c κs = (omega arith, going-ready (bitsOf 7 _) _ (opened c) (c .before .before .before .pre))
+put-field-requires c κs = (omega arith, going-ready (literalsBits _) _ (opened c) (c .before .before .before .pre))
 
 loop-holds : tie.Need-loop-holds Inv-loop μ-loop
 loop-holds c = going-all _ _ _
@@ -76,14 +77,14 @@ head-small c = first-inside width _ _ 0 _ (sym (head-told c))
 
 -- its field is due
 ahead : (c : tie.After-found Inv-loop μ-loop) → let h = c .before .before .before in
-    Owed (h .before .before .before .before .before .before .before) (h .loop .o) (h .loop .p) (bitsOf 7 (head c) ++ literalBits (without (lits (h .loop .rest)) (head c ∷ [])))
+    Owed (h .before .before .before .before .before .before .before) (h .loop .o) (h .loop .p) (literalBits (head c) ++ spread (without (lits (h .loop .rest)) (head c ∷ [])))
 ahead c = going-as (going-trans (begun (c .before .before .before .before .before .before)) (c .before .before .before .loop .inv)) (literals-next _ _ _ (first-some _ _ (literals-asc width _ _) (head-told c)))
 
 cast-put-field-2 : tie.Need-cast-put-field-2 Inv-loop μ-loop
 cast-put-field-2 c = search needs
 
 put-field-requires-2 : tie.Need-put-field-requires-2 Inv-loop μ-loop
-put-field-requires-2 c κs = (omega arith, going-ready (bitsOf 7 _) _ (ahead (c .before .before .before)) (c .before .before .before .before .before .before .before .before .before .before .before .before .before .pre))
+put-field-requires-2 c κs = (omega arith, going-ready (literalBits _) _ (ahead (c .before .before .before)) (c .before .before .before .before .before .before .before .before .before .before .before .before .before .pre))
 
 empty-requires : tie.Need-empty-requires Inv-loop μ-loop
 empty-requires c κs = search needs

@@ -5,7 +5,7 @@ use native.Mathlib.Omega.{arith}
 use borrow.Author.Needs.{needs}
 use lib.ListN.{length}
 use Rattle.network.specs.Held.{netOf, rules}
-use Rattle.network.specs.Handed.{Holds}
+use Rattle.network.specs.Handed.{nodeSlots, Holds}
 use Rattle.image_laws.specs.Renumber.{renumbered}
 use Rattle.image_write.proofs.Telling.{by-rules, by-refusal, sizes, held, told-rule, told-long, ready, told-written}
 use Rattle.image_write.proofs.write.Statement.{statement}
@@ -15,10 +15,10 @@ use Rattle.image_write.proofs.write.Tie as tie
 by : (c : tie.After-enum-told) → (rules (c .before .before .before .before .args .n) ≡ true) × Holds (c .before .before .renumber .result .network) (renumbered (netOf (c .before .before .before .before .args .n)))
 by c = by-rules _ _ _ (c .before .before .renumber .ensures) (c .enum-told .given .1)
 
-slots : (c : tie.After-enum-told) → length (c .before .before .before .before .args .n .counts) ≡ 96
+slots : (c : tie.After-enum-told) → length (c .before .before .before .before .args .n .counts) ≡ nodeSlots
 slots c = search needs
 
-places : (c : tie.After-enum-told) → length (c .before .before .renumber .result .network .counts) ≡ 96
+places : (c : tie.After-enum-told) → length (c .before .before .renumber .result .network .counts) ≡ nodeSlots
 places c = search needs
 
 whole : (c : tie.After-enum-told) → length (c .before .before .renumber .result .network .words) ≡ 2176
