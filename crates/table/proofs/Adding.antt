@@ -111,7 +111,7 @@ told-some (some l) k m r e =
     record { line = l; is = refl; cube = ap (λ (x : Entry). x .cube) q; mask = ap (λ (x : Entry). x .marks) q; rows = ap (λ (x : Entry). x .rows) q }
 
 module _ {t : table.State} {s : State} {words marks : List ℕ} (g : Bounded t) (h : Stands t s words marks) (c : List ℕ) where
-  abbrev result : table.Step
+  abbrev result : table.Turn
   result = table.cubeLine (t .wide) (t .tall) c t
 
   pub cube-early : s .inputs ≡ 0 → result ≡ table.refuse 2

@@ -1,12 +1,13 @@
 -- A table that is accepted is a network by the rules, which every operation on networks takes. Assumes nothing.
 use Prim.Native.Nat.{ℕ, _-_, _*_, _/_, _<_, _≤_}
 use mathlib.Core.Path.{_≡_, refl, ap, _∙_, subst}
-use mathlib.Core.Bool.{true, false, _&&_}
+use mathlib.Core.Bool.{true, false}
+use mathlib.Core.Option.{Option, some}
 use mathlib.Core.List.{List, [], _∷_, map, append-nil, List·Memᴰ·not-nil}
 use native.Mathlib.Nat.{mul-le-mul-left}
 use native.Mathlib.Omega.{arith}
-use lib.ListN.{length, getD, replicate, length-append, length-map, length-replicate}
-use Rattle.sets.specs.Lists.{any, total, from}
+use lib.ListN.{length, replicate, length-append, length-map, length-replicate}
+use Rattle.sets.specs.Lists.{total, from}
 use Rattle.sets.specs.Masks.{bit}
 use Rattle.sets.proofs.Lists.{_∈_, total-map, total-times}
 use Rattle.expression.specs.Expression.{literalsOf, ordered, absorbed}
@@ -24,14 +25,18 @@ use Rattle.network.specs.declared.Number.the-variants.{Is}
 use Rattle.network.proofs.Evaluating.{evaluate-past}
 use Rattle.network.proofs.Handing.{used-held, holds-net}
 use Rattle.network.proofs.Holding.{rules-iff}
-use Rattle.table_rows.specs.Lines.{CubeLine, covers}
-use Rattle.table.specs.Table.{State, cubesFor, outputFor, tableNet, orZero, accepted, readText}
+use Rattle.table_rows.specs.Lines.{CubeLine}
+use Rattle.table.specs.Table.{State, cubesFor, outputFor, tableNet, orZero, Outcome, accepted, readText}
+use Rattle.table.specs.Written.{inputsOf, outputsOf, cubeLinesOf, someCovers}
 use Rattle.table.specs.Answers.{Told}
-use Rattle.table.specs.Meaning.{Complete}
+use Rattle.table.specs.Meaning.{Complete, Says}
+use Rattle.table.specs.declared.Answer.the-variants.{Read}
 use Rattle.table.specs.declared.Table.{Table}
 use Rattle.table.proofs.Building.{from-length}
 use Rattle.table.proofs.Marking.{rows-exchange}
 use Rattle.table.proofs.Refusals.{accepted-complete}
+use Rattle.table.proofs.Writing.{read-lines}
+use Rattle.table.proofs.Telling.{told-accepted}
 use Rattle.table.proofs.Outputs.{output-reads, output-literals, outputs-are, outputs-ordered, outputs-rows}
 
 -- ---- sums over the outputs
@@ -135,32 +140,54 @@ module _ (s : State) (n m : ℕ) (c : Complete s n m) where
 
 -- ---- what reading a table hands back
 
-module _ (t : List ℕ) (r : Table) (o : Told (readText t) r) (s : State) (e : readText t ≡ accepted s) where
-  holds : Holds (r .network) (tableNet s)
-  holds = (subst (λ z. Told z r) e o) .1
+module _ (t : List ℕ) (r : Table) (o : Told (readText t) r) (e : r .answer ≡ Read) where
+  state : State
+  state = told-accepted r (readText t) o e .0
+
+  is : readText t ≡ accepted state
+  unfolding state
+  is = told-accepted r (readText t) o e .1
+
+  says : Says t state
+  says = read-lines t state is
+
+  whole : Complete state (inputsOf t) (outputsOf t)
+  whole = let c = accepted-complete t state is .2 in
+      subst (λ (k : ℕ). Complete state k (outputsOf t)) (same (c .wide) (says .wide)) (subst (Complete state _) (same (c .tall) (says .tall)) c)
+    where
+      same : {p : Option ℕ} {i j : ℕ} → p ≡ some i → p ≡ some j → i ≡ j
+      same h k = cc
+
+  holds : Holds (r .network) (tableNet state)
+  holds = (subst (λ (z : Outcome). Told z r) is o) .1
+
+  net : netOf (r .network) ≡ tableNet state
+  net = table-net state (inputsOf t) (outputsOf t) whole (r .network) holds
+
+  -- its network is that of the table
+  pub read-net : (s : State) × (readText t ≡ accepted s) × (netOf (r .network) ≡ tableNet s)
+  read-net = (state, is, net)
+
+  -- as many inputs and outputs as `.i` and `.o` say
+  pub read-sizes : (r .network .inputs ≡ inputsOf t) × (r .network .outputs ≡ outputsOf t)
+  read-sizes = (inputs-number state (inputsOf t) (outputsOf t) whole (r .network) holds, holds .outputs ∙ outputs-number state (inputsOf t) (outputsOf t) whole)
 
   -- it keeps the rules
   pub read-rules : rules (r .network) ≡ true
-  read-rules = let c = accepted-complete t s e in table-rules s (c .0) (c .1) (c .2) (r .network) holds
+  read-rules = table-rules state (inputsOf t) (outputsOf t) whole (r .network) holds
 
-  -- so that it is evaluated on every setting
-  pub read-evaluated : (x : ℕ) → evaluated (r .network) x ≡ Is (evaluate (tableNet s) x)
-  unfolding evaluated
-  read-evaluated x = let c = accepted-complete t s e in rw read-rules (ap (λ (k : Net). Is (evaluate k x)) (table-net s (c .0) (c .1) (c .2) (r .network) holds))
-
-  -- the answer has output j at bit j: on exactly when some row of output j, as written, covers the setting; other bits are zero
+  -- the answer has output j at bit j: on exactly when some cube line of the text with a `1` for output j covers the setting; other bits are zero
   pub read-outputs : (x : ℕ) → (y : ℕ) × (evaluated (r .network) x ≡ Is y)
-      × ((j : ℕ) → j < r .network .outputs → bit y j ≡ any (λ (l : CubeLine). getD (l .marks) j false && covers (bit x) 0 (l .places)) (s .lines))
-      × ((j : ℕ) → r .network .outputs ≤ j → bit y j ≡ false)
-  read-outputs x =
-      let c = accepted-complete t s e in
-      let k : r .network .outputs ≡ c .1 = holds .outputs ∙ outputs-number s (c .0) (c .1) (c .2) in (
-        evaluate (tableNet s) x,
-        read-evaluated x,
-        λ j h. outputs-rows s (c .0) (c .1) (c .2) x j (omega arith),
-        λ j h. evaluate-past (tableNet s) x j (omega (arith, holds .outputs)),
-      )
+      × ((j : ℕ) → j < outputsOf t → bit y j ≡ someCovers (cubeLinesOf t) x j)
+      × ((j : ℕ) → outputsOf t ≤ j → bit y j ≡ false)
+  unfolding evaluated
+  read-outputs x = (
+    evaluate (tableNet state) x,
+    rw read-rules (ap (λ (k : Net). Is (evaluate k x)) net),
+    λ j h. outputs-rows state (inputsOf t) (outputsOf t) whole x j h ∙ ap (λ (l : List CubeLine). someCovers l x j) (says .lines),
+    λ j h. evaluate-past (tableNet state) x j (omega (arith, outputs-number state (inputsOf t) (outputsOf t) whole)),
+  )
 
   -- its cubes stand in cube order
   pub read-ordered : (f : List (List ℕ)) → f ∈ nodes (netOf (r .network)) → ordered f ≡ true
-  read-ordered f i = let c = accepted-complete t s e in outputs-ordered s f (in-outputs s (c .0) (c .1) (c .2) (r .network) holds f i) .1
+  read-ordered f i = outputs-ordered state f (in-outputs state (inputsOf t) (outputsOf t) whole (r .network) holds f i) .1

@@ -1,9 +1,10 @@
 pub mod Placing
 pub mod Picking
 pub mod Building
-pub mod Turns
 pub mod Reasons
+pub mod Going
 pub mod Refusals
+pub mod Writing
 pub mod Standing
 pub mod Adding
 pub mod Marking

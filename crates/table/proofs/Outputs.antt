@@ -22,7 +22,9 @@ use Rattle.network.proofs.Evaluating.{evaluate-bit}
 use Rattle.table_rows.specs.Lines.{CubeLine, cubeFrom, cubeOf, covers}
 use Rattle.table_rows.proofs.Covering.{covers-value, from-bounds, from-asc, from-proper}
 use Rattle.table.specs.Table.{State, cubesFor, outputFor, tableNet, orZero}
-use Rattle.table.specs.Meaning.{Shaped, Complete}
+use Rattle.table_rows.specs.Meaning.{Shaped}
+use Rattle.table.specs.Written.{someCovers}
+use Rattle.table.specs.Meaning.{Complete}
 
 -- ---- the cubes of an output
 
@@ -114,7 +116,7 @@ settled s a = refl
 
 -- output j is on exactly when some row of output j, as written, covers the setting
 pub outputs-rows : (s : State) (n m : ℕ) → Complete s n m → (x j : ℕ) → j < m
-    → bit (evaluate (tableNet s) x) j ≡ any (λ (l : CubeLine). getD (l .marks) j false && covers (bit x) 0 (l .places)) (s .lines)
+    → bit (evaluate (tableNet s) x) j ≡ someCovers (s .lines) x j
 outputs-rows s n m c x j h =
     evaluate-bit (tableNet s) x j
     ∙ ap₂ (λ (a : ℕ → Bool) (f : List (List ℕ)). value (lit a) f) (settled s (bit x)) (net-output s j (subst (λ (o : ℕ). j < o) (sym (ap orZero (c .tall))) h))

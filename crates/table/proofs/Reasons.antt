@@ -1,14 +1,14 @@
--- When a line ends the table, and by which number it is refused, in the paper's words. Assumes nothing.
-use Prim.Native.Nat.{ℕ, _+_, _<_}
+-- What a line does, in the paper's words: when it goes on and to what, when it ends the table, and by which number it is refused. Assumes nothing.
+use Prim.Native.Nat.{ℕ, _+_, _<_, _≤_}
 use mathlib.Core.Path.{_≡_, refl, sym, ap, ap₂, _∙_, subst}
 use mathlib.Core.Logic.{_⊎_, inl, inr, _↔_}
 use mathlib.Core.Bool.{Bool, true, false, cond, _&&_, and-false}
-use mathlib.Core.List.{List}
+use mathlib.Core.List.{List, [], _∷_}
 use mathlib.Core.Option.{Option, none, some}
 use native.Mathlib.Omega.{arith}
 use lib.Dec.{leb}
 use lib.ListN.{length}
-use borrow.Author.Tests.{leb-false, le-leb, lt-leb, eqb-false, ne-eqb}
+use borrow.Author.Tests.{leb-true, leb-false, le-leb, lt-leb, eqb-false, ne-eqb}
 use Rattle.sets.specs.Lists.{total, isNil}
 use Rattle.sets.specs.Sets.{mem}
 use Rattle.sets.proofs.Truth.{both, clash}
@@ -18,14 +18,20 @@ use Rattle.table_kinds.specs.Kinds.{kindOf}
 use Rattle.table_rows.specs.Lines.{CubeLine, cubeLineOf, rowsIn}
 use Rattle.table_kinds.specs.declared.Kind.{Kind}
 use Rattle.table_kinds.specs.declared.Kind.the-variants.{Empty, Inputs, Outputs, Products, End, Other}
-use Rattle.table.specs.Table.{State, Step, next, done, refuse, inTime, missing, rightCount, withLine, numberLine, setWide, setTall, setStated, finish, addLine, cubeLine, byKind, readLine, mostProducts, mostRows}
-use Rattle.table.specs.Meaning.{isLine, Late, Early, Closes, Refuses, lateInputs, lateOutputs, lateProducts, earlyEnd, earlyCube, noKind, outInputs, outOutputs, outProducts, differs, over}
+use Rattle.table.specs.Table.{State, Turn, next, done, refuse, inTime, missing, rightCount, numberLine, setWide, setTall, setStated}
+use Rattle.table.specs.Table.{withLine, finish, addLine, cubeLine, byKind, readLine, mostProducts, mostRows}
+use Rattle.table.specs.Meaning.{Timely, Goes, blank, inputs, outputs, products, cube, Late, Early, Closes, isLine, Does, goes, closes, refuses}
+use Rattle.table.specs.Meaning.{Refuses, lateInputs, lateOutputs, lateProducts, earlyEnd, earlyCube, noKind, outInputs, outOutputs, outProducts, differs, over}
 
 -- ---- in time or late, in range or out of it
 
-late-out : (a b : Bool) → (a && b) ≡ false → (a ≡ false) ⊎ (b ≡ false)
-late-out false b h = inl refl
-late-out true b h = inr h
+pub is-none : (o : Option ℕ) → missing o ≡ true → o ≡ none
+is-none none h = refl
+is-none (some n) h = clash h refl
+
+is-nil : (l : List CubeLine) → isNil l ≡ true → l ≡ []
+is-nil [] h = refl
+is-nil (c ∷ l) h = clash h refl
 
 late-in : (a b : Bool) → (a ≡ false) ⊎ (b ≡ false) → (a && b) ≡ false
 late-in a b (inl h) = rw h
@@ -43,98 +49,71 @@ range-in : (most n : ℕ) → (n ≡ 0) ⊎ (most < n) → upTo most n ≡ false
 range-in most n (inl e) = rw e
 range-in most n (inr h) = rw (le-leb 1 n (omega arith), lt-leb n most h)
 
--- ---- the step of each kind of line
-
--- a number: 2 where it is late, 3 where it is out of range
-set-out : (a b : Bool) (t : State) (r : ℕ) → numberLine a b t ≡ refuse r → ((a ≡ false) × (r ≡ 2)) ⊎ ((a ≡ true) × (b ≡ false) × (r ≡ 3))
-set-out true true t r e = let z : _≡_ {A = ℕ} 0 1 = cc in absurd (omega arith)
-set-out true false t r e = let z : 3 ≡ r = cc in inr (refl, refl, sym z)
-set-out false b t r e = let z : 2 ≡ r = cc in inl (refl, sym z)
-
-set-going : (a b : Bool) (t u : State) → numberLine a b t ≡ done u → ⊥
-set-going true true t u e = let z : _≡_ {A = ℕ} 0 1 = cc in omega arith
-set-going true false t u e = let z : _≡_ {A = ℕ} 0 1 = cc in omega arith
-set-going false b t u e = let z : _≡_ {A = ℕ} 0 1 = cc in omega arith
+within-out : (most n : ℕ) → upTo most n ≡ true → (1 ≤ n) × (n ≤ most)
+within-out most n h = let k = both (leb 1 n) (leb n most) h in (leb-true 1 n (k .0), leb-true n most (k .1))
 
 differ-out : (o : Option ℕ) (l : List CubeLine) → rightCount o l ≡ false → (p : ℕ) × (o ≡ some p) × (p ≡ length l → ⊥)
 differ-out none l h = clash refl h
 differ-out (some p) l h = (p, refl, eqb-false p (length l) h)
 
+-- ---- what each kind of line does
+
 module _ (s : State) (c : List ℕ) where
-  finish-out : kindOf c ≡ End → (r : ℕ) → finish s ≡ refuse r → Refuses s c r
+  -- a number: 2 where it is late, 3 where it is out of range
+  number-does : (o : Option ℕ) (b : Bool) {t : State} → (Timely o (s .lines) → b ≡ true → Goes s c t) → (Late o (s .lines) → Refuses s c 2)
+      → (Timely o (s .lines) → b ≡ false → Refuses s c 3) → Does s c (numberLine (inTime o (s .lines)) b t)
+  number-does o b {t} f g h = go (missing o) (isNil (s .lines)) b refl refl refl
+    where
+      timely : missing o ≡ true → isNil (s .lines) ≡ true → Timely o (s .lines)
+      timely p q = record { new = is-none o p; first = is-nil (s .lines) q }
+
+      go : (x y z : Bool) → missing o ≡ x → isNil (s .lines) ≡ y → b ≡ z → Does s c (numberLine (x && y) z t)
+      go true true true p q r = goes (f (timely p q) r)
+      go true true false p q r = refuses (h (timely p q) r)
+      go true false z p q r = refuses (g (inr q))
+      go false y z p q r = refuses (g (inl p))
+
+  finish-does : kindOf c ≡ End → Does s c (finish s)
   unfolding finish
-  finish-out k r e = go (missing (s .wide)) (missing (s .tall)) (rightCount (s .stated) (s .lines)) refl refl refl e
+  finish-does k = go (missing (s .wide)) (missing (s .tall)) (rightCount (s .stated) (s .lines)) refl refl refl
     where
-      go : (a b d : Bool) → missing (s .wide) ≡ a → missing (s .tall) ≡ b → rightCount (s .stated) (s .lines) ≡ d → cond a (refuse 2) (cond b (refuse 2) (cond d (done s) (refuse 4))) ≡ refuse r → Refuses s c r
-      go true b d p q x y = let z : 2 ≡ r = cc in subst (Refuses s c) z (earlyEnd k (inl p))
-      go false true d p q x y = let z : 2 ≡ r = cc in subst (Refuses s c) z (earlyEnd k (inr q))
-      go false false true p q x y = let z : _≡_ {A = ℕ} 0 1 = cc in absurd (omega arith)
-      go false false false p q x y = let z : 4 ≡ r = cc in let w = differ-out (s .stated) (s .lines) x in subst (Refuses s c) z (differs (w .0) k p q (w .1) (w .2))
+      go : (a b d : Bool) → missing (s .wide) ≡ a → missing (s .tall) ≡ b → rightCount (s .stated) (s .lines) ≡ d
+          → Does s c (cond a (refuse 2) (cond b (refuse 2) (cond d (done s) (refuse 4))))
+      go true b d p q x = refuses (earlyEnd k (inl p))
+      go false true d p q x = refuses (earlyEnd k (inr q))
+      go false false true p q x = closes (record { kind = k; wide = p; tall = q; stated = x })
+      go false false false p q x = let w = differ-out (s .stated) (s .lines) x in refuses (differs (w .0) k p q (w .1) (w .2))
 
-  finish-done : kindOf c ≡ End → (t : State) → finish s ≡ done t → (t ≡ s) × Closes s c
-  unfolding finish
-  finish-done k t e = go (missing (s .wide)) (missing (s .tall)) (rightCount (s .stated) (s .lines)) refl refl refl e
+  added-does : kindOf c ≡ Other → (n m : ℕ) → s .wide ≡ some n → s .tall ≡ some m → (o : Option CubeLine) → cubeLineOf n m c ≡ o → Does s c (addLine o s)
+  added-does k n m p q none x = refuses (noKind n m k p q x)
+  added-does k n m p q (some l) x = go (leb (total rowsIn (s .lines) + rowsIn l) mostRows) refl
     where
-      go : (a b d : Bool) → missing (s .wide) ≡ a → missing (s .tall) ≡ b → rightCount (s .stated) (s .lines) ≡ d → cond a (refuse 2) (cond b (refuse 2) (cond d (done s) (refuse 4))) ≡ done t → (t ≡ s) × Closes s c
-      go true b d p q x y = let z : _≡_ {A = ℕ} 0 1 = cc in absurd (omega arith)
-      go false true d p q x y = let z : _≡_ {A = ℕ} 0 1 = cc in absurd (omega arith)
-      go false false true p q x y = let z : s ≡ t = cc in (sym z, record { kind = k; wide = p; tall = q; stated = x })
-      go false false false p q x y = let z : _≡_ {A = ℕ} 0 1 = cc in absurd (omega arith)
+      go : (b : Bool) → leb (total rowsIn (s .lines) + rowsIn l) mostRows ≡ b → Does s c (cond b (next (withLine s l)) (refuse 6))
+      go true h = goes (cube n m l k p q x (leb-true (total rowsIn (s .lines) + rowsIn l) mostRows h))
+      go false h = refuses (over n m l k p q x (leb-false (total rowsIn (s .lines) + rowsIn l) mostRows h))
 
-  line-out : kindOf c ≡ Other → (n m : ℕ) → s .wide ≡ some n → s .tall ≡ some m → (o : Option CubeLine) → cubeLineOf n m c ≡ o → (r : ℕ) → addLine o s ≡ refuse r → Refuses s c r
-  line-out k n m p q none x r e = let z : 2 ≡ r = cc in subst (Refuses s c) z (noKind n m k p q x)
-  line-out k n m p q (some l) x r e = go (leb (total rowsIn (s .lines) + rowsIn l) mostRows) refl e
+  cube-does : kindOf c ≡ Other → Does s c (cubeLine (s .wide) (s .tall) c s)
+  cube-does k = go (s .wide) (s .tall) refl refl
     where
-      go : (b : Bool) → leb (total rowsIn (s .lines) + rowsIn l) mostRows ≡ b → cond b (next (withLine s l)) (refuse 6) ≡ refuse r → Refuses s c r
-      go true h y = let z : _≡_ {A = ℕ} 0 1 = cc in absurd (omega arith)
-      go false h y = let z : 6 ≡ r = cc in subst (Refuses s c) z (over n m l k p q x (leb-false (total rowsIn (s .lines) + rowsIn l) mostRows h))
+      go : (w u : Option ℕ) → s .wide ≡ w → s .tall ≡ u → Does s c (cubeLine w u c s)
+      go none u p q = refuses (earlyCube k (inl (ap missing p)))
+      go (some n) none p q = refuses (earlyCube k (inr (ap missing q)))
+      go (some n) (some m) p q = added-does k n m p q (cubeLineOf n m c) refl
 
-  line-going : (o : Option CubeLine) (t : State) → addLine o s ≡ done t → ⊥
-  line-going none t e = let z : _≡_ {A = ℕ} 0 1 = cc in omega arith
-  line-going (some l) t e = go (leb (total rowsIn (s .lines) + rowsIn l) mostRows) e
-    where
-      go : (b : Bool) → cond b (next (withLine s l)) (refuse 6) ≡ done t → ⊥
-      go true y = let z : _≡_ {A = ℕ} 0 1 = cc in omega arith
-      go false y = let z : _≡_ {A = ℕ} 0 1 = cc in omega arith
-
-  cube-out : kindOf c ≡ Other → (r : ℕ) → cubeLine (s .wide) (s .tall) c s ≡ refuse r → Refuses s c r
-  cube-out k r e = go (s .wide) (s .tall) refl refl e
-    where
-      go : (w u : Option ℕ) → s .wide ≡ w → s .tall ≡ u → cubeLine w u c s ≡ refuse r → Refuses s c r
-      go none u p q y = let z : 2 ≡ r = cc in subst (Refuses s c) z (earlyCube k (inl (ap missing p)))
-      go (some n) none p q y = let z : 2 ≡ r = cc in subst (Refuses s c) z (earlyCube k (inr (ap missing q)))
-      go (some n) (some m) p q y = line-out k n m p q (cubeLineOf n m c) refl r y
-
-  cube-going : (t : State) → (w u : Option ℕ) → cubeLine w u c s ≡ done t → ⊥
-  cube-going t none u y = let z : _≡_ {A = ℕ} 0 1 = cc in omega arith
-  cube-going t (some n) none y = let z : _≡_ {A = ℕ} 0 1 = cc in omega arith
-  cube-going t (some n) (some m) y = line-going (cubeLineOf n m c) t y
-
-  late-or : (o : Option ℕ) (b : Bool) (r : ℕ) → ((inTime o (s .lines) ≡ false) × (r ≡ 2)) ⊎ ((inTime o (s .lines) ≡ true) × (b ≡ false) × (r ≡ 3))
-      → (Late o (s .lines) → Refuses s c 2) → (missing o ≡ true → isNil (s .lines) ≡ true → b ≡ false → Refuses s c 3) → Refuses s c r
-  late-or o b r (inl (h, e)) f g = subst (Refuses s c) (sym e) (f (late-out (missing o) (isNil (s .lines)) h))
-  late-or o b r (inr (h, k, e)) f g = let t = both (missing o) (isNil (s .lines)) h in subst (Refuses s c) (sym e) (g (t .0) (t .1) k)
-
-  kind-out : (k : Kind) → kindOf c ≡ k → (r : ℕ) → byKind k c s ≡ refuse r → Refuses s c r
+  kind-does : (k : Kind) → kindOf c ≡ k → Does s c (byKind k c s)
   unfolding setWide setTall setStated
-  kind-out Empty q r e = let z : _≡_ {A = ℕ} 0 1 = cc in absurd (omega arith)
-  kind-out (Inputs n) q r e =
-      late-or (s .wide) (upTo mostInputs n) r (set-out (inTime (s .wide) (s .lines)) (upTo mostInputs n) _ r e) (lateInputs n q) (λ a b h. outInputs n q (record { new = a; first = b; range = range-out mostInputs n h }))
-  kind-out (Outputs n) q r e =
-      late-or (s .tall) (upTo mostOutputs n) r (set-out (inTime (s .tall) (s .lines)) (upTo mostOutputs n) _ r e) (lateOutputs n q) (λ a b h. outOutputs n q (record { new = a; first = b; range = range-out mostOutputs n h }))
-  kind-out (Products n) q r e =
-      late-or (s .stated) (leb n mostProducts) r (set-out (inTime (s .stated) (s .lines)) (leb n mostProducts) _ r e) (lateProducts n q) (λ a b h. outProducts n q a b (leb-false n mostProducts h))
-  kind-out End q r e = finish-out q r e
-  kind-out Other q r e = cube-out q r e
-
-  kind-done : (k : Kind) → kindOf c ≡ k → (t : State) → byKind k c s ≡ done t → (t ≡ s) × Closes s c
-  unfolding setWide setTall setStated
-  kind-done Empty q t e = let z : _≡_ {A = ℕ} 0 1 = cc in absurd (omega arith)
-  kind-done (Inputs n) q t e = absurd (set-going (inTime (s .wide) (s .lines)) (upTo mostInputs n) _ t e)
-  kind-done (Outputs n) q t e = absurd (set-going (inTime (s .tall) (s .lines)) (upTo mostOutputs n) _ t e)
-  kind-done (Products n) q t e = absurd (set-going (inTime (s .stated) (s .lines)) (leb n mostProducts) _ t e)
-  kind-done End q t e = finish-done q t e
-  kind-done Other q t e = absurd (cube-going t (s .wide) (s .tall) e)
+  kind-does Empty q = goes (blank q)
+  kind-does (Inputs n) q =
+      number-does (s .wide) (upTo mostInputs n) (λ t h. let w = within-out mostInputs n h in inputs n q t (w .0) (w .1)) (lateInputs n q)
+      (λ t h. outInputs n q t (range-out mostInputs n h))
+  kind-does (Outputs n) q =
+      number-does (s .tall) (upTo mostOutputs n) (λ t h. let w = within-out mostOutputs n h in outputs n q t (w .0) (w .1)) (lateOutputs n q)
+      (λ t h. outOutputs n q t (range-out mostOutputs n h))
+  kind-does (Products n) q =
+      number-does (s .stated) (leb n mostProducts) (λ t h. products n q t (leb-true n mostProducts h)) (lateProducts n q)
+      (λ t h. outProducts n q t (leb-false n mostProducts h))
+  kind-does End q = finish-does q
+  kind-does Other q = cube-does q
 
   -- ---- and back
 
@@ -159,22 +138,30 @@ module _ (s : State) (c : List ℕ) where
   cube-at : (n m : ℕ) (o : Option CubeLine) → s .wide ≡ some n → s .tall ≡ some m → cubeLineOf n m c ≡ o → cubeLine (s .wide) (s .tall) c s ≡ addLine o s
   cube-at n m o p q e = ap₂ (λ (w u : Option ℕ). cubeLine w u c s) p q ∙ ap (λ (x : Option CubeLine). addLine x s) e
 
-  of-kind : {k : Kind} {x : Step} → kindOf c ≡ k → byKind k c s ≡ x → byKind (kindOf c) c s ≡ x
+  of-kind : {k : Kind} {x : Turn} → kindOf c ≡ k → byKind k c s ≡ x → byKind (kindOf c) c s ≡ x
   of-kind e h = ap (λ (z : Kind). byKind z c s) e ∙ h
 
-  kind-back : {r : ℕ} → Refuses s c r → byKind (kindOf c) c s ≡ refuse r
+  goes-back : {t : State} → Goes s c t → byKind (kindOf c) c s ≡ next t
+  unfolding setWide setTall setStated
+  goes-back (blank k) = of-kind k refl
+  goes-back (inputs n k h a b) = of-kind k (rw (h .new, h .first, le-leb 1 n a, le-leb n mostInputs b))
+  goes-back (outputs n k h a b) = of-kind k (rw (h .new, h .first, le-leb 1 n a, le-leb n mostOutputs b))
+  goes-back (products n k h b) = of-kind k (rw (h .new, h .first, le-leb n mostProducts b))
+  goes-back (cube n m l k p q x h) = of-kind k (cube-at n m (some l) p q x ∙ rw (le-leb (total rowsIn (s .lines) + rowsIn l) mostRows h))
+
+  refuses-back : {r : ℕ} → Refuses s c r → byKind (kindOf c) c s ≡ refuse r
   unfolding setWide setTall setStated finish
-  kind-back (lateInputs n k h) = of-kind k (rw (late-in (missing (s .wide)) (isNil (s .lines)) h))
-  kind-back (lateOutputs n k h) = of-kind k (rw (late-in (missing (s .tall)) (isNil (s .lines)) h))
-  kind-back (lateProducts n k h) = of-kind k (rw (late-in (missing (s .stated)) (isNil (s .lines)) h))
-  kind-back (earlyEnd k h) = of-kind k (early h)
-  kind-back (earlyCube k h) = of-kind k (early-cube h)
-  kind-back (noKind n m k p q x) = of-kind k (cube-at n m none p q x)
-  kind-back (outInputs n k h) = of-kind k (rw (h .new, h .first, range-in mostInputs n (h .range)))
-  kind-back (outOutputs n k h) = of-kind k (rw (h .new, h .first, range-in mostOutputs n (h .range)))
-  kind-back (outProducts n k a b h) = of-kind k (rw (a, b, lt-leb n mostProducts h))
-  kind-back (differs p k a b e f) = of-kind k (rw (a, b, e, ne-eqb p (length (s .lines)) f))
-  kind-back (over n m l k p q x h) = of-kind k (cube-at n m (some l) p q x ∙ rw (lt-leb (total rowsIn (s .lines) + rowsIn l) mostRows h))
+  refuses-back (lateInputs n k h) = of-kind k (rw (late-in (missing (s .wide)) (isNil (s .lines)) h))
+  refuses-back (lateOutputs n k h) = of-kind k (rw (late-in (missing (s .tall)) (isNil (s .lines)) h))
+  refuses-back (lateProducts n k h) = of-kind k (rw (late-in (missing (s .stated)) (isNil (s .lines)) h))
+  refuses-back (earlyEnd k h) = of-kind k (early h)
+  refuses-back (earlyCube k h) = of-kind k (early-cube h)
+  refuses-back (noKind n m k p q x) = of-kind k (cube-at n m none p q x)
+  refuses-back (outInputs n k h r) = of-kind k (rw (h .new, h .first, range-in mostInputs n r))
+  refuses-back (outOutputs n k h r) = of-kind k (rw (h .new, h .first, range-in mostOutputs n r))
+  refuses-back (outProducts n k h r) = of-kind k (rw (h .new, h .first, lt-leb n mostProducts r))
+  refuses-back (differs p k a b e f) = of-kind k (rw (a, b, e, ne-eqb p (length (s .lines)) f))
+  refuses-back (over n m l k p q x h) = of-kind k (cube-at n m (some l) p q x ∙ rw (lt-leb (total rowsIn (s .lines) + rowsIn l) mostRows h))
 
   closes-back : Closes s c → byKind (kindOf c) c s ≡ done s
   unfolding finish
@@ -182,15 +169,34 @@ module _ (s : State) (c : List ℕ) where
 
 -- ---- a line
 
--- it is refused by a number exactly when there is a reason for that number
-pub refuse-iff : (l : List ℕ) (s : State) (r : ℕ) → (readLine l s ≡ refuse r) ↔ Refuses s (content l) r
+pub line-does : (l : List ℕ) (s : State) → Does s (content l) (readLine l s)
 unfolding readLine
-refuse-iff l s r = (kind-out s (content l) (kindOf (content l)) refl r, kind-back s (content l))
+line-does l s = kind-does s (content l) (kindOf (content l)) refl
+
+module _ {s : State} {c : List ℕ} where
+  does-next : {t : State} → Does s c (next t) → Goes s c t
+  does-next (goes g) = g
+
+  does-done : {t : State} → Does s c (done t) → (t ≡ s) × Closes s c
+  does-done (closes h) = (refl, h)
+
+  does-refuse : {r : ℕ} → Does s c (refuse r) → Refuses s c r
+  does-refuse (refuses h) = h
+
+-- it goes on exactly when it is empty, a number in time and in range, or a cube line of few enough rows, and to what these leave
+pub next-iff : (l : List ℕ) (s t : State) → (readLine l s ≡ next t) ↔ Goes s (content l) t
+unfolding readLine
+next-iff l s t = (λ e. does-next (subst (Does s (content l)) e (line-does l s)), goes-back s (content l))
 
 -- it ends the table exactly when it is `.e` and nothing is missing or differs
 pub done-iff : (l : List ℕ) (s t : State) → (readLine l s ≡ done t) ↔ ((t ≡ s) × Closes s (content l))
 unfolding readLine
-done-iff l s t = (kind-done s (content l) (kindOf (content l)) refl t, λ h. closes-back s (content l) (h .1) ∙ ap done (sym (h .0)))
+done-iff l s t = (λ e. does-done (subst (Does s (content l)) e (line-does l s)), λ h. closes-back s (content l) (h .1) ∙ ap done (sym (h .0)))
+
+-- it is refused by a number exactly when there is a reason for that number
+pub refuse-iff : (l : List ℕ) (s : State) (r : ℕ) → (readLine l s ≡ refuse r) ↔ Refuses s (content l) r
+unfolding readLine
+refuse-iff l s r = (λ e. does-refuse (subst (Does s (content l)) e (line-does l s)), refuses-back s (content l))
 
 -- the numbers are 2, 3, 4 and 6
 pub refuses-line : {s : State} {c : List ℕ} {r : ℕ} → Refuses s c r → isLine r ≡ true
@@ -201,8 +207,8 @@ refuses-line (lateProducts n k h) = refl
 refuses-line (earlyEnd k h) = refl
 refuses-line (earlyCube k h) = refl
 refuses-line (noKind n m k p q x) = refl
-refuses-line (outInputs n k h) = refl
-refuses-line (outOutputs n k h) = refl
-refuses-line (outProducts n k a b h) = refl
+refuses-line (outInputs n k h r) = refl
+refuses-line (outOutputs n k h r) = refl
+refuses-line (outProducts n k h r) = refl
 refuses-line (differs p k a b e f) = refl
 refuses-line (over n m l k p q x h) = refl

@@ -3,7 +3,7 @@ use Prim.Native.Nat.{ℕ, suc, _+_, _<_, _≤_}
 use mathlib.Core.Path.{_≡_, refl, sym, ap, _∙_, subst}
 use mathlib.Core.Logic.{_⊎_, inl, inr, ⊎-elim, _↔_}
 use mathlib.Core.Bool.{Bool, true, false}
-use mathlib.Core.List.{List, [], _∷_, _++_, append-nil, List·Memᴰ·not-nil}
+use mathlib.Core.List.{List, [], _∷_, _++_, append-nil}
 use mathlib.Core.Option.{Option, none, some}
 use native.Mathlib.Omega.{arith}
 use lib.Dec.{leb, ltb}
@@ -13,10 +13,13 @@ use Rattle.sets.specs.Sets.{mem}
 use Rattle.sets.proofs.Truth.{both, clash}
 use Rattle.network.specs.Held.{mostInputs, mostOutputs}
 use Rattle.table_lines.specs.Text.{linesOf, content}
-use Rattle.table.specs.Table.{State, start, Step, next, done, refuse, missing, readLine, Outcome, accepted, refused, readLines, readText, orZero, mostBytes}
-use Rattle.table.specs.Meaning.{Shaped, within, Bounded, SoundStep, isLine, Complete, Read, nothing, line, Closes, Ended, whole, stopped, short}
-use Rattle.table.proofs.Turns.{line-turn}
-use Rattle.table.proofs.Reasons.{done-iff, refuse-iff, refuses-line}
+use Rattle.table.specs.Table.{State, start, Turn, next, done, refuse, missing, readLine, Outcome, accepted, refusedAt}
+use Rattle.table.specs.Table.{readLines, readText, orZero, mostBytes}
+use Rattle.table.specs.Meaning.{within, Bounded, isLine, Complete, Goes, Closes, Does, goes, closes, refuses}
+use Rattle.table.specs.Meaning.{Read, nothing, line, Ended, whole, stopped, short}
+use Rattle.table.specs.declared.Refusal.{Refusal}
+use Rattle.table.proofs.Going.{start-bounded, read-bounded}
+use Rattle.table.proofs.Reasons.{line-does, next-iff, done-iff, refuse-iff, refuses-line}
 
 none-one : isLine 1 ≡ false
 unfolding mem
@@ -33,56 +36,49 @@ module _ (k : ℕ) (l : List ℕ) (ls : List (List ℕ)) (s : State) where
   unfolding readLines
   lines-done e = rw (e, readLines)
 
-  pub lines-refuse : {r : ℕ} → readLine l s ≡ refuse r → readLines k (l ∷ ls) s ≡ refused r k
+  pub lines-refuse : {r : ℕ} → readLine l s ≡ refuse r → readLines k (l ∷ ls) s ≡ refusedAt r k
   unfolding readLines
   lines-refuse e = rw (e, readLines)
 
-pub lines-end : (k : ℕ) (s : State) → readLines k [] s ≡ refused 5 0
+pub lines-end : (k : ℕ) (s : State) → readLines k [] s ≡ refusedAt 5 0
 unfolding readLines
 lines-end k s = refl
 
 pub lines-ended : (k : ℕ) (ls : List (List ℕ)) (s : State) → Ended k s ls (readLines k ls s)
 lines-ended k [] s = subst (Ended k s []) (sym (lines-end k s)) (short [] nothing)
-lines-ended k (l ∷ ls) s = go (readLine l s) refl (λ t. lines-ended (suc k) ls t)
+lines-ended k (l ∷ ls) s = go (readLine l s) refl (line-does l s) (λ t. lines-ended (suc k) ls t)
   where
-    more : {t : State} {ms : List (List ℕ)} {o : Outcome} → readLine l s ≡ next t → Ended (suc k) t ms o → Ended k s (l ∷ ms) o
-    more e (whole a x b r d) = whole (l ∷ a) x b (line e r) d
-    more e (stopped a x b {r = q} r d) =
+    more : {t : State} {ms : List (List ℕ)} {o : Outcome} → Goes s (content l) t → Ended (suc k) t ms o → Ended k s (l ∷ ms) o
+    more g (whole a x b r d) = whole (l ∷ a) x b (line g r) d
+    more g (stopped a x b {r = q} r d) =
         let c : k + length (l ∷ a) ≡ suc k + length a = omega arith in
-        subst (λ (z : ℕ). Ended k s (l ∷ (a ++ (x ∷ b))) (refused q z)) c (stopped (l ∷ a) x b (line e r) d)
-    more e (short a r) = short (l ∷ a) (line e r)
+        subst (λ (z : ℕ). Ended k s (l ∷ (a ++ (x ∷ b))) (refusedAt q z)) c (stopped (l ∷ a) x b (line g r) d)
+    more g (short a r) = short (l ∷ a) (line g r)
 
-    go : (p : Step) → readLine l s ≡ p → ((t : State) → Ended (suc k) t ls (readLines (suc k) ls t)) → Ended k s (l ∷ ls) (readLines k (l ∷ ls) s)
-    go (next t) e f = subst (Ended k s (l ∷ ls)) (sym (lines-on k l ls s e)) (more e (f t))
-    go (done t) e f =
-        let d = (done-iff l s t) .0 e in
-        subst (Ended k s (l ∷ ls)) (sym (lines-done k l ls s e)) (subst (λ (z : State). Ended k s (l ∷ ls) (accepted z)) (sym (d .0)) (whole [] l ls nothing (d .1)))
-    go (refuse r) e f =
+    go : (p : Turn) → readLine l s ≡ p → Does s (content l) p → ((t : State) → Ended (suc k) t ls (readLines (suc k) ls t))
+        → Ended k s (l ∷ ls) (readLines k (l ∷ ls) s)
+    go (next t) e (goes g) f = subst (Ended k s (l ∷ ls)) (sym (lines-on k l ls s e)) (more g (f t))
+    go (done t) e (closes d) f = subst (Ended k s (l ∷ ls)) (sym (lines-done k l ls s e)) (whole [] l ls nothing d)
+    go (refuse r) e (refuses d) f =
         let c : k + 0 ≡ k = omega arith in
-        subst (Ended k s (l ∷ ls)) (sym (lines-refuse k l ls s e)) (subst (λ (z : ℕ). Ended k s (l ∷ ls) (refused r z)) c (stopped [] l ls nothing ((refuse-iff l s r) .0 e)))
+        subst (Ended k s (l ∷ ls)) (sym (lines-refuse k l ls s e))
+        (subst (λ (z : ℕ). Ended k s (l ∷ ls) (refusedAt r z)) c (stopped [] l ls nothing d))
 
 -- and there is no other outcome
 reads-on : (k : ℕ) {s t : State} (ls ms : List (List ℕ)) → Read s ls t → readLines k (ls ++ ms) s ≡ readLines (k + length ls) ms t
 reads-on k ls ms nothing = let e : k + 0 ≡ k = omega arith in rw e
-reads-on k (l ∷ ls) ms (line {s = s} {t = t} {u = u} e r) = let c : suc k + length ls ≡ k + length (l ∷ ls) = omega arith in
-    lines-on k l (ls ++ ms) s e ∙ reads-on (suc k) ls ms r ∙ ap (λ (z : ℕ). readLines z ms u) c
+reads-on k (l ∷ ls) ms (line {s = s} {t = t} {u = u} g r) = let c : suc k + length ls ≡ k + length (l ∷ ls) = omega arith in
+    lines-on k l (ls ++ ms) s ((next-iff l s t) .1 g) ∙ reads-on (suc k) ls ms r ∙ ap (λ (z : ℕ). readLines z ms u) c
 
 pub ended-lines : (k : ℕ) {s : State} {ls : List (List ℕ)} {o : Outcome} → Ended k s ls o → readLines k ls s ≡ o
 ended-lines k (whole a l b {t = t} r d) = reads-on k a (l ∷ b) r ∙ lines-done (k + length a) l b t ((done-iff l t t) .1 (refl, d))
 ended-lines k (stopped a l b {t = t} {r = q} r d) = reads-on k a (l ∷ b) r ∙ lines-refuse (k + length a) l b t ((refuse-iff l t q) .1 d)
-ended-lines k {s = s} (short a {t = t} r) = ap (λ (z : List (List ℕ)). readLines k z s) (sym (append-nil a)) ∙ reads-on k a [] r ∙ lines-end (k + length a) t
-
--- what holds after each line holds after them all
-read-good : {s t : State} {ls : List (List ℕ)} → Read s ls t → Bounded s → Bounded t
-read-good nothing g = g
-read-good (line {s = s} {l = l} e r) g = read-good r (subst (SoundStep s) e (line-turn s g l) .0)
+ended-lines k {s = s} (short a {t = t} r) =
+    ap (λ (z : List (List ℕ)). readLines k z s) (sym (append-nil a)) ∙ reads-on k a [] r ∙ lines-end (k + length a) t
 
 -- ---- a whole text
 
-pub start-good : Bounded start
-start-good = record { wide = refl; tall = refl; rows = omega arith; shaped = λ l m. absurd (List·Memᴰ·not-nil m) }
-
-pub text-long : (t : List ℕ) → mostBytes < length t → readText t ≡ refused 1 0
+pub text-long : (t : List ℕ) → mostBytes < length t → readText t ≡ refusedAt 1 0
 unfolding readText
 text-long t h = rw (lt-ltb mostBytes (length t) h)
 
@@ -113,12 +109,14 @@ done-complete c s g d =
         outputs = (u .2, u .3);
         stated = d .stated;
         rows = g .rows;
-        shaped = λ x m. subst (λ (o : Option ℕ). Shaped (w .0) (orZero o) x) (u .1) (subst (λ (o : Option ℕ). Shaped (orZero o) (orZero (s .tall)) x) (w .1) (g .shaped x m));
+        shaped = λ x m. rw (w .1, u .1) at (g .shaped x m);
       },
     )
 
-ended-complete : {k : ℕ} {s : State} {ls : List (List ℕ)} {o : Outcome} → Bounded s → Ended k s ls o → (t : State) → o ≡ accepted t → (n : ℕ) × (m : ℕ) × Complete t n m
-ended-complete g (whole a l b {t = u} r d) t e = let q : u ≡ t = cc in subst (λ (z : State). (n : ℕ) × (m : ℕ) × Complete z n m) q (done-complete (content l) u (read-good r g) d)
+ended-complete : {k : ℕ} {s : State} {ls : List (List ℕ)} {o : Outcome} → Bounded s → Ended k s ls o
+    → (t : State) → o ≡ accepted t → (n : ℕ) × (m : ℕ) × Complete t n m
+ended-complete g (whole a l b {t = u} r d) t e = let q : u ≡ t = cc in
+    subst (λ (z : State). (n : ℕ) × (m : ℕ) × Complete z n m) q (done-complete (content l) u (read-bounded r g) d)
 ended-complete g (stopped a l b r d) t e = let z : _≡_ {A = ℕ} 0 1 = cc in absurd (omega arith)
 ended-complete g (short a r) t e = let z : _≡_ {A = ℕ} 0 1 = cc in absurd (omega arith)
 
@@ -128,52 +126,64 @@ accepted-complete t s e = go (ltb mostBytes (length t)) refl
   where
     go : (b : Bool) → ltb mostBytes (length t) ≡ b → (n : ℕ) × (m : ℕ) × Complete s n m
     go true h = let q = text-long t (ltb-true mostBytes (length t) h) in let z : _≡_ {A = ℕ} 0 1 = cc in absurd (omega arith)
-    go false h = ended-complete start-good (text-ended t (ltb-false mostBytes (length t) h)) s e
+    go false h = ended-complete start-bounded (text-ended t (ltb-false mostBytes (length t) h)) s e
 
 -- ---- what each number is given for
 
 -- 1 is tested first, then lines in turn
-pub outcome-iff : (t : List ℕ) (o : Outcome) → (readText t ≡ o) ↔ (((mostBytes < length t) × (o ≡ refused 1 0)) ⊎ ((length t ≤ mostBytes) × Ended 1 start (linesOf t) o))
+abbrev Comes : List ℕ → Outcome → Type 0
+Comes t o = ((mostBytes < length t) × (o ≡ refusedAt 1 0)) ⊎ ((length t ≤ mostBytes) × Ended 1 start (linesOf t) o)
+
+pub outcome-iff : (t : List ℕ) (o : Outcome) → (readText t ≡ o) ↔ Comes t o
 outcome-iff t o = (into, back)
   where
-    into : readText t ≡ o → ((mostBytes < length t) × (o ≡ refused 1 0)) ⊎ ((length t ≤ mostBytes) × Ended 1 start (linesOf t) o)
+    into : readText t ≡ o → Comes t o
     into e = go (ltb mostBytes (length t)) refl
       where
-        go : (b : Bool) → ltb mostBytes (length t) ≡ b → ((mostBytes < length t) × (o ≡ refused 1 0)) ⊎ ((length t ≤ mostBytes) × Ended 1 start (linesOf t) o)
+        go : (b : Bool) → ltb mostBytes (length t) ≡ b → Comes t o
         go true h = let k = ltb-true mostBytes (length t) h in inl (k, sym e ∙ text-long t k)
         go false h = let k = ltb-false mostBytes (length t) h in inr (k, subst (Ended 1 start (linesOf t)) e (text-ended t k))
 
-    back : ((mostBytes < length t) × (o ≡ refused 1 0)) ⊎ ((length t ≤ mostBytes) × Ended 1 start (linesOf t) o) → readText t ≡ o
+    back : Comes t o → readText t ≡ o
     back (inl (h, e)) = text-long t h ∙ sym e
     back (inr (h, e)) = text-lines t h ∙ ended-lines 1 e
 
 -- the number and the line of a refusal, where the text is not too long
 data Known (k : ℕ) (ls : List (List ℕ)) : Outcome → Type 0 where
   good : (s : State) → Known k ls (accepted s)
-  bad : (r n : ℕ) → isLine r ≡ true → k ≤ n → n < k + length ls → Known k ls (refused r n)
-  five : Known k ls (refused 5 0)
+  bad : (r n : ℕ) → isLine r ≡ true → k ≤ n → n < k + length ls → Known k ls (refusedAt r n)
+  five : Known k ls (refusedAt 5 0)
 
 known : {k : ℕ} {s : State} {ls : List (List ℕ)} {o : Outcome} → Ended k s ls o → Known k ls o
 known (whole a l b {t = t} r d) = good t
 known {k} (stopped a l b {r = q} r d) = bad q (k + length a) (refuses-line d) (omega arith) (omega (arith, length-append a (l ∷ b)))
 known (short a r) = five
 
-known-refused : {k : ℕ} {ls : List (List ℕ)} {o : Outcome} → Known k ls o → (r n : ℕ) → o ≡ refused r n → ((r ≡ 5) × (n ≡ 0)) ⊎ ((isLine r ≡ true) × (k ≤ n) × (n < k + length ls))
+-- the number and the line of a refusal that is known
+its : {a b r n : ℕ} → refusedAt a b ≡ refusedAt r n → (r ≡ a) × (n ≡ b)
+its {a} {b} {r} {n} e =
+    let q : _≡_ {A = Refusal} (record { number = a; line = b }) (record { number = r; line = n }) = cc in
+    (sym (ap (λ (z : Refusal). z .number) q), sym (ap (λ (z : Refusal). z .line) q))
+
+known-refused : {k : ℕ} {ls : List (List ℕ)} {o : Outcome} → Known k ls o → (r n : ℕ) → o ≡ refusedAt r n
+    → ((r ≡ 5) × (n ≡ 0)) ⊎ ((isLine r ≡ true) × (k ≤ n) × (n < k + length ls))
 known-refused (good s) r n e = let z : _≡_ {A = ℕ} 0 1 = cc in absurd (omega arith)
-known-refused (bad q m i a b) r n e = let x : q ≡ r = cc in let y : m ≡ n = cc in inr (subst (λ (z : ℕ). isLine z ≡ true) x i, omega arith, omega arith)
-known-refused five r n e = let x : 5 ≡ r = cc in let y : 0 ≡ n = cc in inl (sym x, sym y)
+known-refused (bad q m i a b) r n e = let w = its e in inr (subst (λ (z : ℕ). isLine z ≡ true) (sym (w .0)) i, omega arith, omega arith)
+known-refused five r n e = inl (its e)
 
 -- 1 and 5 report line 0, the others their line, from 1 to the last
-pub refused-line : (t : List ℕ) (r n : ℕ) → readText t ≡ refused r n
+pub refused-line : (t : List ℕ) (r n : ℕ) → readText t ≡ refusedAt r n
     → ((r ≡ 1) × (n ≡ 0)) ⊎ (((r ≡ 5) × (n ≡ 0)) ⊎ ((isLine r ≡ true) × (1 ≤ n) × (n ≤ length (linesOf t))))
-refused-line t r n e = ⊎-elim (λ h. let q = h .1 in let x : r ≡ 1 = cc in let y : n ≡ 0 = cc in inl (x, y)) (λ h. inr (⊎-elim (λ k. inl k) (λ k. inr (k .0, k .1, omega (arith, k .2))) (known-refused (known (h .1)) r n refl))) ((outcome-iff t (refused r n)) .0 e)
+refused-line t r n e = go ((outcome-iff t (refusedAt r n)) .0 e)
+  where
+    go : Comes t (refusedAt r n) → ((r ≡ 1) × (n ≡ 0)) ⊎ (((r ≡ 5) × (n ≡ 0)) ⊎ ((isLine r ≡ true) × (1 ≤ n) × (n ≤ length (linesOf t))))
+    go (inl (h, q)) = inl (its (sym q))
+    go (inr (h, q)) = inr (⊎-elim (λ k. inl k) (λ k. inr (k .0, k .1, omega (arith, k .2))) (known-refused (known q) r n refl))
 
 -- 1: text over 65,536 bytes
-pub refused-one : (t : List ℕ) → (readText t ≡ refused 1 0) ↔ (mostBytes < length t)
-refused-one t = (into, text-long t)
+pub refused-one : (t : List ℕ) → (readText t ≡ refusedAt 1 0) ↔ (mostBytes < length t)
+refused-one t = (λ e. into ((outcome-iff t (refusedAt 1 0)) .0 e), text-long t)
   where
-    not-line : isLine 1 ≡ true → ⊥
-    not-line h = clash h none-one
-
-    into : readText t ≡ refused 1 0 → mostBytes < length t
-    into e = ⊎-elim (λ h. h .0) (λ h. absurd (⊎-elim (λ k. omega (arith, k .0)) (λ k. not-line (k .0)) (known-refused (known (h .1)) 1 0 refl))) ((outcome-iff t (refused 1 0)) .0 e)
+    into : Comes t (refusedAt 1 0) → mostBytes < length t
+    into (inl (h, q)) = h
+    into (inr (h, q)) = absurd (⊎-elim (λ k. omega (arith, k .0)) (λ k. clash (k .0) none-one) (known-refused (known q) 1 0 refl))

@@ -16,18 +16,20 @@ use Rattle.table_kinds.specs.Kinds.{kindOf}
 use Rattle.table_lines.proofs.Lining.{line-take, line-le, lines-next, lines-last}
 use Rattle.table.specs.Table as table
 use Rattle.table.specs.Table.{start, byKind, readLine, readLines, readText}
-use Rattle.table.specs.Meaning.{Bounded, SoundStep}
-use Rattle.table.specs.Parts.{Stands, LineStepped, Leaves, Roomy, linesFrom, stoppedAt, Scans}
+use Rattle.table.specs.Meaning.{Bounded}
+use Rattle.table.specs.Parts.{Stands, LineTurned, Leaves, Roomy, linesFrom, stoppedAt, Scans}
 use Rattle.table.specs.declared.State.{State}
-use Rattle.table.specs.declared.Step.{Step}
-use Rattle.table.specs.declared.Step.the-variants.{Next, Done, Refused}
+use Rattle.table.specs.declared.Turn.{Turn}
+use Rattle.table.specs.declared.Turn.the-variants.{Next, Done, Refused}
 use Rattle.table.specs.declared.Answer.the-variants as answer
+use Rattle.table.specs.declared.Refusal.{Refusal}
 use Rattle.table.specs.declared.Scanned.{Scanned}
 use Rattle.table.specs.declared.Table.{Table}
 use Rattle.table.specs.Answers.{Told}
 use Rattle.table.proofs.Marking.{marked-few}
-use Rattle.table.proofs.Turns.{line-turn}
-use Rattle.table.proofs.Refusals.{lines-on, lines-done, lines-refuse, lines-end, start-good, text-lines}
+use Rattle.table.proofs.Reasons.{next-iff}
+use Rattle.table.proofs.Going.{start-bounded, goes-bounded, goes-more}
+use Rattle.table.proofs.Refusals.{lines-on, lines-done, lines-refuse, lines-end, text-lines}
 
 -- ---- the lines of a text, from a byte on
 
@@ -80,7 +82,7 @@ pub record Reading (text words marks : List ℕ) (s : State) (line at : ℕ) : T
 pub reading-first : (text words marks : List ℕ) → Reading text words marks (record { inputs = 0; outputs = 0; stated = 0; lines = 0; rows = 0; kept = 0 }) 1 0
 reading-first text words marks = record {
   now = start;
-  good = start-good;
+  good = start-bounded;
   stands = record { wide = refl; tall = refl; stated = refl; lines = refl; rows = refl; kept = refl; cubes = refl; masks = refl };
   few = omega arith;
   left = ap (λ (l : List (List ℕ)). readLines 1 l start) (from-first text);
@@ -97,61 +99,64 @@ module _ {text words marks : List ℕ} {s : State} {line at : ℕ} (r : Reading 
   }
 
   -- no line is left
-  pub reading-over : length text < at → Scans (readLines 1 (linesOf text) start) (record { answer = answer.Refused 5 0; state = s }) words marks
+  pub reading-over : length text < at → Scans (readLines 1 (linesOf text) start) (record { answer = answer.Refused (record { number = 5; line = 0 }); state = s }) words marks
   reading-over h =
-      let e : readLines 1 (linesOf text) start ≡ table.refused 5 0 = sym (r .left) ∙ ap (λ (l : List (List ℕ)). readLines line l (r .now)) (from-over text at h) ∙ lines-end line (r .now) in
-      subst (λ (o : table.Outcome). Scans o (record { answer = answer.Refused 5 0; state = s }) words marks) (sym e) refl
+      let e : readLines 1 (linesOf text) start ≡ table.refusedAt 5 0 = sym (r .left) ∙ ap (λ (l : List (List ℕ)). readLines line l (r .now)) (from-over text at h) ∙ lines-end line (r .now) in
+      subst (λ (o : table.Outcome). Scans o (record { answer = answer.Refused (record { number = 5; line = 0 }); state = s }) words marks) (sym e) refl
 
   abbrev here : List ℕ
   here = lineOf (drop at text)
 
   -- the next line
-  module _ {c : List ℕ} (words' marks' : List ℕ) {e : ℕ} (p : Step) (h : at ≤ length text) (q : e ≡ at + length (lineOf (drop at text))) (k : c ≡ content (take (e - at) (drop at text)))
+  module _ {c : List ℕ} (words' marks' : List ℕ) {e : ℕ} (p : Turn) (h : at ≤ length text) (q : e ≡ at + length (lineOf (drop at text))) (k : c ≡ content (take (e - at) (drop at text)))
       (f : Leaves (byKind (kindOf c) c) s p words marks words' marks') where
-    turn : LineStepped (readLine here (r .now)) p words' marks'
+    turned : LineTurned (readLine here (r .now)) p words' marks'
     unfolding readLine
-    turn = subst (λ (l : List ℕ). LineStepped (byKind (kindOf l) l (r .now)) p words' marks') (k ∙ ap content (line-part text at h e q)) (f (r .now) (r .good) (r .stands))
+    turned = subst (λ (l : List ℕ). LineTurned (byKind (kindOf l) l (r .now)) p words' marks') (k ∙ ap content (line-part text at h e q)) (f (r .now) (r .good) (r .stands))
+
+    turned-as : {z : Turn} → p ≡ z → LineTurned (readLine here (r .now)) z words' marks'
+    turned-as i = subst (λ (z : Turn). LineTurned (readLine here (r .now)) z words' marks') i turned
 
     whole : readLines line (here ∷ linesFrom text (e + 1)) (r .now) ≡ readLines 1 (linesOf text) start
     whole = ap (λ (l : List (List ℕ)). readLines line l (r .now)) (sym (from-next text at e q h)) ∙ r .left
 
     pub reading-next : (s' : State) → p ≡ Next s' → Reading text words' marks' s' (line + 1) (e + 1)
-    reading-next s' i = go (readLine here (r .now)) refl (subst (λ (z : Step). LineStepped (readLine here (r .now)) z words' marks') i turn) (line-turn (r .now) (r .good) here)
+    reading-next s' i = go (readLine here (r .now)) refl (turned-as i)
       where
-        go : (x : table.Step) → readLine here (r .now) ≡ x → LineStepped x (Next s') words' marks' → SoundStep (r .now) x → Reading text words' marks' s' (line + 1) (e + 1)
-        go (table.next t) y z w = record {
+        go : (x : table.Turn) → readLine here (r .now) ≡ x → LineTurned x (Next s') words' marks' → Reading text words' marks' s' (line + 1) (e + 1)
+        go (table.next t) y z = let g = (next-iff here (r .now) t) .0 y in record {
           now = t;
-          good = w .0;
+          good = goes-bounded (r .good) g;
           stands = z;
-          few = omega (arith, r .few, w .1);
+          few = omega (arith, r .few, goes-more g);
           left = ap (λ (n : ℕ). readLines n (linesFrom text (e + 1)) t) (add-one line) ∙ sym (lines-on line here (linesFrom text (e + 1)) (r .now) y) ∙ whole;
         }
-        go (table.done t) y z w = absurd z
-        go (table.refuse n) y z w = absurd z
+        go (table.done t) y z = absurd z
+        go (table.refuse n) y z = absurd z
 
     reading-done : (s' : State) → p ≡ Done s' → Scans (readLines 1 (linesOf text) start) (record { answer = answer.Read; state = s' }) words' marks'
-    reading-done s' i = go (readLine here (r .now)) refl (subst (λ (z : Step). LineStepped (readLine here (r .now)) z words' marks') i turn)
+    reading-done s' i = go (readLine here (r .now)) refl (turned-as i)
       where
-        go : (x : table.Step) → readLine here (r .now) ≡ x → LineStepped x (Done s') words' marks' → Scans (readLines 1 (linesOf text) start) (record { answer = answer.Read; state = s' }) words' marks'
+        go : (x : table.Turn) → readLine here (r .now) ≡ x → LineTurned x (Done s') words' marks' → Scans (readLines 1 (linesOf text) start) (record { answer = answer.Read; state = s' }) words' marks'
         go (table.next t) y z = absurd z
         go (table.done t) y z =
             subst (λ (o : table.Outcome). Scans o (record { answer = answer.Read; state = s' }) words' marks') (sym (lines-done line here (linesFrom text (e + 1)) (r .now) y) ∙ whole) (refl, z)
         go (table.refuse n) y z = absurd z
 
-    reading-refuse : (n : ℕ) → p ≡ Refused n → Scans (readLines 1 (linesOf text) start) (record { answer = answer.Refused n line; state = s }) words' marks'
-    reading-refuse n i = go (readLine here (r .now)) refl (subst (λ (z : Step). LineStepped (readLine here (r .now)) z words' marks') i turn)
+    reading-refuse : (n : ℕ) → p ≡ Refused n → Scans (readLines 1 (linesOf text) start) (record { answer = answer.Refused (record { number = n; line = line }); state = s }) words' marks'
+    reading-refuse n i = go (readLine here (r .now)) refl (turned-as i)
       where
-        go : (x : table.Step) → readLine here (r .now) ≡ x → LineStepped x (Refused n) words' marks' → Scans (readLines 1 (linesOf text) start) (record { answer = answer.Refused n line; state = s }) words' marks'
+        go : (x : table.Turn) → readLine here (r .now) ≡ x → LineTurned x (Refused n) words' marks' → Scans (readLines 1 (linesOf text) start) (record { answer = answer.Refused (record { number = n; line = line }); state = s }) words' marks'
         go (table.next t) y z = absurd z
         go (table.done t) y z = absurd z
         go (table.refuse m) y z =
-            subst (λ (o : table.Outcome). Scans o (record { answer = answer.Refused n line; state = s }) words' marks') (sym (lines-refuse line here (linesFrom text (e + 1)) (r .now) y) ∙ whole) (ap (λ (v : ℕ). answer.Refused v line) z)
+            subst (λ (o : table.Outcome). Scans o (record { answer = answer.Refused (record { number = n; line = line }); state = s }) words' marks') (sym (lines-refuse line here (linesFrom text (e + 1)) (r .now) y) ∙ whole) (ap (λ (v : ℕ). answer.Refused (record { number = v; line = line })) z)
 
     -- a line that does not go on gives the outcome
     pub reading-stop : ((s' : State) → p ≡ Next s' → ⊥) → Scans (readLines 1 (linesOf text) start) (stoppedAt p line s) words' marks'
     reading-stop f = go p refl
       where
-        go : (z : Step) → p ≡ z → Scans (readLines 1 (linesOf text) start) (stoppedAt z line s) words' marks'
+        go : (z : Turn) → p ≡ z → Scans (readLines 1 (linesOf text) start) (stoppedAt z line s) words' marks'
         go (Next s') i = absurd (f s' i)
         go (Done s') i = reading-done s' i
         go (Refused n) i = reading-refuse n i
@@ -160,19 +165,21 @@ module _ {text words marks : List ℕ} {s : State} {line at : ℕ} (r : Reading 
 
 module _ (words marks : List ℕ) where
   -- what was read, where nothing is refused
-  scans-read : (o : table.Outcome) (x : Scanned) → Scans o x words marks → x .answer ≡ answer.Read → (t : table.State) × (o ≡ table.accepted t) × Stands t (x .state) words marks
+  scans-read : (o : table.Outcome) (x : Scanned) → Scans o x words marks → x .answer ≡ answer.Read
+      → (t : table.State) × (o ≡ table.accepted t) × Stands t (x .state) words marks
   scans-read (table.accepted t) x h e = (t, refl, h .1)
-  scans-read (table.refused k l) x h e = let z : _≡_ {A = ℕ} 0 1 = cc in absurd (omega arith)
+  scans-read (table.refused q) x h e = let z : _≡_ {A = ℕ} 0 1 = cc in absurd (omega arith)
 
   -- a refusal is handed on
-  scans-refused : (o : table.Outcome) (x : Scanned) (r : Table) → Scans o x words marks → (k l : ℕ) → x .answer ≡ answer.Refused k l → (r .answer ≡ x .answer) × Blank (r .network) → Told o r
-  scans-refused (table.accepted t) x r h k l e b = let q = h .0 in let z : _≡_ {A = ℕ} 0 1 = cc in absurd (omega arith)
-  scans-refused (table.refused n m) x r h k l e b = (b .0 ∙ h, b .1)
+  scans-refused : (o : table.Outcome) (x : Scanned) (r : Table) → Scans o x words marks → (q : Refusal) → x .answer ≡ answer.Refused q
+      → (r .answer ≡ x .answer) × Blank (r .network) → Told o r
+  scans-refused (table.accepted t) x r h q e b = let a = h .0 in let z : _≡_ {A = ℕ} 0 1 = cc in absurd (omega arith)
+  scans-refused (table.refused p) x r h q e b = (b .0 ∙ h, b .1)
 
   -- a text that is not too long
   module _ (text : List ℕ) (short : length text ≤ 65536) (x : Scanned) (h : Scans (readLines 1 (linesOf text) start) x words marks) where
     pub text-read : x .answer ≡ answer.Read → (t : table.State) × (readText text ≡ table.accepted t) × Stands t (x .state) words marks
     text-read e = let r = scans-read (readLines 1 (linesOf text) start) x h e in (r .0, text-lines text short ∙ r .1, r .2)
 
-    pub text-refused : (r : Table) (k l : ℕ) → x .answer ≡ answer.Refused k l → (r .answer ≡ x .answer) × Blank (r .network) → Told (readText text) r
-    text-refused r k l e b = subst (λ (o : table.Outcome). Told o r) (sym (text-lines text short)) (scans-refused (readLines 1 (linesOf text) start) x r h k l e b)
+    pub text-refused : (r : Table) (q : Refusal) → x .answer ≡ answer.Refused q → (r .answer ≡ x .answer) × Blank (r .network) → Told (readText text) r
+    text-refused r q e b = subst (λ (o : table.Outcome). Told o r) (sym (text-lines text short)) (scans-refused (readLines 1 (linesOf text) start) x r h q e b)

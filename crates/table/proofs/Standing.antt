@@ -9,7 +9,7 @@ use lib.Dec.{leb, eqb}
 use lib.ListN.{length}
 use borrow.Author.Tests.{leb-true, eq-eqb, ne-eqb}
 use Rattle.sets.specs.Lists.{isNil}
-use Rattle.sets.proofs.Truth.{both, clash}
+use Rattle.sets.proofs.Truth.{both}
 use Rattle.network.specs.Held.{mostInputs, mostOutputs}
 use Rattle.table_rows.specs.Lines.{CubeLine}
 use Rattle.table.specs.Table as table
@@ -17,6 +17,7 @@ use Rattle.table.specs.Table.{missing, rightCount, orZero}
 use Rattle.table.specs.Meaning.{within, Bounded}
 use Rattle.table.specs.Parts.{oneMore, Stands}
 use Rattle.table.specs.declared.State.{State}
+use Rattle.table.proofs.Reasons.{is-none}
 
 -- ---- a number from 1 on stands for itself, 0 for a missing one
 
@@ -27,10 +28,6 @@ zero-missing most (some n) h = sym (ne-eqb n 0 (λ e. omega (arith, leb-true 1 n
 one-missing : (o : Option ℕ) → missing o ≡ eqb (oneMore o) 0
 one-missing none = refl
 one-missing (some n) = sym (ne-eqb (n + 1) 0 (λ e. omega arith))
-
-is-none : (o : Option ℕ) → missing o ≡ true → o ≡ none
-is-none none h = refl
-is-none (some n) h = clash h refl
 
 nil-zero : (l : List CubeLine) → isNil l ≡ eqb (length l) 0
 nil-zero [] = refl

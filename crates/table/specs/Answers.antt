@@ -5,7 +5,7 @@ use Rattle.table.specs.Table.{Outcome, accepted, refused, tableNet}
 use Rattle.table.specs.declared.Answer.the-variants.{Read, Refused}
 use Rattle.table.specs.declared.Table.{Table}
 
--- the network of the table; or the number and the line, and a network of zeros
+-- the network of the table; or the refusal, and a network of zeros
 abbrev pub Told : Outcome → Table → Type 0
 Told (accepted s) r = (r .answer ≡ Read) × Holds (r .network) (tableNet s)
-Told (refused k l) r = (r .answer ≡ Refused k l) × Blank (r .network)
+Told (refused q) r = (r .answer ≡ Refused q) × Blank (r .network)

@@ -1,4 +1,5 @@
 pub mod Table
+pub mod Written
 pub mod Meaning
 pub mod Answers
 pub mod Parts

@@ -6,20 +6,17 @@ use mathlib.Core.Bool.{Bool, true, false}
 use mathlib.Core.List.{List, [], _∷_, _++_, List·Memᴰ}
 use mathlib.Core.Option.{Option, none, some}
 use lib.ListN.{length}
-use Rattle.sets.specs.Lists.{all, total, isNil}
+use Rattle.sets.specs.Lists.{total, isNil}
 use Rattle.sets.specs.Sets.{mem}
 use Rattle.network.specs.Held.{mostInputs, mostOutputs, upTo}
 use Rattle.table_lines.specs.Text.{content}
 use Rattle.table_kinds.specs.Kinds.{kindOf}
-use Rattle.table_rows.specs.Lines.{CubeLine, isPlace, cubeLineOf, rowsIn}
-use Rattle.table_kinds.specs.declared.Kind.the-variants.{Inputs, Outputs, Products, End, Other}
-use Rattle.table.specs.Table.{State, Step, next, done, refuse, readLine, missing, rightCount, Outcome, accepted, refused, orZero, mostProducts, mostRows}
-
--- n places, each one of `0 1 -`, and m marks
-pub record Shaped (n m : ℕ) (l : CubeLine) : Type 0 where
-  pub places : length (l .places) ≡ n
-  pub bytes : all isPlace (l .places) ≡ true
-  pub marks : length (l .marks) ≡ m
+use Rattle.table_rows.specs.Lines.{CubeLine, cubeLineOf, rowsIn}
+use Rattle.table_rows.specs.Meaning.{Shaped}
+use Rattle.table_kinds.specs.declared.Kind.the-variants.{Empty, Inputs, Outputs, Products, End, Other}
+use Rattle.table.specs.Written.{listed, inputsIn, outputsIn, productsIn, inputsOf, outputsOf, cubeLinesOf}
+use Rattle.table.specs.Table.{State, Turn, next, done, refuse, missing, rightCount, Outcome, accepted, refusedAt, orZero}
+use Rattle.table.specs.Table.{mostProducts, mostRows}
 
 -- from 1 to the most, where it is there
 abbrev pub within : ℕ → Option ℕ → Bool
@@ -33,17 +30,8 @@ pub record Bounded (s : State) : Type 0 where
   pub rows : total rowsIn (s .lines) ≤ mostRows
   pub shaped : (l : CubeLine) → List·Memᴰ l (s .lines) → Shaped (orZero (s .wide)) (orZero (s .tall)) l
 
--- the numbers of refusals that a line can have
-abbrev pub isLine : ℕ → Bool
-isLine k = mem k (2 ∷ 3 ∷ 4 ∷ 6 ∷ [])
-
--- a line adds one cube line at most; the last leaves what was read, in which nothing is missing; or it has the number of a refusal
-abbrev pub SoundStep : State → Step → Type 0
-SoundStep s (next t) = Bounded t × (length (t .lines) ≤ length (s .lines) + 1)
-SoundStep s (done t) = (t ≡ s) × (missing (s .wide) ≡ false) × (missing (s .tall) ≡ false) × (rightCount (s .stated) (s .lines) ≡ true)
-SoundStep s (refuse k) = isLine k ≡ true
-
--- a table that is accepted: n inputs, m outputs, at most 1,024 rows, every cube line of n places and m marks, and `.p`, if it is there, says how many
+-- a table that is accepted: n inputs, m outputs, at most 1,024 rows, every cube line of n places and m marks, and `.p`, if it is there,
+-- says how many
 pub record Complete (s : State) (n m : ℕ) : Type 0 where
   pub wide : s .wide ≡ some n
   pub inputs : (1 ≤ n) × (n ≤ mostInputs)
@@ -53,12 +41,28 @@ pub record Complete (s : State) (n m : ℕ) : Type 0 where
   pub rows : total rowsIn (s .lines) ≤ mostRows
   pub shaped : (l : CubeLine) → List·Memᴰ l (s .lines) → Shaped n m l
 
--- lines read in turn from s to t, none of which is the last or refused
-pub data Read : State → List (List ℕ) → State → Type 0 where
-  nothing : {s : State} → Read s [] s
-  line : {s t u : State} {l : List ℕ} {ls : List (List ℕ)} → readLine l s ≡ next t → Read t ls u → Read s (l ∷ ls) u
+-- ---- when a line goes on, ends the table or is refused
 
--- ---- when a line ends the table or is refused
+-- not yet there, and no cube line before it
+pub record Timely (o : Option ℕ) (l : List CubeLine) : Type 0 where
+  pub new : o ≡ none
+  pub first : l ≡ []
+
+-- what has been read after a line that goes on, c being what is left of it
+pub data Goes (s : State) (c : List ℕ) : State → Type 0 where
+  -- an empty line changes nothing
+  blank : kindOf c ≡ Empty → Goes s c s
+  -- `.i N`, `.o N`, `.p N`, in time and in range: its number is known, all else is kept
+  inputs : (n : ℕ) → kindOf c ≡ Inputs n → Timely (s .wide) (s .lines) → 1 ≤ n → n ≤ mostInputs
+      → Goes s c (record { wide = some n; tall = s .tall; stated = s .stated; lines = s .lines })
+  outputs : (n : ℕ) → kindOf c ≡ Outputs n → Timely (s .tall) (s .lines) → 1 ≤ n → n ≤ mostOutputs
+      → Goes s c (record { wide = s .wide; tall = some n; stated = s .stated; lines = s .lines })
+  products : (n : ℕ) → kindOf c ≡ Products n → Timely (s .stated) (s .lines) → n ≤ mostProducts
+      → Goes s c (record { wide = s .wide; tall = s .tall; stated = some n; lines = s .lines })
+  -- a cube line, where `.i` and `.o` are known: the cube lines are the old ones and this one, of at most 1,024 rows, all else is kept
+  cube : (n m : ℕ) (l : CubeLine) → kindOf c ≡ Other → s .wide ≡ some n → s .tall ≡ some m → cubeLineOf n m c ≡ some l
+      → total rowsIn (s .lines) + rowsIn l ≤ mostRows
+      → Goes s c (record { wide = s .wide; tall = s .tall; stated = s .stated; lines = s .lines ++ (l ∷ []) })
 
 -- repeated, or after a cube line
 abbrev pub Late : Option ℕ → List CubeLine → Type 0
@@ -67,12 +71,6 @@ Late o l = (missing o ≡ false) ⊎ (isNil l ≡ false)
 -- while `.i` or `.o` is missing
 abbrev pub Early : State → Type 0
 Early s = (missing (s .wide) ≡ true) ⊎ (missing (s .tall) ≡ true)
-
--- in time, but not from 1 to the most
-pub record Outside (o : Option ℕ) (l : List CubeLine) (most n : ℕ) : Type 0 where
-  pub new : missing o ≡ true
-  pub first : isNil l ≡ true
-  pub range : (n ≡ 0) ⊎ (most < n)
 
 -- c is `.e`, nothing is missing, and `.p` says how many cube lines were read, if it is there
 pub record Closes (s : State) (c : List ℕ) : Type 0 where
@@ -91,17 +89,46 @@ pub data Refuses (s : State) (c : List ℕ) : ℕ → Type 0 where
   earlyCube : kindOf c ≡ Other → Early s → Refuses s c 2
   noKind : (n m : ℕ) → kindOf c ≡ Other → s .wide ≡ some n → s .tall ≡ some m → cubeLineOf n m c ≡ none → Refuses s c 2
   -- 3: the number of `.i` or `.o` not 1 to 32, or of `.p` over 32,768
-  outInputs : (n : ℕ) → kindOf c ≡ Inputs n → Outside (s .wide) (s .lines) mostInputs n → Refuses s c 3
-  outOutputs : (n : ℕ) → kindOf c ≡ Outputs n → Outside (s .tall) (s .lines) mostOutputs n → Refuses s c 3
-  outProducts : (n : ℕ) → kindOf c ≡ Products n → missing (s .stated) ≡ true → isNil (s .lines) ≡ true → mostProducts < n → Refuses s c 3
+  outInputs : (n : ℕ) → kindOf c ≡ Inputs n → Timely (s .wide) (s .lines) → (n ≡ 0) ⊎ (mostInputs < n) → Refuses s c 3
+  outOutputs : (n : ℕ) → kindOf c ≡ Outputs n → Timely (s .tall) (s .lines) → (n ≡ 0) ⊎ (mostOutputs < n) → Refuses s c 3
+  outProducts : (n : ℕ) → kindOf c ≡ Products n → Timely (s .stated) (s .lines) → mostProducts < n → Refuses s c 3
   -- 4: `.p` differs from the cube lines read
-  differs : (p : ℕ) → kindOf c ≡ End → missing (s .wide) ≡ false → missing (s .tall) ≡ false → s .stated ≡ some p → (p ≡ length (s .lines) → ⊥) → Refuses s c 4
+  differs : (p : ℕ) → kindOf c ≡ End → missing (s .wide) ≡ false → missing (s .tall) ≡ false
+      → s .stated ≡ some p → (p ≡ length (s .lines) → ⊥) → Refuses s c 4
   -- 6: rows pass 1,024, before any is dropped
-  over : (n m : ℕ) (l : CubeLine) → kindOf c ≡ Other → s .wide ≡ some n → s .tall ≡ some m → cubeLineOf n m c ≡ some l → mostRows < total rowsIn (s .lines) + rowsIn l → Refuses s c 6
+  over : (n m : ℕ) (l : CubeLine) → kindOf c ≡ Other → s .wide ≡ some n → s .tall ≡ some m → cubeLineOf n m c ≡ some l
+      → mostRows < total rowsIn (s .lines) + rowsIn l → Refuses s c 6
+
+-- the numbers of refusals that a line can have
+abbrev pub isLine : ℕ → Bool
+isLine k = mem k (2 ∷ 3 ∷ 4 ∷ 6 ∷ [])
+
+-- what a line does
+pub data Does (s : State) (c : List ℕ) : Turn → Type 0 where
+  goes : {t : State} → Goes s c t → Does s c (next t)
+  closes : Closes s c → Does s c (done s)
+  refuses : {r : ℕ} → Refuses s c r → Does s c (refuse r)
+
+-- lines read in turn from s to t, none of which is the last or refused
+pub data Read : State → List (List ℕ) → State → Type 0 where
+  nothing : {s : State} → Read s [] s
+  line : {s t u : State} {l : List ℕ} {ls : List (List ℕ)} → Goes s (content l) t → Read t ls u → Read s (l ∷ ls) u
 
 -- ---- the outcome of lines from number k on: accepted at the line that ends the table, refused at a line, or by 5 where none is left
 
 pub data Ended (k : ℕ) (s : State) : List (List ℕ) → Outcome → Type 0 where
-  whole : (ls : List (List ℕ)) (l : List ℕ) (rest : List (List ℕ)) {t : State} → Read s ls t → Closes t (content l) → Ended k s (ls ++ (l ∷ rest)) (accepted t)
-  stopped : (ls : List (List ℕ)) (l : List ℕ) (rest : List (List ℕ)) {t : State} {r : ℕ} → Read s ls t → Refuses t (content l) r → Ended k s (ls ++ (l ∷ rest)) (refused r (k + length ls))
-  short : (ls : List (List ℕ)) {t : State} → Read s ls t → Ended k s ls (refused 5 0)
+  whole : (ls : List (List ℕ)) (l : List ℕ) (rest : List (List ℕ)) {t : State}
+      → Read s ls t → Closes t (content l) → Ended k s (ls ++ (l ∷ rest)) (accepted t)
+  stopped : (ls : List (List ℕ)) (l : List ℕ) (rest : List (List ℕ)) {t : State} {r : ℕ}
+      → Read s ls t → Refuses t (content l) r → Ended k s (ls ++ (l ∷ rest)) (refusedAt r (k + length ls))
+  short : (ls : List (List ℕ)) {t : State} → Read s ls t → Ended k s ls (refusedAt 5 0)
+
+-- ---- what was read is what is written: `.i` and `.o` once each, `.p` at most once, and the cube lines in their order
+
+pub record Says (t : List ℕ) (s : State) : Type 0 where
+  pub inputs : inputsIn t ≡ inputsOf t ∷ []
+  pub wide : s .wide ≡ some (inputsOf t)
+  pub outputs : outputsIn t ≡ outputsOf t ∷ []
+  pub tall : s .tall ≡ some (outputsOf t)
+  pub products : productsIn t ≡ listed (s .stated)
+  pub lines : s .lines ≡ cubeLinesOf t

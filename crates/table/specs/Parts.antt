@@ -18,8 +18,8 @@ use Rattle.table.specs.Meaning.{Bounded}
 use Rattle.table.specs.declared.Answer.the-variants as Answer
 use Rattle.table.specs.declared.Scanned.{Scanned}
 use Rattle.table.specs.declared.State.{State}
-use Rattle.table.specs.declared.Step.{Step}
-use Rattle.table.specs.declared.Step.the-variants.{Next, Done, Refused}
+use Rattle.table.specs.declared.Turn.{Turn}
+use Rattle.table.specs.declared.Turn.the-variants.{Next, Done, Refused}
 
 -- ---- reading
 
@@ -44,24 +44,24 @@ pub record Stands (t : table.State) (s : State) (words marks : List ℕ) : Type 
   pub masks : take (s .kept) marks ≡ map (λ (c : CubeLine). packed (c .marks)) (marked (t .lines))
 
 -- a line goes on, ends the table or is refused
-abbrev pub LineStepped : table.Step → Step → List ℕ → List ℕ → Type 0
-LineStepped (table.next t) (Next s) words marks = Stands t s words marks
-LineStepped (table.next t) (Done s) words marks = ⊥
-LineStepped (table.next t) (Refused k) words marks = ⊥
-LineStepped (table.done t) (Next s) words marks = ⊥
-LineStepped (table.done t) (Done s) words marks = Stands t s words marks
-LineStepped (table.done t) (Refused k) words marks = ⊥
-LineStepped (table.refuse r) (Next s) words marks = ⊥
-LineStepped (table.refuse r) (Done s) words marks = ⊥
-LineStepped (table.refuse r) (Refused k) words marks = k ≡ r
+abbrev pub LineTurned : table.Turn → Turn → List ℕ → List ℕ → Type 0
+LineTurned (table.next t) (Next s) words marks = Stands t s words marks
+LineTurned (table.next t) (Done s) words marks = ⊥
+LineTurned (table.next t) (Refused k) words marks = ⊥
+LineTurned (table.done t) (Next s) words marks = ⊥
+LineTurned (table.done t) (Done s) words marks = Stands t s words marks
+LineTurned (table.done t) (Refused k) words marks = ⊥
+LineTurned (table.refuse r) (Next s) words marks = ⊥
+LineTurned (table.refuse r) (Done s) words marks = ⊥
+LineTurned (table.refuse r) (Refused k) words marks = k ≡ r
 
 -- of whatever was read and now stands so, the answer is what the line does to it, and the words and marks stay
-abbrev pub Answers : (table.State → table.Step) → State → Step → Type 0
-Answers f s r = (t : table.State) (words marks : List ℕ) → Bounded t → Stands t s words marks → LineStepped (f t) r words marks
+abbrev pub Answers : (table.State → table.Turn) → State → Turn → Type 0
+Answers f s r = (t : table.State) (words marks : List ℕ) → Bounded t → Stands t s words marks → LineTurned (f t) r words marks
 
 -- of a number that is missing while 0 is held: the answer is what its line does, s being what stands with the number
-abbrev pub Numbers : ℕ → Bool → State → Step → Type 0
-Numbers held fits s r = (o : Option ℕ) (t : table.State) (words marks : List ℕ) → table.missing o ≡ eqb held 0 → Stands t s words marks → LineStepped (table.numberLine (table.inTime o (t .lines)) fits t) r words marks
+abbrev pub Numbers : ℕ → Bool → State → Turn → Type 0
+Numbers held fits s r = (o : Option ℕ) (t : table.State) (words marks : List ℕ) → table.missing o ≡ eqb held 0 → Stands t s words marks → LineTurned (table.numberLine (table.inTime o (t .lines)) fits t) r words marks
 
 -- there are 1,024 places for cubes and for masks, and the numbers leave room in them
 pub record Roomy (s : State) (words marks : List ℕ) : Type 0 where
@@ -72,8 +72,8 @@ pub record Roomy (s : State) (words marks : List ℕ) : Type 0 where
   pub masks : length marks ≡ 1024
 
 -- the same where the words and marks may have changed
-abbrev pub Leaves : (table.State → table.Step) → State → Step → List ℕ → List ℕ → List ℕ → List ℕ → Type 0
-Leaves f s r words marks words' marks' = (t : table.State) → Bounded t → Stands t s words marks → LineStepped (f t) r words' marks'
+abbrev pub Leaves : (table.State → table.Turn) → State → Turn → List ℕ → List ℕ → List ℕ → List ℕ → Type 0
+Leaves f s r words marks words' marks' = (t : table.State) → Bounded t → Stands t s words marks → LineTurned (f t) r words' marks'
 
 -- of a cube line with this cube, mask and number of rows the answer stands for one more
 abbrev pub Keeps : State → List ℕ → ℕ → ℕ → State → List ℕ → List ℕ → List ℕ → List ℕ → Type 0
@@ -90,16 +90,16 @@ pub record Ready (text words marks : List ℕ) : Type 0 where
   pub places : length words ≡ 2048
   pub masks : length marks ≡ 1024
 
--- the answer to a line that is the last to be read: what was read, or the number and the line
-abbrev pub stoppedAt : Step → ℕ → State → Scanned
+-- the answer to a line that is the last to be read: what was read, or the refusal
+abbrev pub stoppedAt : Turn → ℕ → State → Scanned
 stoppedAt (Next t) line s = record { answer = Answer.Read; state = t }
 stoppedAt (Done t) line s = record { answer = Answer.Read; state = t }
-stoppedAt (Refused k) line s = record { answer = Answer.Refused k line; state = s }
+stoppedAt (Refused k) line s = record { answer = Answer.Refused (record { number = k; line = line }); state = s }
 
--- the outcome of the lines: what was read, or the number and the line
+-- the outcome of the lines: what was read, or the refusal
 abbrev pub Scans : table.Outcome → Scanned → List ℕ → List ℕ → Type 0
 Scans (table.accepted t) r words marks = (r .answer ≡ Answer.Read) × Stands t (r .state) words marks
-Scans (table.refused k l) r words marks = r .answer ≡ Answer.Refused k l
+Scans (table.refused q) r words marks = r .answer ≡ Answer.Refused q
 
 -- ---- building
 

@@ -12,6 +12,7 @@ use Rattle.network.specs.Held.{mostInputs, mostOutputs, upTo}
 use Rattle.table_lines.specs.Text.{linesOf, content}
 use Rattle.table_kinds.specs.Kinds.{kindOf}
 use Rattle.table_rows.specs.Lines.{CubeLine, cubeLineOf, rowsIn, cubeOf}
+use Rattle.table.specs.declared.Refusal.{Refusal}
 use Rattle.table_kinds.specs.declared.Kind.{Kind}
 use Rattle.table_kinds.specs.declared.Kind.the-variants.{Empty, Inputs, Outputs, Products, End, Other}
 
@@ -42,10 +43,11 @@ missing (some n) = false
 abbrev pub inTime : Option ℕ → List CubeLine → Bool
 inTime o l = missing o && isNil l
 
-pub data Step : Type 0 where
-  next : State → Step
-  done : State → Step
-  refuse : ℕ → Step
+-- a line goes on, ends the table, or is refused by a number
+pub data Turn : Type 0 where
+  next : State → Turn
+  done : State → Turn
+  refuse : ℕ → Turn
 
 -- what has been read, with a number or a cube line more
 abbrev pub withWide : State → ℕ → State
@@ -61,17 +63,17 @@ abbrev pub withLine : State → CubeLine → State
 withLine s l = record { wide = s .wide; tall = s .tall; stated = s .stated; lines = s .lines ++ (l ∷ []) }
 
 -- a number's line: 2 where it is repeated or too late, 3 where the number is out of range
-abbrev pub numberLine : Bool → Bool → State → Step
+abbrev pub numberLine : Bool → Bool → State → Turn
 numberLine timely fits s = cond timely (cond fits (next s) (refuse 3)) (refuse 2)
 
 -- `.i N`, `.o N`, `.p N`
-unfoldable pub setWide : ℕ → State → Step
+unfoldable pub setWide : ℕ → State → Turn
 setWide n s = numberLine (inTime (s .wide) (s .lines)) (upTo mostInputs n) (withWide s n)
 
-unfoldable pub setTall : ℕ → State → Step
+unfoldable pub setTall : ℕ → State → Turn
 setTall n s = numberLine (inTime (s .tall) (s .lines)) (upTo mostOutputs n) (withTall s n)
 
-unfoldable pub setStated : ℕ → State → Step
+unfoldable pub setStated : ℕ → State → Turn
 setStated n s = numberLine (inTime (s .stated) (s .lines)) (leb n mostProducts) (withStated s n)
 
 -- `.p` is the number of cube lines read, where it is there
@@ -80,21 +82,22 @@ rightCount none l = true
 rightCount (some p) l = eqb p (length l)
 
 -- `.e`: 2 while `.i` or `.o` is missing, 4 where `.p` differs
-unfoldable pub finish : State → Step
-finish s = cond (missing (s .wide)) (refuse 2) (cond (missing (s .tall)) (refuse 2) (cond (rightCount (s .stated) (s .lines)) (done s) (refuse 4)))
+unfoldable pub finish : State → Turn
+finish s =
+    cond (missing (s .wide)) (refuse 2) (cond (missing (s .tall)) (refuse 2) (cond (rightCount (s .stated) (s .lines)) (done s) (refuse 4)))
 
 -- a cube line more: 6 where its rows pass 1,024, before any is dropped
-abbrev pub addLine : Option CubeLine → State → Step
+abbrev pub addLine : Option CubeLine → State → Turn
 addLine none s = refuse 2
 addLine (some l) s = cond (leb (total rowsIn (s .lines) + rowsIn l) mostRows) (next (withLine s l)) (refuse 6)
 
 -- a cube line: 2 while `.i` or `.o` is missing, or where it is none
-abbrev pub cubeLine : Option ℕ → Option ℕ → List ℕ → State → Step
+abbrev pub cubeLine : Option ℕ → Option ℕ → List ℕ → State → Turn
 cubeLine none m c s = refuse 2
 cubeLine (some n) none c s = refuse 2
 cubeLine (some n) (some m) c s = addLine (cubeLineOf n m c) s
 
-abbrev pub byKind : Kind → List ℕ → State → Step
+abbrev pub byKind : Kind → List ℕ → State → Turn
 byKind Empty c s = next s
 byKind (Inputs n) c s = setWide n s
 byKind (Outputs n) c s = setTall n s
@@ -103,22 +106,27 @@ byKind End c s = finish s
 byKind Other c s = cubeLine (s .wide) (s .tall) c s
 
 -- one line read
-unfoldable pub readLine : List ℕ → State → Step
+unfoldable pub readLine : List ℕ → State → Turn
 readLine l s = byKind (kindOf (content l)) (content l) s
 
--- the table, or the number and line of a refusal
+-- the table, or its refusal
 pub data Outcome : Type 0 where
   accepted : State → Outcome
-  refused : ℕ → ℕ → Outcome
+  refused : Refusal → Outcome
+
+-- by number r, at line k
+abbrev pub refusedAt : ℕ → ℕ → Outcome
+refusedAt r k = refused (record { number = r; line = k })
 
 -- lines in turn, k being the number of the first
 unfoldable pub readLines : ℕ → List (List ℕ) → State → Outcome
-readLines k [] s = refused 5 0
-readLines k (l ∷ ls) s = elim (readLine l s) [ next t ↦ readLines (suc k) ls t | done t ↦ accepted t | refuse r ↦ refused r k ]
+readLines k [] s = refusedAt 5 0
+readLines k (l ∷ ls) s =
+    elim (readLine l s) [ next t ↦ readLines (suc k) ls t | done t ↦ accepted t | refuse r ↦ refusedAt r k ]
 
 -- 1 is tested first
 unfoldable pub readText : List ℕ → Outcome
-readText t = cond (ltb mostBytes (length t)) (refused 1 0) (readLines 1 (linesOf t) start)
+readText t = cond (ltb mostBytes (length t)) (refusedAt 1 0) (readLines 1 (linesOf t) start)
 
 -- ---- the network of a table
 

@@ -31,10 +31,15 @@ const PRODUCTS: u32 = 32768;
 
 const ROWS: u64 = 1024;
 
-// A refusal has its number and its line.
+// The number and the line of a refusal.
+pub struct Refusal {
+    pub number: u32,
+    pub line: u32,
+}
+
 pub enum Answer {
     Read,
-    Refused(u32, u32),
+    Refused(Refusal),
 }
 
 // A refusal carries a network of zeros.
@@ -55,7 +60,7 @@ struct State {
 }
 
 // A line goes on, ends the table, or is refused by a number.
-enum Step {
+enum Turn {
     Next(State),
     Done(State),
     Refused(u32),
@@ -63,26 +68,26 @@ enum Step {
 
 // The line of a number that is missing while `held` is 0, where s is what stands with it: 2 where it is repeated or too late, 3
 // where it is out of range.
-fn number_line(s: State, held: usize, least: u32, n: u32, most: u32) -> Step
+fn number_line(s: State, held: usize, least: u32, n: u32, most: u32) -> Turn
     ensures { λ r. ⌜ Numbers held (leb least n && leb n most) s r ⌝ }
 {
     if held != 0 {
-        return Step::Refused(2);
+        return Turn::Refused(2);
     }
     if s.lines != 0 {
-        return Step::Refused(2);
+        return Turn::Refused(2);
     }
     if n < least {
-        return Step::Refused(3);
+        return Turn::Refused(3);
     }
     if n > most {
-        return Step::Refused(3);
+        return Turn::Refused(3);
     }
-    Step::Next(s)
+    Turn::Next(s)
 }
 
 // `.i N`.
-fn set_inputs(s: State, n: u32) -> Step
+fn set_inputs(s: State, n: u32) -> Turn
     ensures { λ r. ⌜ Answers (setWide n) s r ⌝ }
 {
     let mut t = s;
@@ -91,7 +96,7 @@ fn set_inputs(s: State, n: u32) -> Step
 }
 
 // `.o N`.
-fn set_outputs(s: State, n: u32) -> Step
+fn set_outputs(s: State, n: u32) -> Turn
     ensures { λ r. ⌜ Answers (setTall n) s r ⌝ }
 {
     let mut t = s;
@@ -100,7 +105,7 @@ fn set_outputs(s: State, n: u32) -> Step
 }
 
 // `.p N`.
-fn set_stated(s: State, n: u32) -> Step
+fn set_stated(s: State, n: u32) -> Turn
     ensures { λ r. ⌜ Answers (setStated n) s r ⌝ }
 {
     let mut t = s;
@@ -109,22 +114,22 @@ fn set_stated(s: State, n: u32) -> Step
 }
 
 // `.e`.
-fn finish(s: State) -> Step
+fn finish(s: State) -> Turn
     ensures { λ r. ⌜ Answers finish s r ⌝ }
 {
     if s.inputs == 0 {
-        return Step::Refused(2);
+        return Turn::Refused(2);
     }
     if s.outputs == 0 {
-        return Step::Refused(2);
+        return Turn::Refused(2);
     }
     if s.stated == 0 {
-        return Step::Done(s);
+        return Turn::Done(s);
     }
     if s.stated - 1 != s.lines {
-        return Step::Refused(4);
+        return Turn::Refused(4);
     }
-    Step::Done(s)
+    Turn::Done(s)
 }
 
 // One more cube line; its cube and mask are kept where it makes a row.
@@ -154,33 +159,33 @@ fn keep_line(
 }
 
 // A cube line: 2 while `.i` or `.o` is missing, or where it is none; 6 where its rows pass the limit.
-fn add_line(c: &[u8], s: State, words: &mut [u64], marks: &mut [u64]) -> Step
+fn add_line(c: &[u8], s: State, words: &mut [u64], marks: &mut [u64]) -> Turn
     requires { ⌜ Roomy s (now words) (now marks) ⌝ }
     ensures { λ r. ⌜ Leaves (λ (t : table.State). cubeLine (t .wide) (t .tall) (now (c .entry)) t) s r (now (words .entry)) (now (marks .entry)) (now (words .exit)) (now (marks .exit)) ⌝ }
 {
     if s.inputs == 0 {
-        return Step::Refused(2);
+        return Turn::Refused(2);
     }
     if s.outputs == 0 {
-        return Step::Refused(2);
+        return Turn::Refused(2);
     }
     let Parsed::Line(cube, mask, rows) = table_rows::cube_line(c, s.inputs, s.outputs) else {
-        return Step::Refused(2);
+        return Turn::Refused(2);
     };
     if rows > ROWS - s.rows {
-        return Step::Refused(6);
+        return Turn::Refused(6);
     }
-    Step::Next(keep_line(s, cube, mask, rows, words, marks))
+    Turn::Next(keep_line(s, cube, mask, rows, words, marks))
 }
 
 // What is left of a line, by its kind.
-fn take_line(c: &[u8], s: State, words: &mut [u64], marks: &mut [u64]) -> Step
+fn take_line(c: &[u8], s: State, words: &mut [u64], marks: &mut [u64]) -> Turn
     requires { ⌜ Roomy s (now words) (now marks) ⌝ }
     ensures { λ r. ⌜ Leaves (byKind (kindOf (now (c .entry))) (now (c .entry))) s r (now (words .entry)) (now (marks .entry)) (now (words .exit)) (now (marks .exit)) ⌝ }
 {
     let kind = table_kinds::kind_of(c);
     match kind {
-        Kind::Empty => Step::Next(s),
+        Kind::Empty => Turn::Next(s),
         Kind::Inputs(n) => set_inputs(s, n),
         Kind::Outputs(n) => set_outputs(s, n),
         Kind::Products(n) => set_stated(s, n),
@@ -196,20 +201,20 @@ struct Scanned {
 }
 
 // The answer to a line that is the last to be read.
-fn stopped(step: Step, line: u32, s: State) -> Scanned
-    ensures { λ r. ⌜ r ≡ stoppedAt step line s ⌝ }
+fn stopped(turn: Turn, line: u32, s: State) -> Scanned
+    ensures { λ r. ⌜ r ≡ stoppedAt turn line s ⌝ }
 {
-    match step {
-        Step::Next(t) => Scanned {
+    match turn {
+        Turn::Next(t) => Scanned {
             answer: Answer::Read,
             state: t,
         },
-        Step::Done(t) => Scanned {
+        Turn::Done(t) => Scanned {
             answer: Answer::Read,
             state: t,
         },
-        Step::Refused(k) => Scanned {
-            answer: Answer::Refused(k, line),
+        Turn::Refused(k) => Scanned {
+            answer: Answer::Refused(Refusal { number: k, line }),
             state: s,
         },
     }
@@ -232,16 +237,16 @@ fn scan(text: &[u8], words: &mut [u64], marks: &mut [u64]) -> Scanned
     let mut at = 0;
     while at <= text.len() {
         let e = table_lines::line_end(text, at);
-        let step = take_line(table_lines::content_of(&text[at..e]), s, words, marks);
-        let Step::Next(t) = step else {
-            return stopped(step, line, s);
+        let turn = take_line(table_lines::content_of(&text[at..e]), s, words, marks);
+        let Turn::Next(t) = turn else {
+            return stopped(turn, line, s);
         };
         s = t;
         at = e + 1;
         line += 1;
     }
     Scanned {
-        answer: Answer::Refused(5, 0),
+        answer: Answer::Refused(Refusal { number: 5, line: 0 }),
         state: s,
     }
 }
@@ -342,7 +347,7 @@ pub fn read(text: &[u8]) -> Table
     ensures { λ r. ⌜ Told (readText (now (text .entry))) r ⌝ }
 {
     if text.len() > BYTES {
-        return refused(Answer::Refused(1, 0));
+        return refused(Answer::Refused(Refusal { number: 1, line: 0 }));
     }
     let mut words = [0u64; 2 * ROWS as usize];
     let mut marks = [0u64; ROWS as usize];

@@ -16,8 +16,9 @@ use Rattle.sets.proofs.Truth.{refuted}
 use Rattle.sets.proofs.Sets.{same-eq}
 use Rattle.sets.proofs.Places.{drop-next}
 use Rattle.letters.specs.Meaning.{readBack, isDigit}
-use Rattle.table_lines.specs.Text.{isBlank, trimFront}
+use Rattle.table_lines.specs.Text.{startsBlank, trimFront}
 use Rattle.table_lines.proofs.Ends.{front-le}
+use Rattle.table_lines.proofs.Blanks.{blank-shorter, shorter-blank}
 use Rattle.table_kinds.specs.Kinds.{numberOf, argument, named, kindOf}
 use Rattle.table_kinds.specs.Parts.{lettered, ends}
 use Rattle.table_kinds.specs.declared.Kind.the-variants.{Empty, Inputs, Outputs, Products, End, Other}
@@ -91,22 +92,12 @@ digits-few i n h k = let q : i + (4 - i) ≡ 4 = omega arith in omega (arith, te
 
 -- no blank stands at the front
 pub argument-solid : (t : List ℕ) → length (trimFront t) ≡ length t → none ≡ argument t
-unfolding argument trimFront
-argument-solid [] h = refl
-argument-solid (b ∷ t) h = go (isBlank b) h
-  where
-    go : (e : Bool) → length (cond e (trimFront t) (b ∷ t)) ≡ suc (length t) → none ≡ cond e (numberOf (trimFront t)) none
-    go true k = absurd (omega (arith, front-le t))
-    go false k = refl
+unfolding argument
+argument-solid t h = rw (refuted {b = startsBlank t} (λ e. omega (arith, shorter-blank t e)))
 
 pub argument-read : (t : List ℕ) → (length (trimFront t) ≡ length t → ⊥) → numberOf (trimFront t) ≡ argument t
-unfolding argument trimFront
-argument-read [] h = absurd (h refl)
-argument-read (b ∷ t) h = go (isBlank b) h
-  where
-    go : (e : Bool) → (length (cond e (trimFront t) (b ∷ t)) ≡ suc (length t) → ⊥) → numberOf (cond e (trimFront t) (b ∷ t)) ≡ cond e (numberOf (trimFront t)) none
-    go true k = refl
-    go false k = absurd (k refl)
+unfolding argument
+argument-read t h = rw (blank-shorter t (omega (arith, front-le t)))
 
 -- ---- named numbers
 

@@ -8,18 +8,20 @@ use lib.ListN.{length, take, drop}
 use Rattle.sets.specs.Lists.{all}
 use Rattle.sets.specs.Sets.{same}
 use Rattle.letters.specs.Meaning.{readBack, isDigit}
-use Rattle.table_lines.specs.Text.{isBlank, trimFront}
+use Rattle.table_lines.specs.Text.{startsBlank, trimFront}
 use Rattle.table_kinds.specs.declared.Kind.{Kind}
 use Rattle.table_kinds.specs.declared.Kind.the-variants.{Empty, Inputs, Outputs, Products, End, Other}
 
+abbrev pub mostDigits : ℕ
+mostDigits = 5
+
 -- one to five digits
 unfoldable pub numberOf : List ℕ → Option ℕ
-numberOf t = cond (leb 1 (length t) && (leb (length t) 5 && all isDigit t)) (some (readBack 0 t)) none
+numberOf t = cond (leb 1 (length t) && (leb (length t) mostDigits && all isDigit t)) (some (readBack 0 t)) none
 
 -- blanks, then a number of one to five digits and nothing else
 unfoldable pub argument : List ℕ → Option ℕ
-argument [] = none
-argument (b ∷ t) = cond (isBlank b) (numberOf (trimFront t)) none
+argument t = cond (startsBlank t) (numberOf (trimFront t)) none
 
 abbrev pub withNumber : (ℕ → Kind) → Option ℕ → Kind
 withNumber k none = Other

@@ -1,2 +1,3 @@
 pub mod Ends
 pub mod Lining
+pub mod Blanks

@@ -1,13 +1,25 @@
 -- The text of a table as bytes: lines, comments, blanks.
-use Prim.Native.Nat.{ℕ}
-use mathlib.Core.Bool.{Bool, cond, _&&_, _||_}
+use Prim.Native.Nat.{ℕ, _≤_}
+use mathlib.Core.Path.{_≡_}
+use mathlib.Core.Bool.{Bool, true, false, cond, _&&_, _||_}
 use mathlib.Core.List.{List, [], _∷_}
 use lib.Dec.{eqb}
-use Rattle.sets.specs.Lists.{isNil}
+use lib.ListN.{length}
+use Rattle.sets.specs.Lists.{all, isNil}
 
 -- space, tab and CR
 abbrev pub isBlank : ℕ → Bool
 isBlank b = eqb b 32 || (eqb b 9 || eqb b 13)
+
+-- a blank stands at the front
+abbrev pub startsBlank : List ℕ → Bool
+startsBlank [] = false
+startsBlank (b ∷ t) = isBlank b
+
+-- one or more blanks
+pub record Blanks (b : List ℕ) : Type 0 where
+  pub one : 1 ≤ length b
+  pub each : all isBlank b ≡ true
 
 -- the first line
 unfoldable pub lineOf : List ℕ → List ℕ

@@ -3,7 +3,7 @@ use Prim.Native.Nat.{ℕ, suc, _+_, _-_, _*_, _%_, _^_, _<_, _≤_}
 use mathlib.Core.Path.{_≡_, refl, sym, _∙_, ap}
 use mathlib.Core.Bool.{Bool, true, false, cond, _&&_, _||_, and-false, false≢true}
 use mathlib.Core.List.{List, [], _∷_, _++_, map, append-nil}
-use mathlib.Core.Option.{none, some, Option·some-injective}
+use mathlib.Core.Option.{none, some}
 use native.Mathlib.Numerals.{add-one}
 use native.Mathlib.Omega.{arith}
 use lib.Dec.{eqb, leb, ltb}
@@ -17,9 +17,9 @@ use Rattle.sets.specs.Masks.{packed}
 use Rattle.sets.proofs.Truth.{both, Stand, below, equal, beyond, stand}
 use Rattle.sets.proofs.Lists.{all-in, all-out, all-cong}
 use Rattle.cube.specs.Cube.{joined}
-use Rattle.table_lines.specs.Text.{isBlank, trimFront}
-use Rattle.table_lines.proofs.Ends.{front-le}
-use Rattle.table_rows.specs.Lines.{isPlace, isMark, CubeLine, startsBlank, cubeLineOf, cubeFrom}
+use Rattle.table_lines.specs.Text.{startsBlank, trimFront}
+use Rattle.table_lines.proofs.Blanks.{blank-shorter, shorter-blank}
+use Rattle.table_rows.specs.Lines.{isPlace, isMark, CubeLine, cubeLineOf, cubeFrom}
 use Rattle.table_rows.specs.Answers.{entryOf, parsing}
 use Rattle.table_rows.specs.Parts.{isSign, placed, roomy, hasMarks, entered, markedLine}
 use Rattle.table_rows.proofs.Covering.{from-bounds}
@@ -162,21 +162,6 @@ module _ (m : ℕ) (o : List ℕ) where
   pub marks-length : hasMarks m o ≡ true → length o ≡ m
   marks-length e = eqb-true (length o) m ((both (eqb (length o) m) (all isMark o) e) .0)
 
--- a blank stands at the front exactly where trimming takes something off
-blank-shorter : (r : List ℕ) → length (trimFront r) < length r → startsBlank r ≡ true
-unfolding trimFront
-blank-shorter [] h = absurd (omega arith)
-blank-shorter (b ∷ r) h = go (isBlank b) h
-  where
-    go : (e : Bool) → length (cond e (trimFront r) (b ∷ r)) < suc (length r) → e ≡ true
-    go true k = refl
-    go false k = absurd (omega arith)
-
-shorter-blank : (r : List ℕ) → startsBlank r ≡ true → length (trimFront r) < length r
-unfolding trimFront
-shorter-blank [] h = absurd (false≢true h)
-shorter-blank (b ∷ r) h = rw h (omega (arith, front-le r))
-
 -- the numbers are tested, then the places, and then the marks
 pub parsing-parts : (n m : ℕ) (c : List ℕ)
     → cond (roomy (length c) n m) (cond (all isPlace (take n c)) (markedLine m (take n c) (trimFront (drop n c))) none) none ≡ parsing n m c
@@ -221,28 +206,3 @@ parsing-parts n m c = go (leb n 32) (leb m 32) (ltb (n + m) (length c)) (eqb (le
     go true true true true true false true t i j k = absurd (false≢true (j refl refl))
     go true true true true true true true false i j k = refl
     go true true true true true true true true i j k = rw (packed-ones (map (eqb 49) o))
-
--- ---- a cube line's parts
-
-line-parts : (p o : List ℕ) (n m : ℕ) (s : Bool) (l : CubeLine) (b : Bool)
-    → (eqb (length p) n && (all isPlace p && (s && (eqb (length o) m && all isMark o)))) ≡ b
-    → cond b (some (record { places = p; marks = map (eqb 49) o })) none ≡ some l
-    → (length (l .places) ≡ n) × (all isPlace (l .places) ≡ true) × (length (l .marks) ≡ m)
-line-parts p o n m s l false t q = absurd (let z : _≡_ {A = ℕ} 0 1 = cc in omega arith)
-line-parts p o n m s l true t q =
-    let r = Option·some-injective _ _ q in
-    let w = both (eqb (length p) n) (all isPlace p && (s && (eqb (length o) m && all isMark o))) t in
-    let x = both (all isPlace p) (s && (eqb (length o) m && all isMark o)) (w .1) in
-    let y = both s (eqb (length o) m && all isMark o) (x .1) in
-    let z = both (eqb (length o) m) (all isMark o) (y .1) in (
-      ap (λ (k : CubeLine). length (k .places)) (sym r) ∙ eqb-true (length p) n (w .0),
-      ap (λ (k : CubeLine). all isPlace (k .places)) (sym r) ∙ x .0,
-      ap (λ (k : CubeLine). length (k .marks)) (sym r) ∙ length-map o (eqb 49) ∙ eqb-true (length o) m (z .0),
-    )
-
--- a cube line of n inputs and m outputs has n places and m marks
-pub line-whole : (n m : ℕ) (c : List ℕ) (l : CubeLine) → cubeLineOf n m c ≡ some l
-    → (length (l .places) ≡ n) × (all isPlace (l .places) ≡ true) × (length (l .marks) ≡ m)
-unfolding cubeLineOf
-line-whole n m c l e = line-parts (take n c) (trimFront (drop n c)) n m (startsBlank (drop n c)) l
-    (eqb (length (take n c)) n && (all isPlace (take n c) && (startsBlank (drop n c) && (eqb (length (trimFront (drop n c))) m && all isMark (trimFront (drop n c)))))) refl e

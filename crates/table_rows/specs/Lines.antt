@@ -6,7 +6,7 @@ use mathlib.Core.Option.{Option, none, some}
 use lib.Dec.{eqb}
 use lib.ListN.{length, take, drop}
 use Rattle.sets.specs.Lists.{all, keep}
-use Rattle.table_lines.specs.Text.{isBlank, trimFront}
+use Rattle.table_lines.specs.Text.{startsBlank, trimFront}
 
 -- one of `0 1 -`
 abbrev pub isPlace : ℕ → Bool
@@ -20,10 +20,6 @@ isMark b = eqb b 48 || eqb b 49
 pub record CubeLine : Type 0 where
   pub places : List ℕ
   pub marks : List Bool
-
-abbrev pub startsBlank : List ℕ → Bool
-startsBlank [] = false
-startsBlank (b ∷ t) = isBlank b
 
 -- n of `0 1 -`, one or more blanks, m of `0 1`
 unfoldable pub cubeLineOf : ℕ → ℕ → List ℕ → Option CubeLine

@@ -42,7 +42,7 @@ returns-2 c =
     let n = c .before .before .before .before .before in
     let t = n .before .before .before .before .before .args .text .now in
     let q = c .before .enum-told2 .given in
-    text-refused _ _ t (n .before .before .before .if1 .left) (n .scan .result) (n .scan .ensures) (c .refused2 .result) _ _ (q .1) (c .refused2 .ensures)
+    text-refused _ _ t (n .before .before .before .if1 .left) (n .scan .result) (n .scan .ensures) (c .refused2 .result) _ (q .1) (c .refused2 .ensures)
 
 slice-aggregate-build : tie.Need-slice-aggregate-build
 slice-aggregate-build c = search needs

@@ -10,9 +10,9 @@ use Rattle.table.specs.Table.{start, readLines}
 use Rattle.table.specs.Parts.{Scans}
 use Rattle.table.specs.declared.State.{State}
 use Rattle.table.specs.declared.Scanned.{Scanned}
-use Rattle.table.specs.declared.Step.{Step}
-use Rattle.table.specs.declared.Step.the-variants.{Next}
-use Rattle.table.proofs.Step.{the-type}
+use Rattle.table.specs.declared.Turn.{Turn}
+use Rattle.table.specs.declared.Turn.the-variants.{Next}
+use Rattle.table.proofs.Turn.{the-type}
 use Rattle.table.proofs.Scanning.{stop-le, Reading, reading-first, reading-roomy, reading-over, reading-next, reading-stop}
 use borrow.Author.Needs.{needs}
 use Rattle.table.proofs.scan.Statement.{statement}
@@ -58,8 +58,8 @@ take-line-requires c κs =
     let s = h .before .before .before .before in
     reading-roomy (h .loop .inv .4) (omega (arith, s .pre .short, c .before .before .before .before .before .loop-test .taken)) (h .loop .inv .2) (h .loop .inv .3)
 
-enum-known-step : tie.Need-enum-known-step Inv-loop μ-loop
-enum-known-step c = search needs
+enum-known-turn : tie.Need-enum-known-turn Inv-loop μ-loop
+enum-known-turn c = search needs
 
 stopped-requires : tie.Need-stopped-requires Inv-loop μ-loop
 stopped-requires c κs = search needs
@@ -71,7 +71,7 @@ same-length-2 : tie.Need-same-length-2 Inv-loop μ-loop
 same-length-2 c = search needs
 
 -- a line that is not the first variant does not go on
-not-next : (p : Step) → (tagOf the-type p ≡ 1) ⊎ (tagOf the-type p ≡ 2) → (s : State) → p ≡ Next s → ⊥
+not-next : (p : Turn) → (tagOf the-type p ≡ 1) ⊎ (tagOf the-type p ≡ 2) → (s : State) → p ≡ Next s → ⊥
 not-next p (inl k) s i = omega (arith, ap (tagOf the-type) i)
 not-next p (inr k) s i = omega (arith, ap (tagOf the-type) i)
 
@@ -109,7 +109,7 @@ loop-again c =
       omega (arith, ends e, h .loop .inv .1),
       search needs,
       search needs,
-      reading-next (h .loop .inv .4) _ _ (t .take-line .result) (e .before .loop-test .taken) (e .line-end .ensures) (t .before .before .before .content-of .ensures) (t .take-line .ensures) _ (c .before .step .given .1),
+      reading-next (h .loop .inv .4) _ _ (t .take-line .result) (e .before .loop-test .taken) (e .line-end .ensures) (t .before .before .before .content-of .ensures) (t .take-line .ensures) _ (c .before .turn .given .1),
     )
 
 same-length-3 : tie.Need-same-length-3 Inv-loop μ-loop
@@ -134,7 +134,7 @@ scan-spec =
     part-content-of-end
     content-of-requires
     take-line-requires
-    enum-known-step
+    enum-known-turn
     stopped-requires
     same-length
     same-length-2
