@@ -24,7 +24,7 @@ struct Coming {
 fn read(a: Answer) -> Told {
     match a {
         Answer::Read => wire::found(0),
-        Answer::Refused(k, l) => wire::refused(k, l),
+        Answer::Refused(q) => wire::refused(q.number, q.line),
     }
 }
 

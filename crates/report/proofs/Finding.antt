@@ -7,16 +7,17 @@ use native.Mathlib.Omega.{arith}
 use lib.Dec.{ltb}
 use lib.ListN.{length, take, drop}
 use borrow.Author.Tests.{lt-ltb, le-ltb}
-use Rattle.network.specs.Held.{netOf, rules}
+use Rattle.network.specs.Held.{rules}
 use Rattle.network.specs.Net.{Net}
 use Rattle.extract_laws.specs.Run.{run}
 use Rattle.extract_divisor.specs.Divisor.{madeOf}
-use Rattle.table.specs.Table.{State, Outcome, accepted, refused, readText, tableNet}
+use Rattle.table.specs.Table.{readText}
 use Rattle.table.specs.Answers as table
+use Rattle.table.specs.declared.Refusal.{Refusal}
 use Rattle.table.specs.declared.Answer.the-variants.{Read, Refused}
 use Rattle.table.specs.declared.Table.{Table}
-use Rattle.table.proofs.Refusals.{accepted-complete}
-use Rattle.table.proofs.Keeping.{table-net, read-rules}
+use Rattle.table.proofs.Telling.{told-refused}
+use Rattle.table.proofs.Keeping.{read-net, read-rules}
 use Rattle.report.specs.Report.{ranText, outcomeText, reportOf}
 use Rattle.report.specs.Parts.{Falls, foundText, Steady, Explored}
 use Rattle.report.specs.Parts.Falls.{none}
@@ -29,43 +30,26 @@ use Rattle.report.proofs.Lines.{found-read, found-refused}
 -- ---- a table that was read
 
 module _ (t : List ℕ) (r : Table) (h : table.Told (readText t) r) where
-  -- the answer says what the outcome is
-  as-refused : (o : Outcome) → table.Told o r → (k l : ℕ) → r .answer ≡ Refused k l → o ≡ refused k l
-  as-refused (accepted s) q k l e = let a = q .0 in let z : _≡_ {A = ℕ} 0 1 = cc in absurd (omega arith)
-  as-refused (refused i j) q k l e = let a = q .0 in let x : i ≡ k = cc in let y : j ≡ l = cc in cc
-
-  as-accepted : (o : Outcome) → table.Told o r → r .answer ≡ Read → (s : State) × (o ≡ accepted s)
-  as-accepted (accepted s) q e = (s, refl)
-  as-accepted (refused i j) q e = let a = q .0 in let z : _≡_ {A = ℕ} 0 1 = cc in absurd (omega arith)
-
   -- of a refused table nothing is to be written but the refusal
-  pub found-refusal : (k l : ℕ) → r .answer ≡ Refused k l → (f : Findings) → (f .answer ≡ r .answer) × (f .first ≡ 0) × (f .steps .count ≡ 0) → Steady f × (foundText f ≡ reportOf t)
+  pub found-refusal : (k : Refusal) → r .answer ≡ Refused k → (f : Findings)
+      → (f .answer ≡ r .answer) × (f .first ≡ 0) × (f .steps .count ≡ 0) → Steady f × (foundText f ≡ reportOf t)
   unfolding reportOf outcomeText
-  found-refusal k l e f q = (
+  found-refusal k e f q = (
     record {
       numbered = record { first = omega (arith, q .1); few = omega (arith, q .2) };
       falls = subst (λ (i : ℕ). Falls (f .start) (map madeOf (take i (f .steps .list)))) (sym (q .2)) none;
     },
-    found-refused f k l (q .0 ∙ e) ∙ sym (ap outcomeText (as-refused (readText t) h k l e)),
+    found-refused f k (q .0 ∙ e) ∙ sym (ap outcomeText (told-refused r (readText t) h k e)),
   )
 
   module _ (e : r .answer ≡ Read) where
-    state : State
-    state = as-accepted (readText t) h e .0
-
-    is : readText t ≡ accepted state
-    unfolding state
-    is = as-accepted (readText t) h e .1
-
     pub found-rules : rules (r .network) ≡ true
-    found-rules = read-rules t r h state is
-
-    net : netOf (r .network) ≡ tableNet state
-    net = let c = accepted-complete t state is in table-net state (c .0) (c .1) (c .2) (r .network) ((subst (λ (o : Outcome). table.Told o r) is h) .1)
+    found-rules = read-rules t r h e
 
     pub found-run : (f : Findings) → Explored (r .network) f → Steady f × (foundText f ≡ reportOf t)
     unfolding reportOf outcomeText
-    found-run f x = (x .steady, found-read f (x .answer) ∙ x .text ∙ ap (λ (n : Net). ranText n (run 64 n)) net ∙ sym (ap outcomeText is))
+    found-run f x = let s = read-net t r h e in
+        (x .steady, found-read f (x .answer) ∙ x .text ∙ ap (λ (n : Net). ranText n (run 64 n)) (s .2) ∙ sym (ap outcomeText (s .1)))
 
 -- ---- the answers
 

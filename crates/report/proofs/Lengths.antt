@@ -31,8 +31,10 @@ use Rattle.extract_laws.proofs.Arranging.{in-order-literals, in-order-variables
 use Rattle.extract_laws.proofs.Running.{run-leads, run-few}
 use Rattle.extract_laws.proofs.Keeping.{worth-fit, run-within}
 use Rattle.table.specs.Table.{Outcome, accepted, refused, readText, tableNet}
+use Rattle.table.specs.Table.{mostBytes}
 use Rattle.table.specs.Meaning.{isLine}
-use Rattle.table.proofs.Refusals.{refused-line, text-long, accepted-complete}
+use Rattle.table.specs.declared.Refusal.{Refusal}
+use Rattle.table.proofs.Refusals.{refused-line, accepted-complete}
 use Rattle.report.specs.Report as report
 use Rattle.report.specs.Report.{divisorText, stepLine, stopText, runText, refusalText, ranText, outcomeText, reportOf}
 use Rattle.report.proofs.Lines.{field, lineEnd, plusWord, variableWord, equalsWord, weightWord, nowWord, startWord, endWord, refusedWord, lineWord, step-start, lines-none, lines-first, run-start, refusal-start}
@@ -133,10 +135,16 @@ ran-length n g w =
     (omega (arith, ap length o, leads-length (run-leads 64 n) (in-order-good n g) (omega (arith, in-order-literals n, w .literals))))
     (run-few 64 n)
 
-refusal-length : (k l : ℕ) → k < 10 → l < 100000 → length (refusalText k l) ≤ 4096
-refusal-length k l hk hl =
-    rw (refusal-start k l)
-    (omega (arith, length-append (field refusedWord k) (field lineWord l ++ lineEnd), length-append (field lineWord l) lineEnd, decimal-length 0 k hk, decimal-length 4 l hl))
+refusal-length : (q : Refusal) → q .number < 10 → q .line < 100000 → length (refusalText q) ≤ 4096
+refusal-length q hk hl =
+    rw (refusal-start q)
+    (omega (
+      arith,
+      length-append (field refusedWord (q .number)) (field lineWord (q .line) ++ lineEnd),
+      length-append (field lineWord (q .line)) lineEnd,
+      decimal-length 0 (q .number) hk,
+      decimal-length 4 (q .line) hl,
+    ))
 
 -- a text has one line more than line ends at most
 lines-length : (t : List ℕ) → length (linesOf t) ≤ suc (length t)
@@ -153,20 +161,20 @@ lines-length (b ∷ t) = go (eqb b 10) (lines-length t)
     go false h = omega (arith, onto-length (linesOf t))
 
 -- the numbers of the refusals of table texts, and their lines
-refused-length : (t : List ℕ) (k l : ℕ) → readText t ≡ refused k l → length (refusalText k l) ≤ 4096
-refused-length t k l e = go (refused-line t k l e) (decided (ltb 65536 (length t)))
+refused-length : (t : List ℕ) (q : Refusal) → readText t ≡ refused q → length (refusalText q) ≤ 4096
+refused-length t q e = go (refused-line t q e)
   where
-    go : ((k ≡ 1) × (l ≡ 0)) ⊎ (((k ≡ 5) × (l ≡ 0)) ⊎ ((isLine k ≡ true) × (1 ≤ l) × (l ≤ length (linesOf t)))) → (ltb 65536 (length t) ≡ true) ⊎ (ltb 65536 (length t) ≡ false) → length (refusalText k l) ≤ 4096
-    go (inl h) x = refusal-length k l (omega arith) (omega arith)
-    go (inr (inl h)) x = refusal-length k l (omega arith) (omega arith)
-    go (inr (inr h)) (inl x) = let z : refused k l ≡ refused 1 0 = sym e ∙ text-long t (ltb-true 65536 (length t) x) in let y : l ≡ 0 = cc in absurd (omega arith)
-    go (inr (inr h)) (inr x) =
-        refusal-length k l (ltb-true k 10 (all-out (λ i. ltb i 10) (of-mem k (2 ∷ 3 ∷ 4 ∷ 6 ∷ []) (h .0)) refl)) (omega (arith, lines-length t, ltb-false 65536 (length t) x))
+    go : ((q .number ≡ 1) × (q .line ≡ 0)) ⊎ (((q .number ≡ 5) × (q .line ≡ 0)) ⊎ ((isLine (q .number) ≡ true) × (1 ≤ q .line) × (q .line ≤ length (linesOf t)) × (length t ≤ mostBytes)))
+        → length (refusalText q) ≤ 4096
+    go (inl h) = refusal-length q (omega arith) (omega arith)
+    go (inr (inl h)) = refusal-length q (omega arith) (omega arith)
+    go (inr (inr h)) =
+        refusal-length q (ltb-true (q .number) 10 (all-out (λ i. ltb i 10) (of-mem (q .number) (2 ∷ 3 ∷ 4 ∷ 6 ∷ []) (h .0)) refl)) (omega (arith, lines-length t, h .2))
 
 outcome-length : (t : List ℕ) (o : Outcome) → readText t ≡ o → length (outcomeText o) ≤ 4096
 unfolding outcomeText
 outcome-length t (accepted s) e = let c = accepted-complete t s e in ran-length (tableNet s) (table-good s (c .0) (c .1) (c .2)) (table-within s (c .0) (c .1) (c .2))
-outcome-length t (refused k l) e = refused-length t k l e
+outcome-length t (refused q) e = refused-length t q e
 
 -- 4,096 bytes are room for every report
 pub report-length : (t : List ℕ) → length (reportOf t) ≤ 4096

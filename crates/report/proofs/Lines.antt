@@ -14,6 +14,7 @@ use Rattle.extract_laws.specs.Run.{Stop, done, asked, numbers, rows, Made}
 use Rattle.extract_divisor.specs.Divisor.{madeOf, noStep}
 use Rattle.extract_divisor.specs.declared.Step.{Step}
 use Rattle.extract.specs.Answers.{stopOf}
+use Rattle.table.specs.declared.Refusal.{Refusal}
 use Rattle.table.specs.declared.Answer.the-variants.{Read, Refused}
 use Rattle.report.specs.Parts.{madeIn, runOf, unlessRefused, foundText}
 use Rattle.report.specs.declared.Findings.{Findings}
@@ -103,9 +104,9 @@ pub run-start : (n a : ℕ) (l : List Made) (e : ℕ) (r : Stop) → runText n a
 unfolding runText
 run-start n a l e r = refl
 
-pub refusal-start : (k l : ℕ) → refusalText k l ≡ field refusedWord k ++ (field lineWord l ++ lineEnd)
+pub refusal-start : (q : Refusal) → refusalText q ≡ field refusedWord (q .number) ++ (field lineWord (q .line) ++ lineEnd)
 unfolding refusalText
-refusal-start k l = refl
+refusal-start q = refl
 
 -- the stop reasons
 
@@ -135,6 +136,6 @@ pub found-read : (f : Findings) → f .answer ≡ Read → foundText f ≡ runOf
 unfolding foundText
 found-read f e = ap (λ a. unlessRefused a (runOf f)) e
 
-pub found-refused : (f : Findings) (k l : ℕ) → f .answer ≡ Refused k l → foundText f ≡ refusalText k l
+pub found-refused : (f : Findings) (q : Refusal) → f .answer ≡ Refused q → foundText f ≡ refusalText q
 unfolding foundText
-found-refused f k l e = ap (λ a. unlessRefused a (runOf f)) e
+found-refused f q e = ap (λ a. unlessRefused a (runOf f)) e

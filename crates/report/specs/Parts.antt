@@ -43,7 +43,7 @@ runOf f = runText (f .first) (f .start) (madeIn (f .steps)) (f .end) (stopOf (f 
 -- a text, or a refusal in its place
 abbrev pub unlessRefused : Answer → List ℕ → List ℕ
 unlessRefused Read t = t
-unlessRefused (Refused k l) t = refusalText k l
+unlessRefused (Refused q) t = refusalText q
 
 -- the text of what was found
 unfoldable pub foundText : Findings → List ℕ

@@ -8,6 +8,7 @@ use Rattle.network.specs.Net.{Net, variables, literalCount}
 use Rattle.extract_laws.specs.Divisor.{Divisor, pair, sum}
 use Rattle.extract_laws.specs.Run.{Stop, done, asked, numbers, rows, Made, Result, run}
 use Rattle.table.specs.Table.{Outcome, accepted, refused, readText, tableNet}
+use Rattle.table.specs.declared.Refusal.{Refusal}
 
 -- a pair as a product; the parts of a sum likewise, with ` + ` between them
 unfoldable pub divisorText : Divisor → List ℕ
@@ -42,9 +43,9 @@ runText first start steps end stop =
     115 ∷ 116 ∷ 97 ∷ 114 ∷ 116 ∷ 32 ∷ (decimal start ++ (10 ∷ (stepLines first (pos start) steps ++ (101 ∷ 110 ∷ 100 ∷ 32 ∷ (decimal end ++ stopText stop)))))
 
 -- `refused 2 at line 3`
-unfoldable pub refusalText : ℕ → ℕ → List ℕ
-refusalText k l =
-    114 ∷ 101 ∷ 102 ∷ 117 ∷ 115 ∷ 101 ∷ 100 ∷ 32 ∷ (decimal k ++ (32 ∷ 97 ∷ 116 ∷ 32 ∷ 108 ∷ 105 ∷ 110 ∷ 101 ∷ 32 ∷ (decimal l ++ (10 ∷ []))))
+unfoldable pub refusalText : Refusal → List ℕ
+refusalText q =
+    114 ∷ 101 ∷ 102 ∷ 117 ∷ 115 ∷ 101 ∷ 100 ∷ 32 ∷ (decimal (q .number) ++ (32 ∷ 97 ∷ 116 ∷ 32 ∷ 108 ∷ 105 ∷ 110 ∷ 101 ∷ 32 ∷ (decimal (q .line) ++ (10 ∷ []))))
 
 -- the program asks for 64 steps
 abbrev pub askedSteps : ℕ
@@ -56,7 +57,7 @@ ranText n r = runText (variables n) (literalCount n) (r .steps) (literalCount (r
 
 unfoldable pub outcomeText : Outcome → List ℕ
 outcomeText (accepted s) = ranText (tableNet s) (run askedSteps (tableNet s))
-outcomeText (refused k l) = refusalText k l
+outcomeText (refused q) = refusalText q
 
 unfoldable pub reportOf : List ℕ → List ℕ
 reportOf t = outcomeText (readText t)

@@ -7,6 +7,7 @@ use extract_divisor::Step;
 use network::Network;
 use network::Number;
 use table::Answer;
+use table::Refusal;
 ghost use mathlib.Core.Path.{_≡_};
 ghost use mathlib.Core.Bool.{true};
 ghost use mathlib.Core.List.{_++_};
@@ -150,12 +151,12 @@ fn put_run(o: &mut [u8], f: Findings) -> usize
 }
 
 // `refused 2 at line 3`.
-fn put_refusal(o: &mut [u8], number: u32, line: u32) -> usize
-    requires { ⌜ Countable 0 (refusalText number line) ⌝ }
-    ensures { λ r. ⌜ Laid (now (o .entry)) (now (o .exit)) 0 r (refusalText number line) ⌝ }
+fn put_refusal(o: &mut [u8], refusal: Refusal) -> usize
+    requires { ⌜ Countable 0 (refusalText refusal) ⌝ }
+    ensures { λ r. ⌜ Laid (now (o .entry)) (now (o .exit)) 0 r (refusalText refusal) ⌝ }
 {
-    let p = put_field(o, 0, b"refused ", number as u64);
-    let q = put_field(o, p, b" at line ", line as u64);
+    let p = put_field(o, 0, b"refused ", refusal.number as u64);
+    let q = put_field(o, p, b" at line ", refusal.line as u64);
     letters::put(o, q, b'\n')
 }
 
@@ -167,7 +168,7 @@ fn put_findings(o: &mut [u8], f: Findings) -> usize
     let answer = f.answer;
     match answer {
         Answer::Read => put_run(o, f),
-        Answer::Refused(k, l) => put_refusal(o, k, l),
+        Answer::Refused(refusal) => put_refusal(o, refusal),
     }
 }
 

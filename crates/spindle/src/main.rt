@@ -54,8 +54,8 @@ fn refused(number: u32, line: u32) -> Loaded {
 fn extracted(text: &[u8]) -> Loaded {
     let t = table::read(text);
     let answer = t.answer;
-    if let table::Answer::Refused(k, l) = answer {
-        return refused(k, l);
+    if let table::Answer::Refused(q) = answer {
+        return refused(q.number, q.line);
     }
     let read = t.network;
     let r = extract::run(read, STEPS);

@@ -13,7 +13,7 @@ use Rattle.sets.specs.Sets.{mem}
 use Rattle.sets.proofs.Truth.{both, clash}
 use Rattle.network.specs.Held.{mostInputs, mostOutputs}
 use Rattle.table_lines.specs.Text.{linesOf, content}
-use Rattle.table.specs.Table.{State, start, Turn, next, done, refuse, missing, readLine, Outcome, accepted, refusedAt}
+use Rattle.table.specs.Table.{State, start, Turn, next, done, refuse, missing, readLine, Outcome, accepted, refused, refusedAt}
 use Rattle.table.specs.Table.{readLines, readText, orZero, mostBytes}
 use Rattle.table.specs.Meaning.{within, Bounded, isLine, Complete, Goes, Closes, Does, goes, closes, refuses}
 use Rattle.table.specs.Meaning.{Read, nothing, line, Ended, whole, stopped, short}
@@ -159,31 +159,31 @@ known (whole a l b {t = t} r d) = good t
 known {k} (stopped a l b {r = q} r d) = bad q (k + length a) (refuses-line d) (omega arith) (omega (arith, length-append a (l ∷ b)))
 known (short a r) = five
 
--- the number and the line of a refusal that is known
-its : {a b r n : ℕ} → refusedAt a b ≡ refusedAt r n → (r ≡ a) × (n ≡ b)
-its {a} {b} {r} {n} e =
-    let q : _≡_ {A = Refusal} (record { number = a; line = b }) (record { number = r; line = n }) = cc in
-    (sym (ap (λ (z : Refusal). z .number) q), sym (ap (λ (z : Refusal). z .line) q))
+-- a refusal that is known
+refused-inj : {p q : Refusal} → refused p ≡ refused q → p ≡ q
+refused-inj e = cc
 
-known-refused : {k : ℕ} {ls : List (List ℕ)} {o : Outcome} → Known k ls o → (r n : ℕ) → o ≡ refusedAt r n
-    → ((r ≡ 5) × (n ≡ 0)) ⊎ ((isLine r ≡ true) × (k ≤ n) × (n < k + length ls))
-known-refused (good s) r n e = let z : _≡_ {A = ℕ} 0 1 = cc in absurd (omega arith)
-known-refused (bad q m i a b) r n e = let w = its e in inr (subst (λ (z : ℕ). isLine z ≡ true) (sym (w .0)) i, omega arith, omega arith)
-known-refused five r n e = inl (its e)
+known-refused : {k : ℕ} {ls : List (List ℕ)} {o : Outcome} → Known k ls o → (q : Refusal) → o ≡ refused q
+    → ((q .number ≡ 5) × (q .line ≡ 0)) ⊎ ((isLine (q .number) ≡ true) × (k ≤ q .line) × (q .line < k + length ls))
+known-refused (good s) q e = let z : _≡_ {A = ℕ} 0 1 = cc in absurd (omega arith)
+known-refused {k} {ls} (bad r n i a b) q e =
+    subst (λ (z : Refusal). ((z .number ≡ 5) × (z .line ≡ 0)) ⊎ ((isLine (z .number) ≡ true) × (k ≤ z .line) × (z .line < k + length ls))) (refused-inj e) (inr (i, a, b))
+known-refused five q e = let w = refused-inj e in inl (sym (ap (λ (z : Refusal). z .number) w), sym (ap (λ (z : Refusal). z .line) w))
 
--- 1 and 5 report line 0, the others their line, from 1 to the last
-pub refused-line : (t : List ℕ) (r n : ℕ) → readText t ≡ refusedAt r n
-    → ((r ≡ 1) × (n ≡ 0)) ⊎ (((r ≡ 5) × (n ≡ 0)) ⊎ ((isLine r ≡ true) × (1 ≤ n) × (n ≤ length (linesOf t))))
-refused-line t r n e = go ((outcome-iff t (refusedAt r n)) .0 e)
+-- 1 and 5 report line 0, the others their line, from 1 to the last of a text that is not too long
+pub refused-line : (t : List ℕ) (q : Refusal) → readText t ≡ refused q → ((q .number ≡ 1) × (q .line ≡ 0))
+    ⊎ (((q .number ≡ 5) × (q .line ≡ 0)) ⊎ ((isLine (q .number) ≡ true) × (1 ≤ q .line) × (q .line ≤ length (linesOf t)) × (length t ≤ mostBytes)))
+refused-line t q e = go ((outcome-iff t (refused q)) .0 e)
   where
-    go : Comes t (refusedAt r n) → ((r ≡ 1) × (n ≡ 0)) ⊎ (((r ≡ 5) × (n ≡ 0)) ⊎ ((isLine r ≡ true) × (1 ≤ n) × (n ≤ length (linesOf t))))
-    go (inl (h, q)) = inl (its (sym q))
-    go (inr (h, q)) = inr (⊎-elim (λ k. inl k) (λ k. inr (k .0, k .1, omega (arith, k .2))) (known-refused (known q) r n refl))
+    go : Comes t (refused q) → ((q .number ≡ 1) × (q .line ≡ 0))
+        ⊎ (((q .number ≡ 5) × (q .line ≡ 0)) ⊎ ((isLine (q .number) ≡ true) × (1 ≤ q .line) × (q .line ≤ length (linesOf t)) × (length t ≤ mostBytes)))
+    go (inl (h, p)) = let w = refused-inj p in inl (ap (λ (z : Refusal). z .number) w, ap (λ (z : Refusal). z .line) w)
+    go (inr (h, p)) = inr (⊎-elim (λ k. inl k) (λ k. inr (k .0, k .1, omega (arith, k .2), h)) (known-refused (known p) q refl))
 
 -- 1: text over 65,536 bytes
 pub refused-one : (t : List ℕ) → (readText t ≡ refusedAt 1 0) ↔ (mostBytes < length t)
 refused-one t = (λ e. into ((outcome-iff t (refusedAt 1 0)) .0 e), text-long t)
   where
     into : Comes t (refusedAt 1 0) → mostBytes < length t
-    into (inl (h, q)) = h
-    into (inr (h, q)) = absurd (⊎-elim (λ k. omega (arith, k .0)) (λ k. clash (k .0) none-one) (known-refused (known q) 1 0 refl))
+    into (inl (h, p)) = h
+    into (inr (h, p)) = absurd (⊎-elim (λ k. omega (arith, k .0)) (λ k. clash (k .0) none-one) (known-refused (known p) (record { number = 1; line = 0 }) refl))

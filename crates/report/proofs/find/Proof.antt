@@ -17,7 +17,7 @@ refused-requires : tie.Need-refused-requires
 refused-requires c κs = search needs
 
 returns : tie.Need-returns
-returns c = found-refusal (c .before .before .before .before .before .args .text .now) (c .before .before .before .read .result) (c .before .before .before .read .ensures) _ _ (c .before .enum-told2 .given .1) (c .refused .result) (c .refused .ensures)
+returns c = found-refusal (c .before .before .before .before .before .args .text .now) (c .before .before .before .read .result) (c .before .before .before .read .ensures) _ (c .before .enum-told2 .given .1) (c .refused .result) (c .refused .ensures)
 
 explore-requires : tie.Need-explore-requires
 explore-requires c κs = found-rules (c .before .before .before .before .before .args .text .now) (c .before .before .before .read .result) (c .before .before .before .read .ensures) (c .before .enum-told .given .1)

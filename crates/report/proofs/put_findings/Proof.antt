@@ -18,7 +18,7 @@ enum-known-answer : tie.Need-enum-known-answer
 enum-known-answer c = search needs
 
 put-refusal-requires : tie.Need-put-refusal-requires
-put-refusal-requires c κs = let s = c .before .before .before .before .before in subst (λ (t : List ℕ). Countable 0 t) (found-refused (s .args .f) _ _ (c .before .before .answer .given .1)) (s .pre .1)
+put-refusal-requires c κs = let s = c .before .before .before .before .before in subst (λ (t : List ℕ). Countable 0 t) (found-refused (s .args .f) _ (c .before .before .answer .given .1)) (s .pre .1)
 
 same-length : tie.Need-same-length
 same-length c = search needs
@@ -30,7 +30,7 @@ same-length-2 : tie.Need-same-length-2
 same-length-2 c = search needs
 
 returns-2 : tie.Need-returns-2
-returns-2 c = let s = c .before .before .before .before .before .before .before .before in subst (λ (t : List ℕ). Laid (s .args .o .now) (c .before .before .put-refusal .last .0) 0 (c .before .before .put-refusal .result) t) (sym (found-refused (s .args .f) _ _ (c .before .before .before .before .before .answer .given .1))) (c .before .before .put-refusal .ensures)
+returns-2 c = let s = c .before .before .before .before .before .before .before .before in subst (λ (t : List ℕ). Laid (s .args .o .now) (c .before .before .put-refusal .last .0) 0 (c .before .before .put-refusal .result) t) (sym (found-refused (s .args .f) _ (c .before .before .before .before .before .answer .given .1))) (c .before .before .put-refusal .ensures)
 
 pub put-findings-spec : {M : Type 1} → statement M
 put-findings-spec =

@@ -10,7 +10,7 @@ use Rattle.report.proofs.put_refusal.Tie as tie
 
 -- what is due of the line
 abbrev Owed : tie.Start → List ℕ → ℕ → List ℕ → Type 0
-Owed s o at t = Due (s .args .o .now) 0 (refusalText (s .args .number) (s .args .line)) o at t
+Owed s o at t = Due (s .args .o .now) 0 (refusalText (s .args .refusal)) o at t
 
 slice-aggregate-put-field : tie.Need-slice-aggregate-put-field
 slice-aggregate-put-field c = search needs
@@ -18,23 +18,40 @@ slice-aggregate-put-field c = search needs
 slice-aggregate-put-field-2 : tie.Need-slice-aggregate-put-field-2
 slice-aggregate-put-field-2 c = search needs
 
-number : (s : tie.Start) → Owed s (s .args .o .now) 0 (field refusedWord (s .args .number) ++ (field lineWord (s .args .line) ++ lineEnd))
-number s = due-all _ _ (refusal-start _ _)
+cast-put-field : tie.Need-cast-put-field
+cast-put-field c = search needs
+
+cast-put-field-2 : tie.Need-cast-put-field-2
+cast-put-field-2 c = search needs
+
+-- the states of the walk: the start, after the number, after the line
+abbrev begun : tie.After-struct-known → tie.Start
+begun c = c .before .before .before .before
+
+abbrev numbered : tie.After-put-field → tie.Start
+numbered c = begun (c .before)
+
+abbrev lined : tie.After-put-field2 → tie.After-put-field
+lined c = c .before .before .before .before .before .before
+
+number : (s : tie.Start) → Owed s (s .args .o .now) 0 (field refusedWord (s .args .refusal .number) ++ (field lineWord (s .args .refusal .line) ++ lineEnd))
+number s = due-all _ _ (refusal-start _)
 
 put-field-requires : tie.Need-put-field-requires
-put-field-requires c κs = due-countable (field refusedWord (c .before .before .before .args .number)) _ (number (c .before .before .before)) (c .before .before .before .pre)
+put-field-requires c κs = due-countable (field refusedWord (begun c .args .refusal .number)) _ (number (begun c)) (begun c .pre)
 
-line : (c : tie.After-put-field) → Owed (c .before .before .before .before) (c .put-field .last .0) (c .put-field .result) (field lineWord (c .before .before .before .before .args .line) ++ lineEnd)
-line c = due-next (number (c .before .before .before .before)) (c .put-field .ensures)
+line : (c : tie.After-put-field) → Owed (numbered c) (c .put-field .last .0) (c .put-field .result) (field lineWord (numbered c .args .refusal .line) ++ lineEnd)
+line c = due-next (number (numbered c)) (c .put-field .ensures)
 
 put-field-requires-2 : tie.Need-put-field-requires-2
-put-field-requires-2 c κs = due-countable (field lineWord (c .before .before .before .before .before .before .before .before .args .line)) _ (line (c .before .before .before .before)) (c .before .before .before .before .before .before .before .before .pre)
+put-field-requires-2 c κs = let p = c .before .before .before .before .before in
+    due-countable (field lineWord (numbered p .args .refusal .line)) _ (line p) (numbered p .pre)
 
-ending : (c : tie.After-put-field2) → Owed (c .before .before .before .before .before .before .before .before .before) (c .put-field2 .last .0) (c .put-field2 .result) lineEnd
-ending c = due-next (line (c .before .before .before .before .before)) (c .put-field2 .ensures)
+ending : (c : tie.After-put-field2) → Owed (numbered (lined c)) (c .put-field2 .last .0) (c .put-field2 .result) lineEnd
+ending c = due-next (line (lined c)) (c .put-field2 .ensures)
 
 put-requires : tie.Need-put-requires
-put-requires c κs = due-rest (ending (c .before .before .before)) (c .before .before .before .before .before .before .before .before .before .before .before .before .pre)
+put-requires c κs = let l = c .before .before .before in due-rest (ending l) (numbered (lined l) .pre)
 
 same-length : tie.Need-same-length
 same-length c = search needs
@@ -47,8 +64,10 @@ put-refusal-spec =
     tie.close
     (tie.spec
     slice-aggregate-put-field
+    cast-put-field
     put-field-requires
     slice-aggregate-put-field-2
+    cast-put-field-2
     put-field-requires-2
     put-requires
     same-length
