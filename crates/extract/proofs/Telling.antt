@@ -19,14 +19,14 @@ use Rattle.network.specs.Held.{netOf, rules}
 use Rattle.network.specs.Answers.{counted, evaluated}
 use Rattle.network.specs.declared.Network.{Network}
 use Rattle.network.specs.declared.Number.the-variants.{Is}
-use Rattle.network.proofs.Handing.{holds-net, holds-one, blank-one}
+use Rattle.network.proofs.Handing.{holds-net, holds-one, blank-one, Typed}
+use Rattle.network.specs.Handed.{Shaped}
 use Rattle.extract_laws.specs.Run as extraction
 use Rattle.extract_laws.specs.Run.{Made, Result, done, asked, numbers, rows, inOrder, run}
 use Rattle.extract_laws.specs.Meaning.{Leads, fall}
 use Rattle.extract_laws.proofs.Running.{run-leads}
 use Rattle.extract_laws.proofs.Keeping.{run-good, run-literals}
 use Rattle.extract_laws.proofs.Following.{rules-good, run-rules, run-evaluated}
-use Rattle.extract_tidy.proofs.Tidied.{Shaped}
 use Rattle.extract_divisor.specs.Divisor.{divisorOf, madeOf}
 use Rattle.extract_divisor.specs.declared.Divisor.{Divisor}
 use Rattle.extract_divisor.specs.declared.Divisor.the-variants.{Pair, Sum}
@@ -107,7 +107,7 @@ back-stop Rows = refl
 
 -- an answer whose words and masks are of 64 bits
 pub record FitRan (r : Ran) : Type 0 where
-  pub network : Shaped (r .network)
+  pub network : Typed (r .network)
   pub steps : all fitStep (r .steps .list) ≡ true
 
 lists-one : (s t : Steps) (l : List Made) → all fitStep (s .list) ≡ true → all fitStep (t .list) ≡ true → Lists s l → Lists t l → s ≡ t
@@ -127,7 +127,7 @@ told-one k n r s a b = go (ran k n)
     go (some t) ((x, p, u), h, l) ((y, q, v), g, m) =
         let e : x ≡ y = sym (back-stop x) ∙ ap back (u ∙ sym v) ∙ back-stop y in
         join (p ∙ ap Stopped e ∙ sym q)
-        (holds-one (r .network) (s .network) (t .network) (a .network .places) (b .network .places) (a .network .fits) (b .network .fits) h g)
+        (holds-one (r .network) (s .network) (t .network) (a .network) (b .network) h g)
         (lists-one (r .steps) (s .steps) (t .steps) (a .steps) (b .steps) l m)
     go none (p, h, l) (q, g, m) = join (p ∙ sym q) (blank-one (r .network) (s .network) h g) (lists-one (r .steps) (s .steps) [] (a .steps) (b .steps) l m)
 
@@ -137,7 +137,7 @@ told-one k n r s a b = go (ran k n)
 abbrev pub stepsOf : Ran → List Made
 stepsOf r = map madeOf (take (r .steps .count) (r .steps .list))
 
-module _ (k : ℕ) (n : Network) (r : Ran) (slots : length (n .counts) ≡ 96) (words : length (n .words) ≡ 2176)
+module _ (k : ℕ) (n : Network) (r : Ran) (shape : Shaped n)
     (h : rules n ≡ true) (t : Told (ran k n) r) where
   ran-told : Told (some (run k (netOf n))) r
   unfolding ran
@@ -147,15 +147,15 @@ module _ (k : ℕ) (n : Network) (r : Ran) (slots : length (n .counts) ≡ 96) (
   ran-steps = let l = ran-told .2 in ap (λ (c : ℕ). map madeOf (take c (r .steps .list))) (l .number) ∙ l .steps
 
   ran-network : netOf (r .network) ≡ run k (netOf n) .network
-  ran-network = holds-net (r .network) (run k (netOf n) .network) (ran-told .1) ((run-good k (netOf n) (rules-good n slots words h)) .inTurn)
+  ran-network = holds-net (r .network) (run k (netOf n) .network) (ran-told .1) ((run-good k (netOf n) (rules-good n shape h)) .inTurn)
 
   -- the resulting network follows the rules and keeps the limits
   pub ran-rules : rules (r .network) ≡ true
-  ran-rules = run-rules n (r .network) slots words k h (ran-told .1)
+  ran-rules = run-rules n (r .network) shape k h (ran-told .1)
 
   -- outputs after a run are those before, for every setting
   pub ran-outputs : (s : ℕ) → evaluated (r .network) s ≡ evaluated n s
-  ran-outputs = run-evaluated n (r .network) slots words k h (ran-told .1)
+  ran-outputs = run-evaluated n (r .network) shape k h (ran-told .1)
 
   -- each step listed takes the best divisor of the network that it is made on
   pub ran-leads : Leads (inOrder (netOf n)) (stepsOf r) (netOf (r .network))
@@ -170,5 +170,5 @@ module _ (k : ℕ) (n : Network) (r : Ran) (slots : length (n .counts) ≡ 96) (
   ran-literals = (
     rw h,
     rw ran-rules,
-    ap (λ z. pos (literalCount z)) ran-network ∙ run-literals k (netOf n) (rules-good n slots words h) ∙ ap (λ l. pos (literalCount (netOf n)) -ℤ fall l) (sym ran-steps),
+    ap (λ z. pos (literalCount z)) ran-network ∙ run-literals k (netOf n) (rules-good n shape h) ∙ ap (λ l. pos (literalCount (netOf n)) -ℤ fall l) (sym ran-steps),
   )

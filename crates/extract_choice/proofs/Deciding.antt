@@ -20,7 +20,7 @@ use Rattle.expression.specs.Expression.{ordered}
 use Rattle.expression.proofs.Words.{cubes-length}
 use Rattle.network.specs.Net.{Net}
 use Rattle.network.specs.Held.{netOf}
-use Rattle.network.specs.Handed.{flat}
+use Rattle.network.specs.Handed.{flat, nodeSlots, Shaped}
 use Rattle.network.specs.Parts.{nodesOf}
 use Rattle.network.specs.declared.Network.{Network}
 use Rattle.network.proofs.Holding.{nodes-held}
@@ -43,17 +43,17 @@ use Rattle.extract_choice.proofs.Pairs.{spans, spans-literals, leads-ca
 
 -- ---- networks in cube order
 
-module _ (n : Network) (h : arranged n ≡ true) (slots : length (n .counts) ≡ 96) (words : length (n .words) ≡ 2176) where
-  pub arranged-few : n .outputs + n .divisors ≤ 96
-  arranged-few = let s = arranged-sized n h slots words in omega (arith, s .narrow, s .variables)
+module _ (n : Network) (h : arranged n ≡ true) (shape : Shaped n) where
+  pub arranged-few : n .outputs + n .divisors ≤ nodeSlots
+  arranged-few = let s = arranged-sized n h shape in omega (arith, s .narrow, s .variables)
 
   pub arranged-orderly : Orderly (n .words) (n .counts) (n .outputs + n .divisors)
   arranged-orderly =
-      let s = arranged-sized n h slots words in
+      let s = arranged-sized n h shape in
       record {
         counted = s .counted;
-        enough = omega (arith, s .cubes, cubes-length (n .words));
-        few = s .few;
+        enough = omega (arith, s .cubes, shape .places);
+        few = omega (arith, shape .places);
         sorted = ap (all ordered) (sym (nodes-held n)) ∙ arranged-parts n h .1;
       }
 

@@ -7,7 +7,7 @@ use lib.ListN.{length}
 use Rattle.network.specs.Net.{Net}
 use Rattle.network.specs.Evaluation.{evaluate}
 use Rattle.network.specs.Held.{netOf, rules, mostInputs, mostOutputs}
-use Rattle.network.specs.Handed.{Holds}
+use Rattle.network.specs.Handed.{Shaped, Holds}
 use Rattle.network.specs.Answers.{evaluated}
 use Rattle.network.specs.declared.Network.{Network}
 use Rattle.network.specs.declared.Number.the-variants.{Is}
@@ -17,35 +17,25 @@ use Rattle.extract_laws.specs.Run.{run}
 use Rattle.extract_laws.specs.Meaning.{Good, Within}
 use Rattle.extract_laws.proofs.Keeping.{run-inputs, run-outputs, run-good, run-within, run-evaluate}
 
-module _ (n : Network) (slots : length (n .counts) ≡ 96) (words : length (n .words) ≡ 2176) (r : rules n ≡ true) where
+module _ (n : Network) (shape : Shaped n) (r : rules n ≡ true) where
   -- what the rules say, but for the limits
   pub rules-good : Good (netOf n)
-  rules-good = let w = rules-lawful n slots words r in record { expressions = w .expressions; known = w .known; inTurn = w .inTurn; acyclic = w .acyclic }
+  rules-good = rules-lawful n shape r .good
 
   -- and the limits
   pub rules-within : Within (netOf n)
-  rules-within = let w = rules-lawful n slots words r in record { variables = w .few; cubes = w .cubes; literals = w .literals }
+  rules-within = rules-lawful n shape r .within
 
 -- a struct that holds a good network within the limits follows the rules
 pub holds-rules : (n : Network) (m : Net) → Holds n m → Good m → Within m
     → (1 ≤ m .inputs) × (m .inputs ≤ mostInputs) → (1 ≤ length (m .outputs)) × (length (m .outputs) ≤ mostOutputs) → rules n ≡ true
-holds-rules n m h g w i o = holds-lawful n m h (record {
-  inputs = i;
-  outputs = o;
-  few = w .variables;
-  cubes = w .cubes;
-  literals = w .literals;
-  expressions = g .expressions;
-  known = g .known;
-  inTurn = g .inTurn;
-  acyclic = g .acyclic;
-})
+holds-rules n m h g w i o = holds-lawful n m h (record { inputs = i; outputs = o; within = w; good = g })
 
 -- ---- a run from a network by the rules
 
-module _ (n p : Network) (slots : length (n .counts) ≡ 96) (words : length (n .words) ≡ 2176) (k : ℕ) (r : rules n ≡ true) (h : Holds p (run k (netOf n) .network)) where
+module _ (n p : Network) (shape : Shaped n) (k : ℕ) (r : rules n ≡ true) (h : Holds p (run k (netOf n) .network)) where
   good : Good (netOf n)
-  good = rules-good n slots words r
+  good = rules-good n shape r
 
   left : Good (run k (netOf n) .network)
   left = run-good k (netOf n) good
@@ -53,8 +43,8 @@ module _ (n p : Network) (slots : length (n .counts) ≡ 96) (words : length (n 
   -- what is handed back follows the rules and keeps the limits
   pub run-rules : rules p ≡ true
   run-rules =
-      let w = rules-lawful n slots words r in
-      holds-rules p (run k (netOf n) .network) h left (run-within k (netOf n) good (rules-within n slots words r))
+      let w = rules-lawful n shape r in
+      holds-rules p (run k (netOf n) .network) h left (run-within k (netOf n) good (rules-within n shape r))
       (omega (arith, w .inputs, run-inputs k (netOf n))) (omega (arith, w .outputs, run-outputs k (netOf n)))
 
   -- and gives the same outputs for every setting

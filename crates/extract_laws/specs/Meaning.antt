@@ -1,36 +1,20 @@
--- What the laws of extraction speak of: good networks, uses and bases, the best divisor, what a network allows, and how a run goes.
+-- What the laws of extraction speak of: uses and bases, the best divisor, what a network allows, and how a run goes.
 use Prim.Native.Nat.{ℕ, _<_, _≤_}
 use mathlib.Core.Path.{_≡_}
 use mathlib.Core.Logic.{_⊎_}
 use mathlib.Core.Bool.{true, false}
-use mathlib.Core.List.{List, [], _∷_, map, List·Memᴰ}
+use mathlib.Core.List.{List, [], _∷_, List·Memᴰ}
 use lib.IntN.{ℤ, pos, _+ℤ_}
 use lib.Signed.{ltZ}
 use Rattle.sets.specs.Sets.{mem, sub, apart, asc, union, without, meet, before}
 use Rattle.expression.specs.Expression.{expression}
-use Rattle.network.specs.Net.{Node, Net, nodes, variables, cubeCount, literalCount}
-use Rattle.network.specs.Meaning.{Reads, Through}
-use Rattle.network.specs.Held.{numbered, mostVariables, mostCubes, mostLiterals}
+use Rattle.network.specs.Net.{Net, nodes, variables, cubeCount}
+use Rattle.network.specs.Meaning.{Reads}
+use Rattle.network.specs.Held.{mostVariables, mostCubes}
+pub use Rattle.network.specs.Rules.{Good, Within}
 use Rattle.extract_laws.specs.Divisor.{Divisor, pair, sum, own, small, sound, useOf, hit}
 use Rattle.extract_laws.specs.Extract.{weight, candidates, sooner, step}
 use Rattle.extract_laws.specs.Run.{Stop, done, asked, numbers, rows, Made, Move, finished, stuck, take, made}
-
--- ---- networks that a step can be made on: what the rules on networks say, but for the limits
-
-pub record Good (n : Net) : Type 0 where
-  -- every node has an expression, over the inputs and the divisors
-  pub expressions : (f : List (List ℕ)) → List·Memᴰ f (nodes n) → expression f ≡ true
-  pub known : (f : List (List ℕ)) → List·Memᴰ f (nodes n) → (v : ℕ) → Reads f v → v < variables n
-  -- the divisors are numbered in turn, from the inputs on
-  pub inTurn : n .divisors ≡ numbered (n .inputs) (map (λ (e : Node). e .cubes) (n .divisors))
-  -- no divisor reads itself through others
-  pub acyclic : (v : ℕ) → Through n v v → ⊥
-
--- the limits on a network's size
-pub record Within (n : Net) : Type 0 where
-  pub variables : variables n ≤ mostVariables
-  pub cubes : cubeCount n ≤ mostCubes
-  pub literals : literalCount n ≤ mostLiterals
 
 -- ---- divisors, their uses and bases
 

@@ -11,7 +11,7 @@ use Rattle.sets.proofs.Truth.{both}
 use Rattle.sets.proofs.Lists.{_∈_}
 use Rattle.network.specs.Net.{Net, nodes, variables, cubeCount, literalCount}
 use Rattle.network.specs.Held.{netOf, rules, mostVariables, mostCubes, mostLiterals}
-use Rattle.network.specs.Handed.{Holds}
+use Rattle.network.specs.Handed.{Holds, Shaped}
 use Rattle.network.specs.declared.Network.{Network}
 use Rattle.network.proofs.Ruling.{rules-lawful}
 use Rattle.network.proofs.Handing.{holds-net}
@@ -69,10 +69,10 @@ stepped-takes n d t s q = go (arranged n && fitting (variables m) e) (ltb (varia
 
 -- ---- from a network by the rules
 
-module _ (n p : Network) (slots : length (n .counts) ≡ 96) (words : length (n .words) ≡ 2176) (r : rules n ≡ true)
+module _ (n p : Network) (shape : Shaped n) (r : rules n ≡ true)
     (d : extraction.Divisor) (t : Takes (netOf n) d p) where
   good : Good (step (netOf n) d)
-  good = step-good (netOf n) (rules-good n slots words r) d (t .fit)
+  good = step-good (netOf n) (rules-good n shape r) d (t .fit)
 
   -- it means the network after the step
   pub takes-is : netOf p ≡ step (netOf n) d
@@ -80,16 +80,16 @@ module _ (n p : Network) (slots : length (n .counts) ≡ 96) (words : length (n 
 
   pub takes-rules : rules p ≡ true
   takes-rules =
-      let w = rules-lawful n slots words r in
+      let w = rules-lawful n shape r in
       holds-rules p (step (netOf n) d) (t .held) good (record { variables = omega (arith, step-variables (netOf n) d, t .number); cubes = t .rows; literals = t .literals }) (w .inputs)
       (omega (arith, w .outputs, length-map ((netOf n) .outputs) (rewrite (2 * variables (netOf n)) d)))
 
   pub takes-arranged : arranged p ≡ true
-  takes-arranged = arranged-in p takes-rules (λ f m. step-ordered (netOf n) (rules-good n slots words r) d (t .fit) f (subst (λ (z : Net). f ∈ nodes z) takes-is m))
+  takes-arranged = arranged-in p takes-rules (λ f m. step-ordered (netOf n) (rules-good n shape r) d (t .fit) f (subst (λ (z : Net). f ∈ nodes z) takes-is m))
 
 -- what a step hands back, where it is made
-pub made-rules : (n : Network) (d : Divisor) (t : Next) → length (n .counts) ≡ 96 → length (n .words) ≡ 2176 → rules n ≡ true → Stepped n (outcome n d) t → t .outcome ≡ Made
+pub made-rules : (n : Network) (d : Divisor) (t : Next) → Shaped n → rules n ≡ true → Stepped n (outcome n d) t → t .outcome ≡ Made
     → (rules (t .network) ≡ true) × (arranged (t .network) ≡ true)
-made-rules n d t slots words r s q =
+made-rules n d t shape r s q =
     let k = stepped-takes n d t s q in
-    (takes-rules n (t .network) slots words r (divisorOf d) k, takes-arranged n (t .network) slots words r (divisorOf d) k)
+    (takes-rules n (t .network) shape r (divisorOf d) k, takes-arranged n (t .network) shape r (divisorOf d) k)

@@ -4,15 +4,16 @@ use mathlib.Core.Path.{_≡_, sym, ap₂, _∙_}
 use mathlib.Core.Bool.{Bool, true, _&&_}
 use mathlib.Core.List.{List, []}
 use native.Mathlib.Omega.{arith}
-use lib.ListN.{length, getD, take, drop}
+use lib.ListN.{getD, take, drop}
 use Rattle.sets.specs.Lists.{all, total}
 use Rattle.sets.proofs.Truth.{both}
 use Rattle.sets.proofs.Lists.{_∈_, all-in}
 use Rattle.expression.specs.Words.{cubesOf}
 use Rattle.expression.specs.Expression.{ordered}
 use Rattle.network.specs.Net.{nodes}
-use Rattle.network.specs.Held.{netOf, sized, lawful, rules}
-use Rattle.network.specs.Parts.{nodesOf, Sized}
+use Rattle.network.specs.Held.{netOf, sized, ruled, rules}
+use Rattle.network.specs.Handed.{Shaped}
+use Rattle.network.specs.Parts.{nodesOf, Limited}
 use Rattle.network.specs.declared.Network.{Network}
 use Rattle.network.proofs.Holding.{nodes-held}
 use Rattle.network_nodes.proofs.Cutting.{cut-node}
@@ -36,7 +37,7 @@ module _ (n : Network) where
   -- a network by the rules whose nodes stand in cube order is arranged
   pub arranged-in : rules n ≡ true → ((f : List (List ℕ)) → f ∈ nodes (netOf n) → ordered f ≡ true) → arranged n ≡ true
   unfolding arranged rules
-  arranged-in h k = rw ((both (sized n) (lawful (netOf n)) h) .0) (all-in ordered (nodes (netOf n)) k)
+  arranged-in h k = rw ((both (sized n) (ruled (netOf n)) h) .0) (all-in ordered (nodes (netOf n)) k)
 
   module _ (h : arranged n ≡ true) where
     -- and an arranged network is within the limits, with its nodes in cube order
@@ -44,5 +45,5 @@ module _ (n : Network) where
     unfolding arranged
     arranged-parts = both _ _ h
 
-    pub arranged-sized : length (n .counts) ≡ 96 → length (n .words) ≡ 2176 → Sized (n .inputs) (n .outputs) (n .divisors) (n .words) (n .counts)
-    arranged-sized slots places = sized-out n slots places (arranged-parts .0)
+    pub arranged-sized : Shaped n → Limited n
+    arranged-sized shape = sized-out n shape (arranged-parts .0)

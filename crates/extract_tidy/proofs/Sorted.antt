@@ -14,7 +14,7 @@ use Rattle.expression.proofs.Sorting.{sort-length}
 use Rattle.expression.proofs.Words.{cubes-length}
 use Rattle.network_nodes.specs.Nodes.{cut}
 use Rattle.network.specs.Handed.{flat}
-use Rattle.network.specs.Parts.{nodesOf, Sized}
+use Rattle.network.specs.Parts.{nodesOf, InLimits}
 use Rattle.network_nodes.proofs.Cutting.{cut-length, cut-node, cut-lengths, cut-take}
 use Rattle.network.proofs.Handing.{flat-length, flat-last}
 use Rattle.network_nodes.proofs.Starting.{start-next}
@@ -35,8 +35,8 @@ module _ {A : Type 0} (n : ℕ) (z : A) (l : List A) where
 -- ---- nodes in cube order
 
 -- within the limits all cubes are there
-pub sized-sortable : {n m k : ℕ} {words counts : List ℕ} → Sized n m k words counts → length words ≡ 2176 → Sortable (m + k) counts words
-sized-sortable {words = words} z p = record { counted = z .counted; there = omega (arith, z .cubes, cubes-length words) }
+pub sized-sortable : {n m k : ℕ} {words counts : List ℕ} → InLimits n m k words counts → Sortable (m + k) counts words
+sized-sortable z = record { counted = z .counted; there = omega (arith, z .cubes, z .shape .places) }
 
 module _ (counts words : List ℕ) where
   abbrev sorted : ℕ → List (List (List ℕ))

@@ -10,18 +10,18 @@ use Rattle.sets.specs.Lists.{total}
 use Rattle.expression.specs.Words.{cubesOf}
 use Rattle.expression.specs.Expression.{sort}
 use Rattle.expression.proofs.Sorting.{sort-length}
-use Rattle.expression.proofs.Words.{fit, cubes-take, cubes-append, spare-take, zeros}
+use Rattle.expression.proofs.Words.{cubes-take, cubes-append, spare-take, zeros}
 use Rattle.network.specs.Net.{nodes, cubeCount}
 use Rattle.network.specs.Held.{used, netOf, rules}
 use Rattle.network_nodes.specs.Nodes.{cut}
-use Rattle.network.specs.Handed.{flat, Holds, Blank}
-use Rattle.network.specs.Parts.{heldIn, Sized}
+use Rattle.network.specs.Handed.{flat, Shaped, Holds, Blank}
+use Rattle.network.specs.Parts.{heldIn, Limited}
 use Rattle.network.specs.declared.Network.{Network}
-use Rattle.network.specs.declared.Judged.the-variants.{Accepted, Refused}
+use Rattle.expression.specs.declared.Verdict.the-variants.{Accepted, Refused}
 use Rattle.network.proofs.Holding.{nodes-held, rules-outputs, rules-divisors}
 use Rattle.network_nodes.proofs.Cutting.{cut-length}
 use Rattle.network.proofs.Limits.{rules-sized}
-use Rattle.network.proofs.Handing.{flat-length, holds-one, blank-one}
+use Rattle.network.proofs.Handing.{Typed, flat-length, holds-one, blank-one}
 use Rattle.extract_laws.specs.Run.{inOrder}
 use Rattle.extract_laws.proofs.Arranging.{in-order-nodes, in-order-inputs, in-order-outputs, in-order-divisors}
 use Rattle.extract_tidy.specs.Tidy.{tidied, Tidied}
@@ -42,18 +42,18 @@ front-cubes ws t h l =
     let e : 2176 - 2 * t ≡ 2 * (1088 - t) = omega arith in
     cubes-append (take (2 * t) ws) _ (spare-take ws t (omega arith)) ∙ ap₂ _++_ (cubes-take ws t) (ap (λ (k : ℕ). cubesOf (replicate k 0)) e ∙ zeros (1088 - t))
 
-module _ (n : Network) (slots : length (n .counts) ≡ 96) (places : length (n .words) ≡ 2176) (h : rules n ≡ true) where
+module _ (n : Network) (shape : Shaped n) (h : rules n ≡ true) where
   abbrev e : ℕ
   e = n .outputs + n .divisors
 
   abbrev gs : List (List (List ℕ))
   gs = map sort (cut (used n) (cubesOf (n .words)))
 
-  within : Sized (n .inputs) (n .outputs) (n .divisors) (n .words) (n .counts)
-  within = rules-sized n slots places h
+  within : Limited n
+  within = rules-sized n shape h
 
   there : total (λ c. c) (used n) ≤ length (cubesOf (n .words))
-  there = sized-sortable within places .there
+  there = sized-sortable within .there
 
   nodes-are : nodes (inOrder (netOf n)) ≡ gs
   nodes-are = in-order-nodes (netOf n) ∙ ap (map sort) (nodes-held n)
@@ -66,11 +66,14 @@ module _ (n : Network) (slots : length (n .counts) ≡ 96) (places : length (n .
       → Holds (heldIn (n .inputs) (n .outputs) (n .divisors) (take e (n .counts) ++ replicate (96 - e) 0) (take (2 * t) new ++ replicate (2176 - 2 * t) 0)) (inOrder (netOf n))
   sorts-holds new t l s = record {
     inputs = sym (in-order-inputs (netOf n));
-    outputs = sym (in-order-outputs (netOf n) ∙ rules-outputs n slots h);
-    divisors = sym (in-order-divisors (netOf n) ∙ rules-divisors n slots h);
-    counts = ap₂ (λ (a : List ℕ) (k : ℕ). a ++ replicate (96 - k) 0) (sym (ap (map length) nodes-are ∙ sorted-counts (used n) (cubesOf (n .words)) there)) (sym size);
-    cubes = front-cubes new t l (omega (arith, s .number, within .cubes))
-        ∙ ap₂ (λ (a : List (List ℕ)) (k : ℕ). a ++ replicate (1088 - k) []) front (s .number ∙ sym count);
+    outputs = sym (in-order-outputs (netOf n) ∙ rules-outputs n shape h);
+    divisors = sym (in-order-divisors (netOf n) ∙ rules-divisors n shape h);
+    laid = record {
+      place = refl;
+      counts = ap₂ (λ (a : List ℕ) (k : ℕ). a ++ replicate (96 - k) 0) (sym (ap (map length) nodes-are ∙ sorted-counts (used n) (cubesOf (n .words)) there)) (sym size);
+      cubes = front-cubes new t l (omega (arith, s .number, within .cubes))
+          ∙ ap₂ (λ (a : List (List ℕ)) (k : ℕ). a ++ replicate (1088 - k) []) front (s .number ∙ sym count);
+    };
   }
     where
       whole : length (flat gs) ≡ total (λ c. c) (used n)
@@ -106,18 +109,13 @@ module _ (n : Network) (r : Tidy) where
       go true e (p, h) = let z : _≡_ {A = ℕ} 0 1 = cc in absurd (omega arith)
       go false e (p, h) = (e, h)
 
--- as many words as a network has, of 64 bits each
-pub record Shaped (n : Network) : Type 0 where
-  pub places : length (n .words) ≡ 2176
-  pub fits : fit (n .words) ≡ true
-
 -- two answers for one network are the same
-pub tidied-one : (n : Network) (r s : Tidy) → Shaped (r .network) → Shaped (s .network) → Tidied n r → Tidied n s → r ≡ s
+pub tidied-one : (n : Network) (r s : Tidy) → Typed (r .network) → Typed (s .network) → Tidied n r → Tidied n s → r ≡ s
 tidied-one n r s a b = go (rules n)
   where
     join : r .answer ≡ s .answer → r .network ≡ s .network → r ≡ s
     join p q = λ i. record { answer = p i; network = q i }
 
     go : (t : Bool) → tidied t n r → tidied t n s → r ≡ s
-    go true (p, h) (q, k) = join (p ∙ sym q) (holds-one (r .network) (s .network) (inOrder (netOf n)) (a .places) (b .places) (a .fits) (b .fits) h k)
+    go true (p, h) (q, k) = join (p ∙ sym q) (holds-one (r .network) (s .network) (inOrder (netOf n)) a b h k)
     go false (p, h) (q, k) = join (p ∙ sym q) (blank-one (r .network) (s .network) h k)

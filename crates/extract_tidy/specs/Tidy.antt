@@ -7,7 +7,7 @@ use Rattle.network.specs.Net.{nodes}
 use Rattle.network.specs.Held.{netOf, sized, rules}
 use Rattle.network.specs.Handed.{Holds, Blank}
 use Rattle.network.specs.declared.Network.{Network}
-use Rattle.network.specs.declared.Judged.the-variants.{Accepted, Refused}
+use Rattle.expression.specs.declared.Verdict.the-variants.{Accepted, Refused}
 use Rattle.extract_laws.specs.Run.{inOrder}
 use Rattle.extract_tidy.specs.declared.Tidy.{Tidy}
 

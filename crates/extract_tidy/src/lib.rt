@@ -1,6 +1,6 @@
 // Networks with their cubes in cube order.
 use cube::Order;
-use network::Judged;
+use expression::Verdict;
 use network::Network;
 ghost use mathlib.Core.Path.{_≡_};
 ghost use mathlib.Core.List.{_++_};
@@ -15,7 +15,7 @@ ghost use Rattle.extract_tidy.specs.Parts.{Sortable, Sorts};
 
 // A refusal carries a network of zeros.
 pub struct Tidy {
-    pub answer: Judged,
+    pub answer: Verdict,
     pub network: Network,
 }
 
@@ -113,7 +113,7 @@ pub fn in_order(n: Network) -> Tidy
     ensures { λ r. ⌜ Tidied n r ⌝ }
 {
     let answer = network_rules::judge(n);
-    let Judged::Accepted = answer else {
+    let Verdict::Accepted = answer else {
         return Tidy {
             answer,
             network: network::blank(),

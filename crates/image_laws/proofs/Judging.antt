@@ -77,17 +77,21 @@ module _ (r : Raw) (fits : FitRaw r) (sums : summed r ≡ true) (order : allInOr
       record {
         inputs = fits .inputs;
         outputs = fits .outputs;
-        few = rw (numbered-length (r .inputs) (r .divisors)) (fits .few);
-        cubes = rw (numbered-cubes (r .inputs) (r .divisors)) (omega (arith, total-append length (r .outputs) (r .divisors), total-append length (r .divisors) (r .outputs), leb-true (total length (rawNodes r)) mostCubes (s .0)));
-        literals = rw (numbered-cubes (r .inputs) (r .divisors)) (omega (arith, total-append literalsOf (r .outputs) (r .divisors), total-append literalsOf (r .divisors) (r .outputs), leb-true (total literalsOf (rawNodes r)) mostLiterals (s .1)));
-        expressions = λ f m.
-            let q = both (all asc f) (ordered f && pairwise loose f) (ranks f m) in
-            together (all isCube f) (pairwise loose f)
-            (all-in isCube f (λ c i. together (asc c) (proper c) (all-out asc i (q .0)) ((((fits .nodes f (raw-in m)) .cubes c i) .single))))
-            ((both (ordered f) (pairwise loose f) (q .1)) .1);
-        known = λ f m v d. rw (numbered-length (r .inputs) (r .divisors), d .2 .2) (((fits .nodes f (raw-in m)) .cubes (d .0) (d .1)) .known (d .2 .0) (d .2 .1));
-        inTurn = ap (numbered (r .inputs)) (sym (numbered-cubes (r .inputs) (r .divisors)));
-        acyclic = λ v t. let h : v < v = through-less (rawNet r) (raw-order .earlier) t in omega arith;
+        within = record {
+          variables = rw (numbered-length (r .inputs) (r .divisors)) (fits .few);
+          cubes = rw (numbered-cubes (r .inputs) (r .divisors)) (omega (arith, total-append length (r .outputs) (r .divisors), total-append length (r .divisors) (r .outputs), leb-true (total length (rawNodes r)) mostCubes (s .0)));
+          literals = rw (numbered-cubes (r .inputs) (r .divisors)) (omega (arith, total-append literalsOf (r .outputs) (r .divisors), total-append literalsOf (r .divisors) (r .outputs), leb-true (total literalsOf (rawNodes r)) mostLiterals (s .1)));
+        };
+        good = record {
+          expressions = λ f m.
+              let q = both (all asc f) (ordered f && pairwise loose f) (ranks f m) in
+              together (all isCube f) (pairwise loose f)
+              (all-in isCube f (λ c i. together (asc c) (proper c) (all-out asc i (q .0)) ((((fits .nodes f (raw-in m)) .cubes c i) .single))))
+              ((both (ordered f) (pairwise loose f) (q .1)) .1);
+          known = λ f m v d. rw (numbered-length (r .inputs) (r .divisors), d .2 .2) (((fits .nodes f (raw-in m)) .cubes (d .0) (d .1)) .known (d .2 .0) (d .2 .1));
+          inTurn = ap (numbered (r .inputs)) (sym (numbered-cubes (r .inputs) (r .divisors)));
+          acyclic = λ v t. let h : v < v = through-less (rawNet r) (raw-order .earlier) t in omega arith;
+        };
       }
 
 -- ---- a cube has at most one literal of each variable
@@ -111,40 +115,40 @@ rawOf n = record { inputs = n .inputs; divisors = divisorCubes n; outputs = n .o
 
 module _ (n : Net) (h : Lawful n) where
   pub raw-net : rawNet (rawOf n) ≡ n
-  raw-net = λ i. record { inputs = n .inputs; outputs = n .outputs; divisors = sym (h .inTurn) i }
+  raw-net = λ i. record { inputs = n .inputs; outputs = n .outputs; divisors = sym (h .good .inTurn) i }
 
   node-in : {f : List (List ℕ)} → f ∈ rawNodes (rawOf n) → f ∈ nodes n
   node-in m = swap-in (divisorCubes n) (n .outputs) m
 
   fits-cube : (f : List (List ℕ)) → f ∈ nodes n → (c : List ℕ) → c ∈ f → FitCube (n .inputs + length (divisorCubes n)) c
   fits-cube f m c i =
-      let q = both (asc c) (proper c) (all-out isCube i ((both (all isCube f) (pairwise loose f) (h .expressions f m)) .0)) in
+      let q = both (asc c) (proper c) (all-out isCube i ((both (all isCube f) (pairwise loose f) (h .good .expressions f m)) .0)) in
       let v = n .inputs + length (divisorCubes n) in
-      let k : (l : ℕ) → l ∈ c → l / 2 < v = λ l j. omega (arith, h .known f m (l / 2) (c, i, (l, j, refl)), length-map (n .divisors) (λ (e : Node). e .cubes)) in
+      let k : (l : ℕ) → l ∈ c → l / 2 < v = λ l j. omega (arith, h .good .known f m (l / 2) (c, i, (l, j, refl)), length-map (n .divisors) (λ (e : Node). e .cubes)) in
       record { few = omega (arith, cube-few v 0 c (q .0) (q .1) (λ l j. (omega arith, k l j))); known = k; single = q .1 }
 
   pub lawful-fits : FitRaw (rawOf n)
   lawful-fits = record {
     inputs = h .inputs;
     outputs = h .outputs;
-    few = omega (arith, h .few, length-map (n .divisors) (λ (e : Node). e .cubes));
-    nodes = λ f m. record { few = omega (arith, total-in length (node-in m), h .cubes); cubes = fits-cube f (node-in m) };
+    few = omega (arith, h .within .variables, length-map (n .divisors) (λ (e : Node). e .cubes));
+    nodes = λ f m. record { few = omega (arith, total-in length (node-in m), h .within .cubes); cubes = fits-cube f (node-in m) };
   }
 
   pub lawful-sums : summed (rawOf n) ≡ true
   unfolding summed
   lawful-sums =
       together (leb (total length (rawNodes (rawOf n))) mostCubes) (leb (total literalsOf (rawNodes (rawOf n))) mostLiterals)
-      (le-leb (total length (rawNodes (rawOf n))) mostCubes (omega (arith, total-append length (n .outputs) (divisorCubes n), total-append length (divisorCubes n) (n .outputs), h .cubes)))
-      (le-leb (total literalsOf (rawNodes (rawOf n))) mostLiterals (omega (arith, total-append literalsOf (n .outputs) (divisorCubes n), total-append literalsOf (divisorCubes n) (n .outputs), h .literals)))
+      (le-leb (total length (rawNodes (rawOf n))) mostCubes (omega (arith, total-append length (n .outputs) (divisorCubes n), total-append length (divisorCubes n) (n .outputs), h .within .cubes)))
+      (le-leb (total literalsOf (rawNodes (rawOf n))) mostLiterals (omega (arith, total-append literalsOf (n .outputs) (divisorCubes n), total-append literalsOf (divisorCubes n) (n .outputs), h .within .literals)))
 
   pub lawful-order : OneOrder n → allInOrder (rawOf n) ≡ true
   unfolding allInOrder inTheOrder
   lawful-order o =
       together (all inTheOrder (rawNodes (rawOf n))) (readsEarlier (n .inputs) (divisorCubes n))
       (all-in inTheOrder (rawNodes (rawOf n)) (λ f m.
-      let q = both (all isCube f) (pairwise loose f) (h .expressions f (node-in m)) in
+      let q = both (all isCube f) (pairwise loose f) (h .good .expressions f (node-in m)) in
       together (all asc f) (ordered f && pairwise loose f)
       (all-in asc f (λ c i. (both (asc c) (proper c) (all-out isCube i (q .0))) .0))
       (together (ordered f) (pairwise loose f) (o .cubes f (node-in m)) (q .1))))
-      (earlier-in (n .inputs) (divisorCubes n) (λ e m. o .earlier e (subst (e ∈_) (sym (h .inTurn)) m)))
+      (earlier-in (n .inputs) (divisorCubes n) (λ e m. o .earlier e (subst (e ∈_) (sym (h .good .inTurn)) m)))

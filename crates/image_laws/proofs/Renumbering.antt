@@ -39,9 +39,9 @@ cubes l = map (λ (e : Node). e .cubes) l
 
 pub lawful-sound : (n : Net) → Lawful n → Sound n
 lawful-sound n w =
-    let d = numbered-distinct n (cubes (n .divisors)) (w .inTurn) in
-    let c = reach-closed n (cubes (n .divisors)) (w .inTurn) (reach-in (variables n) (nodes n) (w .known)) in
-    record { distinct = d; closed = c; whole = (listing-all n d c) .1 (w .acyclic) }
+    let d = numbered-distinct n (cubes (n .divisors)) (w .good .inTurn) in
+    let c = reach-closed n (cubes (n .divisors)) (w .good .inTurn) (reach-in (variables n) (nodes n) (w .good .known)) in
+    record { distinct = d; closed = c; whole = (listing-all n d c) .1 (w .good .acyclic) }
 
 module _ (n : Net) (w : Lawful n) where
   -- it has the number of each divisor, each once
@@ -51,11 +51,11 @@ module _ (n : Net) (w : Lawful n) where
   pub listed-range : (v : ℕ) → v ∈ listing n → (n .inputs ≤ v) × (v < variables n)
   listed-range v m = let r = listing-number n v m in (
     rw (r .2) ((lawful-sound n w) .distinct .above (r .0) (r .1)),
-    known-below n (cubes (n .divisors)) (w .inTurn) v (inr r),
+    known-below n (cubes (n .divisors)) (w .good .inTurn) v (inr r),
   )
 
   pub range-listed : (v : ℕ) → n .inputs ≤ v → v < variables n → v ∈ listing n
-  range-listed v h k = elim (below-known n (cubes (n .divisors)) (w .inTurn) v k) [
+  range-listed v h k = elim (below-known n (cubes (n .divisors)) (w .good .inTurn) v k) [
     | inl q ↦ absurd (omega arith)
     | inr (e, m, p) ↦ Memᴰ·cast p (listing-in n listed-whole e m)
   ]
@@ -73,7 +73,7 @@ module _ (n : Net) (w : Lawful n) where
   variable-named v h = elim (decided (ltb v (n .inputs))) [ inl t ↦ inl (ltb-true v (n .inputs) t) | inr t ↦ inr (range-listed v (ltb-false v (n .inputs) t) h) ]
 
   pub node-reaches : {f : List (List ℕ)} → f ∈ nodes n → Reaches (n .inputs) (listing n) f
-  node-reaches {f} m v r = variable-named v (w .known f m v r)
+  node-reaches {f} m v r = variable-named v (w .good .known f m v r)
 
   pub new-number-injective : (u v : ℕ) → u < variables n → v < variables n → newNumber (n .inputs) (listing n) u ≡ newNumber (n .inputs) (listing n) v → u ≡ v
   new-number-injective u v h k e = new-injective (n .inputs) (listing n) u v (variable-named u h) (variable-named v k) e
@@ -198,18 +198,18 @@ module _ (n : Net) where
     renumbered-cubes = renumbered-total length (λ f m. new-node-length (n .inputs) (listing n) f)
 
     pub renumbered-literals : literalCount (renumbered n) ≡ literalCount n
-    renumbered-literals = renumbered-total literalsOf (λ f m. new-node-literals (n .inputs) (listing n) f (node-reaches n w m) (w .expressions f m))
+    renumbered-literals = renumbered-total literalsOf (λ f m. new-node-literals (n .inputs) (listing n) f (node-reaches n w m) (w .good .expressions f m))
 
     -- ---- the rules and the order
 
     node-made : {f : List (List ℕ)} → f ∈ nodes n → (expression (renewed f) ≡ true) × (ordered (renewed f) ≡ true)
-    node-made {f} m = new-node-expression (n .inputs) (listing n) f (node-reaches n w m) (w .expressions f m)
+    node-made {f} m = new-node-expression (n .inputs) (listing n) f (node-reaches n w m) (w .good .expressions f m)
 
     node-known : (f : List (List ℕ)) → f ∈ nodes (renumbered n) → (v : ℕ) → Reads f v → v < variables (renumbered n)
     node-known f m v r =
         let q = renumbered-node f m in
         let u = new-node-reads (n .inputs) (listing n) (q .0) v (subst (λ z. Reads z v) (q .2) r) in
-        omega (arith, renumbered-variables, u .2, new-number-below n w (u .0) (w .known (q .0) (q .1) (u .0) (u .1)))
+        omega (arith, renumbered-variables, u .2, new-number-below n w (u .0) (w .good .known (q .0) (q .1) (u .0) (u .1)))
 
     divisor-earlier : Earlier (renumbered n)
     divisor-earlier e m v r =
@@ -229,13 +229,17 @@ module _ (n : Net) where
     renumbered-lawful = record {
       inputs = omega (arith, renumbered-inputs, w .inputs);
       outputs = omega (arith, renumbered-outputs, w .outputs);
-      few = omega (arith, renumbered-variables, w .few);
-      cubes = omega (arith, renumbered-cubes, w .cubes);
-      literals = omega (arith, renumbered-literals, w .literals);
-      expressions = λ f m. let q = renumbered-node f m in rw (q .2) ((node-made (q .1)) .0);
-      known = node-known;
-      inTurn = renumbered-turn;
-      acyclic = λ v t. omega (arith, through-less (renumbered n) divisor-earlier t);
+      within = record {
+        variables = omega (arith, renumbered-variables, w .within .variables);
+        cubes = omega (arith, renumbered-cubes, w .within .cubes);
+        literals = omega (arith, renumbered-literals, w .within .literals);
+      };
+      good = record {
+        expressions = λ f m. let q = renumbered-node f m in rw (q .2) ((node-made (q .1)) .0);
+        known = node-known;
+        inTurn = renumbered-turn;
+        acyclic = λ v t. omega (arith, through-less (renumbered n) divisor-earlier t);
+      };
     }
 
     -- ---- the outputs
@@ -314,7 +318,7 @@ module _ (n : Net) (w : Lawful n) (k : Earlier n) where
 
   -- so it comes next
   turn-next : (m : ℕ) (b : List ℕ) (v : ℕ) → m < length (n .divisors) → listing n ≡ from (n .inputs) m ++ (v ∷ b) → v ≡ n .inputs + m
-  turn-next m b v h e = elim (below-known n (cubes (n .divisors)) (w .inTurn) (n .inputs + m) (omega arith)) [
+  turn-next m b v h e = elim (below-known n (cubes (n .divisors)) (w .good .inTurn) (n .inputs + m) (omega arith)) [
     | inl q ↦ absurd (omega arith)
     | inr (g, i, p) ↦
         let x = listing-step n ((lawful-sound n w) .distinct) (from (n .inputs) m) b v e in
@@ -356,14 +360,14 @@ unfolding renumbered
 renumbered-same n w o = λ i. record {
   inputs = n .inputs;
   outputs = map-fixed (renewed n) (n .outputs) (λ f m. stays (in-output n m)) i;
-  divisors = (ap (numbered (n .inputs)) expressions ∙ sym (w .inTurn)) i;
+  divisors = (ap (numbered (n .inputs)) expressions ∙ sym (w .good .inTurn)) i;
 }
   where
     stays : {f : List (List ℕ)} → f ∈ nodes n → renewed n f ≡ f
-    stays {f} m = new-node-same (n .inputs) (listing n) (earlier-stays n w (o .earlier)) f (node-reaches n w m) (w .expressions f m) (o .cubes f m)
+    stays {f} m = new-node-same (n .inputs) (listing n) (earlier-stays n w (o .earlier)) f (node-reaches n w m) (w .good .expressions f m) (o .cubes f m)
 
     numbers : map (λ (e : Node). e .number) (n .divisors) ≡ listing n
-    numbers = ap (map (λ (e : Node). e .number)) (w .inTurn)
+    numbers = ap (map (λ (e : Node). e .number)) (w .good .inTurn)
         ∙ numbered-numbers (n .inputs) (cubes (n .divisors))
         ∙ ap (from (n .inputs)) (length-map (n .divisors) (λ (e : Node). e .cubes))
         ∙ sym (earlier-listing n w (o .earlier))

@@ -22,10 +22,10 @@ use Rattle.network.specs.Net.{Node, Net, nodes, variables, cubesAt, cubeCount}
 use Rattle.network.specs.Listing.{listing}
 use Rattle.network.specs.Held.{reach}
 use Rattle.network_nodes.specs.Nodes.{cut}
-use Rattle.network.specs.Handed.{flat, Holds}
+use Rattle.network.specs.Handed.{flat, Holds, cubeSlots}
 use Rattle.network.specs.Meaning.{Distinct, differ}
-use Rattle.network.specs.Rules.{Follows}
-use Rattle.network.specs.Parts.{heldIn, netAt, divisorsOf, Sized}
+use Rattle.network.specs.Rules.{Lawful}
+use Rattle.network.specs.Parts.{heldIn, netAt, divisorsOf, InLimits}
 use Rattle.network_listing.specs.Parts.{Ordered}
 use Rattle.network.proofs.Places.{differ-in, differ-out}
 use Rattle.network.proofs.Numbering.{numbered-length, numbered-cubes, numbered-in, numbered-distinct, cubes-at, reach-in}
@@ -34,6 +34,7 @@ use Rattle.network.proofs.Holding.{nodes-held, output-held, divisor-held, cubes
 use Rattle.network_nodes.proofs.Cutting.{cut-node-length}
 use Rattle.network.proofs.Parts.{nodes-at, nodes-length}
 use Rattle.network.proofs.Limits.{rules-sized}
+use Rattle.network.proofs.Ruling.{rules-lawful}
 use Rattle.network_listing.proofs.Answering.{ordered-listing}
 use Rattle.image_laws.specs.Renumber.{indexOf, newNumber, newLiteral, newCube, newNode, renumbered}
 use Rattle.image_number.specs.Parts.{Numbers, Placing, Sourced, Numberable, cubeBy, nodeBy, sourceOf}
@@ -111,14 +112,14 @@ module _ {n m k : ℕ} {words counts order : List ℕ} (b : Numberable n m k wor
   abbrev old : List (List (List ℕ))
   old = cut counts (cubesOf words)
 
-  sized : Sized n m k words counts
-  sized = rules-sized (heldIn n m k counts words) (b .slots) (b .whole) (b .lawful)
+  sized : InLimits n m k words counts
+  sized = rules-sized (heldIn n m k counts words) (b .shape) (b .lawful)
 
-  follows : Follows (heldIn n m k counts words)
-  follows = (rules-iff (heldIn n m k counts words) (b .slots)) .0 (b .lawful)
+  lawful : Lawful net
+  lawful = rules-lawful (heldIn n m k counts words) (b .shape) (b .lawful)
 
   many : length (net .divisors) ≡ k
-  many = rules-divisors (heldIn n m k counts words) (b .slots) (b .lawful)
+  many = rules-divisors (heldIn n m k counts words) (b .shape) (b .lawful)
 
   all-listed : length (listing net) ≡ length (net .divisors)
   all-listed = (rules-sound (heldIn n m k counts words) (b .lawful)) .whole
@@ -165,11 +166,11 @@ module _ {n m k : ℕ} {words counts order : List ℕ} (b : Numberable n m k wor
   known-at : (j : ℕ) → j < m + k → reach (n + k) (getD old j []) ≡ true
   known-at j h =
       let e = nodes-length counts words (m + k) (sized .counted) in
-      let q : all (reach (n + k)) (cut (take (m + k) counts) (cubesOf words)) ≡ true = subst (λ (fs : List (List (List ℕ))). all (reach (n + k)) fs ≡ true) (nodes-held (heldIn n m k counts words)) (reach-in (n + k) (nodes net) (follows .known)) in
+      let q : all (reach (n + k)) (cut (take (m + k) counts) (cubesOf words)) ≡ true = subst (λ (fs : List (List (List ℕ))). all (reach (n + k)) fs ≡ true) (nodes-held (heldIn n m k counts words)) (reach-in (n + k) (nodes net) (λ f i v r. omega (arith, lawful .good .known f i v r, many))) in
       subst (λ (f : List (List ℕ)). reach (n + k) f ≡ true) (old-at j h) (all-out (reach (n + k)) (at-in (cut (take (m + k) counts) (cubesOf words)) j [] (omega (arith, e))) q)
 
-  places : length (cubesOf words) ≡ 1088
-  places = omega (arith, cubes-length words, b .whole)
+  places : length (cubesOf words) ≡ cubeSlots
+  places = b .shape .places
 
   -- its count is the number of its cubes
   pub size-at : (j : ℕ) → j < m + k → getD counts j 0 ≡ length (getD old j [])
@@ -185,7 +186,7 @@ module _ {n m k : ℕ} {words counts order : List ℕ} (b : Numberable n m k wor
   new f = newNode n (listing net) f
 
   outputs-many : length (net .outputs) ≡ m
-  outputs-many = rules-outputs (heldIn n m k counts words) (b .slots) (b .lawful)
+  outputs-many = rules-outputs (heldIn n m k counts words) (b .shape) (b .lawful)
 
   front-many : length (map new (net .outputs)) ≡ m
   front-many = length-map (net .outputs) new ∙ outputs-many
@@ -232,8 +233,7 @@ module _ {n m k : ℕ} {words counts order : List ℕ} (b : Numberable n m k wor
     inputs = refl;
     outputs = sym front-many;
     divisors = sym (numbered-length n (map (λ v. new (cubesAt v (net .divisors))) (listing net)) ∙ length-map (listing net) (λ v. new (cubesAt v (net .divisors))) ∙ listed-many);
-    counts = p;
-    cubes = q;
+    laid = record { place = refl; counts = p; cubes = q };
   }
 
   -- ---- the new numbers

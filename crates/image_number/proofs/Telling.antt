@@ -2,16 +2,14 @@
 use Prim.Native.Nat.{ℕ}
 use mathlib.Core.Path.{_≡_, sym, _∙_, subst}
 use mathlib.Core.Bool.{Bool, true, false}
-use lib.ListN.{length}
-use Rattle.expression.proofs.Words.{fit}
 use Rattle.network.specs.Listing.{listing}
 use Rattle.network.specs.Held.{netOf, rules}
 use Rattle.network.specs.Handed.{Holds, Blank}
 use Rattle.network.specs.Answers.{judged, padded, listedOf}
 use Rattle.network.specs.declared.Network.{Network}
 use Rattle.network.specs.declared.Listed.{Listed}
-use Rattle.network.specs.declared.Judged.the-variants.{Accepted, Refused}
-use Rattle.network.proofs.Handing.{holds-one, blank-one}
+use Rattle.expression.specs.declared.Verdict.the-variants.{Accepted, Refused}
+use Rattle.network.proofs.Handing.{Typed, holds-one, blank-one}
 use Rattle.network.proofs.Ruling.{refused-rules, rules-refused}
 use Rattle.network_listing.proofs.Answering.{listed-out, rules-listable}
 use Rattle.image_laws.specs.Renumber.{renumbered}
@@ -34,10 +32,9 @@ module _ (n : Network) (h : rules n ≡ true) where
 -- ---- one answer
 
 -- words that fit their type, as many as the struct has
-pub told-one : (n : Network) (r p : Renumbered) → length (r .network .words) ≡ 2176 → length (p .network .words) ≡ 2176 → fit (r .network .words) ≡ true → fit (p .network .words) ≡ true
-    → Told n r → Told n p → r ≡ p
-told-one n r p lr lp fr fp a b = go (rules n) a b
+pub told-one : (n : Network) (r p : Renumbered) → Typed (r .network) → Typed (p .network) → Told n r → Told n p → r ≡ p
+told-one n r p v w a b = go (rules n) a b
   where
     go : (t : Bool) → toldBy t n r → toldBy t n p → r ≡ p
-    go true x y = λ i. record { answer = (x .0 ∙ sym (y .0)) i; network = holds-one (r .network) (p .network) (renumbered (netOf n)) lr lp fr fp (x .1) (y .1) i }
+    go true x y = λ i. record { answer = (x .0 ∙ sym (y .0)) i; network = holds-one (r .network) (p .network) (renumbered (netOf n)) v w (x .1) (y .1) i }
     go false x y = λ i. record { answer = (x .0 ∙ sym (y .0)) i; network = blank-one (r .network) (p .network) (x .1) (y .1) i }

@@ -4,7 +4,7 @@ use mathlib.Core.Bool.{Bool, true, false}
 use Rattle.network.specs.Held.{netOf, rules}
 use Rattle.network.specs.Handed.{Holds, Blank}
 use Rattle.network.specs.declared.Network.{Network}
-use Rattle.network.specs.declared.Judged.the-variants.{Accepted, Refused}
+use Rattle.expression.specs.declared.Verdict.the-variants.{Accepted, Refused}
 use Rattle.image_laws.specs.Renumber.{renumbered}
 use Rattle.image_number.specs.declared.Renumbered.{Renumbered}
 

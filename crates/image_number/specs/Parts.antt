@@ -10,6 +10,7 @@ use Rattle.expression.specs.Expression.{sort}
 use Rattle.network.specs.Listing.{listing}
 use Rattle.network.specs.Held.{rules}
 use Rattle.network.specs.Answers.{padded}
+use Rattle.network.specs.Handed.{Shaped}
 use Rattle.network.specs.Parts.{heldIn, netAt}
 
 -- ---- the new numbers
@@ -64,6 +65,5 @@ pub record Sourced (n m i : ℕ) (order : List ℕ) : Type 0 where
 -- a network by the rules, and the order of its divisors
 pub record Numberable (n m k : ℕ) (words counts order : List ℕ) : Type 0 where
   pub lawful : rules (heldIn n m k counts words) ≡ true
-  pub slots : length counts ≡ 96
-  pub whole : length words ≡ 2176
+  pub shape : Shaped (heldIn n m k counts words)
   pub listed : order ≡ padded (listing (netAt n m k counts words))

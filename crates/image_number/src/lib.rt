@@ -3,7 +3,7 @@ use cube::Cube;
 use cube::Found;
 use cube::Literal;
 use cube::Variable;
-use network::Judged;
+use expression::Verdict;
 use network::Network;
 ghost use mathlib.Core.Path.{_≡_};
 ghost use mathlib.Core.List.{map};
@@ -19,7 +19,7 @@ ghost use Rattle.image_number.specs.Parts.{Wide, Itself, Numbers, Placin
 
 // A refusal carries a network of zeros.
 pub struct Renumbered {
-    pub answer: Judged,
+    pub answer: Verdict,
     pub network: Network,
 }
 
@@ -151,7 +151,7 @@ fn build(n: usize, m: usize, k: usize, words: &[u64], counts: &[usize], order: &
 }
 
 // A refusal, with a network of zeros.
-fn refused(answer: Judged) -> Renumbered
+fn refused(answer: Verdict) -> Renumbered
     ensures { λ r. ⌜ (r .answer ≡ answer) × Blank (r .network) ⌝ }
 {
     Renumbered {
@@ -165,7 +165,7 @@ pub fn renumber(n: Network) -> Renumbered
     ensures { λ r. ⌜ Told n r ⌝ }
 {
     let answer = network_rules::judge(n);
-    let Judged::Accepted = answer else {
+    let Verdict::Accepted = answer else {
         return refused(answer);
     };
     let l = network_listing::listing(n);

@@ -18,9 +18,8 @@ use Rattle.expression.specs.Expression.{literalsOf}
 use Rattle.network.specs.Net.{Net, nodes, cubeCount}
 use Rattle.network.specs.Handed.{flat, nodeSlots, cubeSlots, Blank}
 use Rattle.network.specs.Held.{mostCubes, mostLiterals}
-use Rattle.network.proofs.Handing.{flat-length, holds-one, blank-one}
+use Rattle.network.proofs.Handing.{Typed, flat-length, holds-one, blank-one}
 use Rattle.image_fields.specs.Fields.{bitsIn}
-use Rattle.expression.proofs.Words.{fit}
 use Rattle.network.proofs.Numbering.{numbered-cubes, numbered-length}
 use Rattle.network.proofs.Places.{all-append}
 use Rattle.image_laws.specs.Widths.{headWidth}
@@ -264,8 +263,7 @@ module _ {bits : List Bool} {z : Sizes} {d : ℕ} {t : State} {apart words count
               inputs = refl;
               outputs = sym (w .outputs .number);
               divisors = sym (numbered-length (z .inputs) ds ∙ w .half .divisors .number);
-              counts = counts-hold;
-              cubes = cubes-hold;
+              laid = record { place = refl; counts = counts-hold; cubes = cubes-hold };
             },
           )
 
@@ -295,10 +293,9 @@ module _ (bytes : List ℕ) (r : Image) where
 -- ---- no other answer
 
 -- two answers to one image are the same
-pub told-one : (bytes : List ℕ) (a b : Image) → length (a .network .words) ≡ 2176 → length (b .network .words) ≡ 2176 → fit (a .network .words) ≡ true → fit (b .network .words) ≡ true
-    → Told (readImage bytes) a → Told (readImage bytes) b → a ≡ b
-told-one bytes a b la lb fa fb = go (readImage bytes)
+pub told-one : (bytes : List ℕ) (a b : Image) → Typed (a .network) → Typed (b .network) → Told (readImage bytes) a → Told (readImage bytes) b → a ≡ b
+told-one bytes a b x y = go (readImage bytes)
   where
     go : (o : Outcome) → Told o a → Told o b → a ≡ b
-    go (accepted n) h k = λ i. record { answer = (h .0 ∙ sym (k .0)) i; network = holds-one (a .network) (b .network) n la lb fa fb (h .1) (k .1) i }
+    go (accepted n) h k = λ i. record { answer = (h .0 ∙ sym (k .0)) i; network = holds-one (a .network) (b .network) n x y (h .1) (k .1) i }
     go (refused e) h k = λ i. record { answer = (h .0 ∙ sym (k .0)) i; network = blank-one (a .network) (b .network) (h .1) (k .1) i }

@@ -21,7 +21,7 @@ use Rattle.image_write.specs.Answers.{refusedBy}
 module _ (bytes : List ℕ) (n : Net) (p : Network) (small : (b : ℕ) → b ∈ bytes → b < 256) (h : readImage bytes ≡ accepted n) (held : Holds p n) where
   -- the image of the network read is the image read
   pub again-bytes : imageOf (netOf p) ≡ bytes
-  again-bytes = ap imageOf (holds-net p n held (read-lawful bytes n h .0 .inTurn)) ∙ image-of-read bytes n small h
+  again-bytes = ap imageOf (holds-net p n held (read-lawful bytes n h .0 .good .inTurn)) ∙ image-of-read bytes n small h
 
   -- it is refused neither by 10 nor, where there is room, by 9
   pub again-never-refused : (o : List ℕ) → length bytes ≤ length o → refusedBy p o ≡ none

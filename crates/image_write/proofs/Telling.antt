@@ -9,19 +9,19 @@ use borrow.Author.Tests.{lt-ltb, le-ltb}
 use lib.ListN.{length, take, drop, length-append, length-map}
 use lib.Seq.{take-at, drop-at, take-take, take-add}
 use Rattle.expression.specs.Words.{cubesOf}
-use Rattle.expression.proofs.Words.{cubes-length}
 use Rattle.image_fields.specs.Fields.{bytesFor, bytesFrom, fieldBits}
 use Rattle.image_fields.proofs.Bytes.{bytes-length}
 use Rattle.network.specs.Net.{Node, Net, nodes, cubesAt}
 use Rattle.network.specs.Listing.{listing}
 use Rattle.network.specs.Held.{netOf, rules}
 use Rattle.network_nodes.specs.Nodes.{cut}
-use Rattle.network.specs.Handed.{nodeSlots, Holds}
+use Rattle.network.specs.Handed.{nodeSlots, Shaped, Holds}
 use Rattle.network.specs.declared.Network.{Network}
-use Rattle.network.specs.declared.Judged.the-variants.{Accepted, Refused}
+use Rattle.expression.specs.declared.Verdict.the-variants.{Accepted, Refused}
 use Rattle.network.proofs.Handing.{cut-flat, used-held}
-use Rattle.network.proofs.Holding.{rules-iff, rules-sound, rules-outputs, rules-divisors}
+use Rattle.network.proofs.Holding.{rules-sound, rules-outputs, rules-divisors}
 use Rattle.network.proofs.Numbering.{numbered-length}
+use Rattle.network.proofs.Ruling.{rules-lawful}
 use Rattle.network_nodes.proofs.Cutting.{cut-take}
 use Rattle.image_laws.specs.Renumber.{newNode, renumbered}
 use Rattle.image_laws.specs.Widths.{headWidth}
@@ -57,7 +57,7 @@ module _ (r : Network) (m : Net) (h : Holds r m) where
   many = length-append (m .outputs) (divisorCubes m) ∙ ap₂ _+_ (sym (h .outputs)) (length-map (m .divisors) (λ (d : Node). d .cubes) ∙ sym (h .divisors))
 
   front : take e all ≡ nodes m
-  front = sym (cut-take e (r .counts) (cubesOf (r .words))) ∙ ap₂ cut (used-held r m h) (h .cubes) ∙ cut-flat (nodes m) _
+  front = sym (cut-take e (r .counts) (cubesOf (r .words))) ∙ ap₂ cut (used-held r m h) (h .laid .cubes) ∙ cut-flat (nodes m) _
 
   from-zero : (i : ℕ) → nodesFrom 0 i (r .words) (r .counts) ≡ take i all
   from-zero i = let z : i - 0 ≡ i = omega arith in ap (λ j. take j all) z
@@ -85,19 +85,20 @@ module _ (r : Network) (m : Net) (h : Holds r m) where
 
 -- ---- the network renumbered
 
-module _ (n : Network) (slots : length (n .counts) ≡ nodeSlots) (lawful : rules n ≡ true) (r : Network) (h : Holds r (renumbered (netOf n))) where
+module _ (n : Network) (shape : Shaped n) (lawful : rules n ≡ true) (r : Network) (h : Holds r (renumbered (netOf n))) where
   -- it has inputs, outputs and divisors as before
   pub sizes : (1 ≤ r .inputs) × (1 ≤ r .outputs) × (r .outputs + r .divisors ≤ nodeSlots)
   unfolding renumbered
   sizes =
-      let f = (rules-iff n slots) .0 lawful in
-      let o : r .outputs ≡ n .outputs = h .outputs ∙ length-map ((netOf n) .outputs) _ ∙ rules-outputs n slots lawful in
-      let d : r .divisors ≡ n .divisors = h .divisors ∙ numbered-length (n .inputs) _ ∙ length-map (listing (netOf n)) (λ v. newNode (n .inputs) (listing (netOf n)) (cubesAt v ((netOf n) .divisors))) ∙ (rules-sound n lawful) .whole ∙ rules-divisors n slots lawful in
-      (omega (arith, h .inputs, f .inputs), omega (arith, o, f .outputs), omega (arith, o, d, f .outputs, f .inputs, f .variables))
+      let f = rules-lawful n shape lawful in
+      let o : r .outputs ≡ n .outputs = h .outputs ∙ length-map ((netOf n) .outputs) _ ∙ rules-outputs n shape lawful in
+      let d : r .divisors ≡ n .divisors = h .divisors ∙ numbered-length (n .inputs) _ ∙ length-map (listing (netOf n)) (λ v. newNode (n .inputs) (listing (netOf n)) (cubesAt v ((netOf n) .divisors))) ∙ (rules-sound n lawful) .whole ∙ rules-divisors n shape lawful in
+      let u = rules-outputs n shape lawful in
+      (omega (arith, h .inputs, f .inputs), omega (arith, o, u, f .outputs), omega (arith, o, u, d, f .outputs, f .inputs, f .within .variables, rules-divisors n shape lawful))
 
-  module _ (places : length (r .counts) ≡ nodeSlots) (whole : length (r .words) ≡ 2176) where
+  module _ (whole : Shaped r) where
     pub held : Held (r .words) (r .counts) (r .outputs + r .divisors)
-    held = record { counted = omega (arith, sizes .2); nodes = sizes .2; few = omega (arith, cubes-length (r .words)) }
+    held = record { counted = omega (arith, whole .slots, sizes .2); nodes = sizes .2; few = omega (arith, whole .places) }
 
     module _ (o : List ℕ) (bits : ℕ) (b : bits ≡ length (bitsFrom 0 (r .outputs + r .divisors) (r .words) (r .counts))) where
       image-length : length (imageOf (netOf n)) ≡ bytesFor (headWidth + bits)

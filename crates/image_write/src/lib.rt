@@ -2,7 +2,7 @@
 use cube::Cube;
 use cube::Found;
 use cube::Literal;
-use network::Judged;
+use expression::Verdict;
 use network::Network;
 ghost use mathlib.Core.Path.{_≡_};
 ghost use mathlib.Core.Bool.{cond};
@@ -173,7 +173,7 @@ pub fn write(n: Network, bytes: &mut [u8]) -> Wrote
 {
     let r = image_number::renumber(n);
     let answer = r.answer;
-    let Judged::Accepted = answer else {
+    let Verdict::Accepted = answer else {
         return Wrote::Refused(10);
     };
     let net = r.network;

@@ -1,10 +1,10 @@
 -- A network handed back means what it holds, and what it holds leaves one struct. Assumes nothing.
-use Prim.Native.Nat.{ℕ, suc, _+_, _-_, _*_, _/_, _≤_}
+use Prim.Native.Nat.{ℕ, _+_}
 use mathlib.Core.Path.{_≡_, refl, sym, ap, ap₂, _∙_}
-use mathlib.Core.Bool.{Bool, true}
+use mathlib.Core.Bool.{true}
 use mathlib.Core.List.{List, [], _∷_, _++_, map, append-assoc, append-nil}
 use native.Mathlib.Omega.{arith}
-use lib.ListN.{length, take, drop, replicate, length-append, length-map}
+use lib.ListN.{length, take, drop, length-append, length-map}
 use lib.Seq.{take-append-seam, drop-append-seam, take-at}
 use Rattle.sets.specs.Lists.{total}
 use Rattle.expression.specs.Words.{cubesOf, spareOf}
@@ -12,7 +12,7 @@ use Rattle.expression.proofs.Words.{fit, words-ext, cubes-length, spare-length}
 use Rattle.network.specs.Net.{Node, Net, nodes}
 use Rattle.network.specs.Held.{numbered, used, netOf}
 use Rattle.network_nodes.specs.Nodes.{cut}
-use Rattle.network.specs.Handed.{flat, Holds, Blank}
+use Rattle.network.specs.Handed.{flat, nodeSlots, wordSlots, Shaped, Holds, Blank}
 use Rattle.network.specs.declared.Network.{Network}
 
 -- cubes written node after node are cut into the nodes again
@@ -39,13 +39,13 @@ InTurn m = m .divisors ≡ numbered (m .inputs) (map (λ (e : Node). e .cubes) (
 
 module _ (n : Network) (m : Net) (h : Holds n m) where
   pub used-held : used n ≡ map length (nodes m)
-  used-held = ap₂ take slots (h .counts) ∙ take-at (map length (nodes m)) _ (length (nodes m)) (length-map (nodes m) length)
+  used-held = ap₂ take slots (h .laid .counts) ∙ take-at (map length (nodes m)) _ (length (nodes m)) (length-map (nodes m) length)
     where
       slots : n .outputs + n .divisors ≡ length (nodes m)
       slots = omega (arith, h .outputs, h .divisors, length-append (m .outputs) (map (λ (e : Node). e .cubes) (m .divisors)), length-map (m .divisors) (λ (e : Node). e .cubes))
 
   nodes-cut : cut (used n) (cubesOf (n .words)) ≡ nodes m
-  nodes-cut = ap₂ cut used-held (h .cubes) ∙ cut-flat (nodes m) _
+  nodes-cut = ap₂ cut used-held (h .laid .cubes) ∙ cut-flat (nodes m) _
 
   -- the struct means the network that it holds
   pub holds-net : InTurn m → netOf n ≡ m
@@ -55,23 +55,34 @@ module _ (n : Network) (m : Net) (h : Holds n m) where
     divisors = (ap₂ numbered (h .inputs) (ap₂ drop (h .outputs) nodes-cut ∙ drop-append-seam (m .outputs) _) ∙ sym t) i;
   }
 
+-- ---- one struct
+
+-- a value of the type: arrays of their lengths, and words of 64 bits
+pub record Typed (n : Network) : Type 0 where
+  pub shape : Shaped n
+  pub fits : fit (n .words) ≡ true
+
+-- the lengths of the arrays are the struct's shape
+pub shape-of : (n : Network) → length (n .counts) ≡ nodeSlots → length (n .words) ≡ wordSlots → Shaped n
+shape-of n a b = record {
+  slots = a;
+  places = omega (arith, cubes-length (n .words));
+  whole = none (spareOf (n .words)) (omega (arith, spare-length (n .words), cubes-length (n .words)));
+}
+  where
+    none : (l : List ℕ) → length l ≡ 0 → l ≡ []
+    none [] z = refl
+    none (x ∷ l) z = absurd (omega arith)
+
 -- two structs that hold one network are the same
-pub holds-one : (n p : Network) (m : Net) → length (n .words) ≡ 2176 → length (p .words) ≡ 2176 → fit (n .words) ≡ true → fit (p .words) ≡ true
-    → Holds n m → Holds p m → n ≡ p
-holds-one n p m ln lp fn fp h k = λ i. record {
+pub holds-one : (n p : Network) (m : Net) → Typed n → Typed p → Holds n m → Holds p m → n ≡ p
+holds-one n p m a b h k = λ i. record {
   inputs = (h .inputs ∙ sym (k .inputs)) i;
   outputs = (h .outputs ∙ sym (k .outputs)) i;
   divisors = (h .divisors ∙ sym (k .divisors)) i;
-  counts = (h .counts ∙ sym (k .counts)) i;
-  words = words-ext (n .words) (p .words) fn fp (h .cubes ∙ sym (k .cubes)) (none (n .words) ln ∙ sym (none (p .words) lp)) i;
+  counts = (h .laid .counts ∙ sym (k .laid .counts)) i;
+  words = words-ext (n .words) (p .words) (a .fits) (b .fits) (h .laid .cubes ∙ sym (k .laid .cubes)) (a .shape .whole ∙ sym (b .shape .whole)) i;
 }
-  where
-    none : (ws : List ℕ) → length ws ≡ 2176 → spareOf ws ≡ []
-    none ws e = go (spareOf ws) (omega (arith, spare-length ws, cubes-length ws))
-      where
-        go : (l : List ℕ) → length l ≡ 0 → l ≡ []
-        go [] z = refl
-        go (x ∷ l) z = absurd (omega arith)
 
 -- no two networks of zeros differ
 pub blank-one : (n p : Network) → Blank n → Blank p → n ≡ p

@@ -7,7 +7,7 @@ use mathlib.Core.List.{List, [], _∷_, _++_}
 use native.Mathlib.Nat.{zero-add}
 use native.Mathlib.Omega.{arith}
 use lib.Dec.{leb, ltb, eqb}
-use lib.ListN.{length, getD, take, drop, length-drop, take-append-drop}
+use lib.ListN.{length, getD, take, drop, length-take, length-drop, take-append-drop}
 use lib.Seq.{length-take-le, take-nil, getD-take, getD-drop, take-take, drop-drop, take-add}
 use borrow.Author.Tests.{leb-true, le-leb, eqb-true, eq-eqb}
 use Rattle.sets.specs.Lists.{all, total}
@@ -20,10 +20,11 @@ use Rattle.network.specs.Net.{Net, cubesAt, nodes, variables, cubeCount,
 use Rattle.network.specs.Listing.{listing}
 use Rattle.network.specs.Evaluation.{settle, answers, evaluate}
 use Rattle.network.specs.Meaning.{Consistent, Distinct, Sound}
-use Rattle.network.specs.Held.{numbered, used, netOf, sized, upTo, reach, lawful, rules, mostInputs, mostOutputs, mostVariables, mostCubes, mostLiterals}
+use Rattle.network.specs.Held.{numbered, used, netOf, sized, upTo, reach, ruled, rules, mostInputs, mostOutputs, mostVariables, mostCubes, mostLiterals}
 use Rattle.network_nodes.specs.Nodes.{cut}
 use Rattle.network_nodes.proofs.Cutting.{cut-length, cut-total, cut-lengths}
 use Rattle.network.specs.Rules.{Alike, Follows}
+use Rattle.network.specs.Handed.{Shaped}
 use Rattle.network.specs.Answers.{judged, counted, evaluated}
 use Rattle.network.specs.declared.Network.{Network}
 use Rattle.network.specs.declared.Number.the-variants.{Is, No}
@@ -69,7 +70,7 @@ module _ (n m : Network) (e : Alike n m) where
 
   pub rules-same : rules n ≡ rules m
   unfolding rules
-  rules-same = let s : sized n ≡ sized m = rw (e .counts, e .inputs, e .outputs, e .divisors) in ap₂ _&&_ s (ap lawful held-same)
+  rules-same = let s : sized n ≡ sized m = rw (e .counts, e .inputs, e .outputs, e .divisors) in ap₂ _&&_ s (ap ruled held-same)
 
   pub judged-same : judged n ≡ judged m
   unfolding judged
@@ -109,14 +110,16 @@ module _ (n : Network) where
   pub reach-held : (v : ℕ) → all (reach v) (nodes (netOf n)) ≡ all (all (λ l. ltb (l / 2) v)) (take (total (λ c. c) (used n)) (cubesOf (n .words)))
   reach-held v = ap (all (reach v)) nodes-held ∙ cut-all (all (λ l. ltb (l / 2) v)) (used n) (cubesOf (n .words))
 
-  used-length : length (n .counts) ≡ 96 → n .outputs + n .divisors ≤ 96 → length (cut (used n) (cubesOf (n .words))) ≡ n .outputs + n .divisors
-  used-length h k = cut-length (used n) (cubesOf (n .words)) ∙ length-take-le (n .outputs + n .divisors) (n .counts) (omega arith)
+  -- as many outputs and divisors as it says, where there are counts for them
+  module _ (h : n .outputs + n .divisors ≤ length (n .counts)) where
+    used-length : length (cut (used n) (cubesOf (n .words))) ≡ n .outputs + n .divisors
+    used-length = cut-length (used n) (cubesOf (n .words)) ∙ length-take-le (n .outputs + n .divisors) (n .counts) h
 
-  pub outputs-held : length (n .counts) ≡ 96 → n .outputs + n .divisors ≤ 96 → length ((netOf n) .outputs) ≡ n .outputs
-  outputs-held h k = length-take-le (n .outputs) (cut (used n) (cubesOf (n .words))) (omega (arith, used-length h k))
+    pub outputs-held : length ((netOf n) .outputs) ≡ n .outputs
+    outputs-held = length-take-le (n .outputs) (cut (used n) (cubesOf (n .words))) (omega (arith, used-length))
 
-  pub divisors-held : length (n .counts) ≡ 96 → n .outputs + n .divisors ≤ 96 → length ((netOf n) .divisors) ≡ n .divisors
-  divisors-held h k = numbered-length (n .inputs) (drop (n .outputs) (cut (used n) (cubesOf (n .words)))) ∙ rw (length-drop, used-length h k) (omega arith)
+    pub divisors-held : length ((netOf n) .divisors) ≡ n .divisors
+    divisors-held = numbered-length (n .inputs) (drop (n .outputs) (cut (used n) (cubesOf (n .words)))) ∙ rw (length-drop, used-length) (omega arith)
 
 -- ---- the rules
 
@@ -139,10 +142,10 @@ module _ (n : Network) where
   up-in most k h = together (leb 1 k) (leb k most) (le-leb 1 k (h .0)) (le-leb k most (h .1))
 
   rules-tested : rules n ≡ true → Tested
-  unfolding rules lawful
+  unfolding rules ruled
   rules-tested h =
       let t = total (λ c. c) (used n) in
-      let a = both (sized n) (lawful (netOf n)) h in
+      let a = both (sized n) (ruled (netOf n)) h in
       let b = both (upTo mostInputs (n .inputs)) (upTo mostOutputs (n .outputs) && (leb (n .inputs + n .divisors) mostVariables && leb t mostCubes)) (a .0) in
       let c = both (upTo mostOutputs (n .outputs)) (leb (n .inputs + n .divisors) mostVariables && leb t mostCubes) (b .1) in
       let d = both (leb (n .inputs + n .divisors) mostVariables) (leb t mostCubes) (c .1) in
@@ -162,7 +165,7 @@ module _ (n : Network) where
       }
 
   tested-rules : Tested → rules n ≡ true
-  unfolding rules lawful
+  unfolding rules ruled
   tested-rules t =
       rw (
         up-in mostInputs (n .inputs) (t .inputs),
@@ -191,41 +194,61 @@ module _ (n : Network) where
   unfolding evaluated
   rules-read h s a c = rw h (ap Is (evaluate-read (netOf n) (rules-sound h) s a c))
 
-  module _ (slots : length (n .counts) ≡ 96) where
+  -- a struct of the sizes that it says follows the rules by the test
+  pub lawful-rules : length ((netOf n) .outputs) ≡ n .outputs → length ((netOf n) .divisors) ≡ n .divisors → Follows n → rules n ≡ true
+  lawful-rules o d w =
+      let l = w .lawful in
+      let near : all (reach (variables (netOf n))) (nodes (netOf n)) ≡ true = reach-in (variables (netOf n)) (nodes (netOf n)) (l .good .known) in
+      tested-rules (record {
+        inputs = l .inputs;
+        outputs = omega (arith, l .outputs);
+        few = omega (arith, l .within .variables);
+        cubes = w .counted;
+        expressions = all-in expression (nodes (netOf n)) (l .good .expressions);
+        reached = near;
+        literals = l .within .literals;
+        whole = (listing-all (netOf n) held-distinct (reach-closed (netOf n) fs refl near)) .1 (l .good .acyclic);
+      })
+
+  module _ (s : Shaped n) where
     -- a network by the rules has the outputs and divisors that it says
     pub rules-outputs : rules n ≡ true → length ((netOf n) .outputs) ≡ n .outputs
-    rules-outputs h = let t = rules-tested h in outputs-held n slots (omega arith)
+    rules-outputs h = let t = rules-tested h in outputs-held n (omega (arith, s .slots))
 
     pub rules-divisors : rules n ≡ true → length ((netOf n) .divisors) ≡ n .divisors
-    rules-divisors h = let t = rules-tested h in divisors-held n slots (omega arith)
+    rules-divisors h = let t = rules-tested h in divisors-held n (omega (arith, s .slots))
 
     rules-into : rules n ≡ true → Follows n
     rules-into h = let t = rules-tested h in let o = rules-sound h in record {
-      inputs = t .inputs;
-      outputs = t .outputs;
-      variables = t .few;
-      cubes = t .cubes;
-      literals = t .literals;
-      expressions = λ f m. all-out expression m (t .expressions);
-      known = λ f m v r. omega (arith, reach-out (variables (netOf n)) (nodes (netOf n)) (t .reached) f m v r, rules-divisors h);
-      acyclic = (listing-all (netOf n) held-distinct (o .closed)) .0 (t .whole);
+      counted = t .cubes;
+      lawful = record {
+        inputs = t .inputs;
+        outputs = omega (arith, t .outputs, rules-outputs h);
+        within = record {
+          variables = omega (arith, t .few, rules-divisors h);
+          cubes = omega (arith, t .cubes, cubes-held n (omega (arith, t .cubes, s .places)));
+          literals = t .literals;
+        };
+        good = record {
+          expressions = λ f m. all-out expression m (t .expressions);
+          known = reach-out (variables (netOf n)) (nodes (netOf n)) (t .reached);
+          inTurn = ap (numbered (n .inputs)) (sym (numbered-cubes (n .inputs) fs));
+          acyclic = (listing-all (netOf n) held-distinct (o .closed)) .0 (t .whole);
+        };
+      };
     }
 
+    -- few enough of them that each has a count
+    follows-few : Follows n → n .outputs + n .divisors ≤ length (n .counts)
+    follows-few w =
+        let l = w .lawful in
+        let u = cut-length (used n) (cubesOf (n .words)) ∙ length-take (n .outputs + n .divisors) (n .counts) in
+        let o = length-take (n .outputs) (cut (used n) (cubesOf (n .words))) in
+        let d = numbered-length (n .inputs) fs ∙ length-drop (n .outputs) (cut (used n) (cubesOf (n .words))) in
+        omega (arith, s .slots, l .inputs, l .outputs, l .within .variables, u, o, d)
+
     rules-back : Follows n → rules n ≡ true
-    rules-back w =
-        let small : n .outputs + n .divisors ≤ 96 = omega (arith, w .inputs, w .outputs, w .variables) in
-        let near : all (reach (variables (netOf n))) (nodes (netOf n)) ≡ true =
-        reach-in (variables (netOf n)) (nodes (netOf n)) (λ f m v r. omega (arith, w .known f m v r, divisors-held n slots small)) in
-        tested-rules (record {
-          inputs = w .inputs;
-          outputs = w .outputs;
-          few = w .variables;
-          cubes = w .cubes;
-          expressions = all-in expression (nodes (netOf n)) (w .expressions);
-          reached = near;
-          literals = w .literals;
-          whole = (listing-all (netOf n) held-distinct (reach-closed (netOf n) fs refl near)) .1 (w .acyclic);
-        })
+    rules-back w = lawful-rules (outputs-held n (follows-few w)) (divisors-held n (follows-few w)) w
 
     -- the test is passed by exactly the networks that follow the rules
     pub rules-iff : (rules n ≡ true) ↔ Follows n

@@ -4,6 +4,8 @@ pub mod Listings
 pub mod Evaluating
 pub mod Holding
 pub mod Handing
+pub mod Laying
+pub mod Telling
 pub mod Ruling
 pub mod Parts
 pub mod Limits

@@ -5,16 +5,15 @@ use mathlib.Core.Logic.{_⊎_, inl, inr}
 use mathlib.Core.Bool.{true, false, _&&_}
 use native.Mathlib.Omega.{arith}
 use lib.Dec.{leb}
-use lib.ListN.{length}
 use borrow.Author.Tests.{leb-true, leb-false, le-leb, lt-leb, lt-ltb}
 use Rattle.sets.specs.Lists.{total}
 use Rattle.sets.proofs.Truth.{both, decided}
 use Rattle.expression.specs.Answers.{capped}
-use Rattle.expression.proofs.Words.{cubes-length}
 use Rattle.network_nodes.specs.Nodes.{countBefore}
 use Rattle.network.specs.Net.{literalCount}
-use Rattle.network.specs.Held.{used, netOf, rules, upTo, sized, lawful, mostInputs, mostOutputs, mostVariables, mostCubes}
-use Rattle.network.specs.Parts.{Sized}
+use Rattle.network.specs.Held.{used, netOf, rules, upTo, sized, ruled, mostInputs, mostOutputs, mostVariables, mostCubes}
+use Rattle.network.specs.Handed.{Shaped}
+use Rattle.network.specs.Parts.{Limited}
 use Rattle.network.specs.declared.Network.{Network}
 use Rattle.network.proofs.Holding.{rules-iff}
 
@@ -45,8 +44,8 @@ module _ (n : Network) where
       sized-cubes h = rw (i, o, le-leb (n .inputs + n .divisors) mostVariables h) (start-few (total (λ c. c) (used n)))
 
   -- what follows from the limits
-  pub sized-out : length (n .counts) ≡ 96 → length (n .words) ≡ 2176 → sized n ≡ true → Sized (n .inputs) (n .outputs) (n .divisors) (n .words) (n .counts)
-  sized-out a b h =
+  pub sized-out : Shaped n → sized n ≡ true → Limited n
+  sized-out s h =
       let t = total (λ c. c) (used n) in
       let p = both (upTo mostInputs (n .inputs)) (upTo mostOutputs (n .outputs) && (leb (n .inputs + n .divisors) mostVariables && leb t mostCubes)) h in
       let q = both (upTo mostOutputs (n .outputs)) (leb (n .inputs + n .divisors) mostVariables && leb t mostCubes) (p .1) in
@@ -54,9 +53,8 @@ module _ (n : Network) where
       let wide = leb-true (n .inputs + n .divisors) mostVariables (r .0) in
       let narrow = up-to-le mostOutputs (n .outputs) (q .0) in
       record {
-        slots = a;
-        counted = omega arith;
-        few = omega (arith, cubes-length (n .words));
+        shape = s;
+        counted = omega (arith, s .slots);
         narrow = narrow;
         variables = wide;
         cubes = leb-true t mostCubes (r .1);
@@ -64,10 +62,10 @@ module _ (n : Network) where
 
 -- ---- all rules
 
-pub rules-sized : (n : Network) → length (n .counts) ≡ 96 → length (n .words) ≡ 2176 → rules n ≡ true → Sized (n .inputs) (n .outputs) (n .divisors) (n .words) (n .counts)
+pub rules-sized : (n : Network) → Shaped n → rules n ≡ true → Limited n
 unfolding rules
-rules-sized n a b h = sized-out n a b ((both (sized n) (lawful (netOf n)) h) .0)
+rules-sized n s h = sized-out n s ((both (sized n) (ruled (netOf n)) h) .0)
 
 -- what is counted is not past 64 bits
-pub rules-literals : (n : Network) → length (n .counts) ≡ 96 → rules n ≡ true → capped (literalCount (netOf n)) ≡ literalCount (netOf n)
-rules-literals n a h = let t = (rules-iff n a) .0 h in rw (lt-ltb (literalCount (netOf n)) 18446744073709551616 (omega (arith, t .literals)))
+pub rules-literals : (n : Network) → Shaped n → rules n ≡ true → capped (literalCount (netOf n)) ≡ literalCount (netOf n)
+rules-literals n s h = let t = (rules-iff n s) .0 h in rw (lt-ltb (literalCount (netOf n)) 18446744073709551616 (omega (arith, t .lawful .within .literals)))

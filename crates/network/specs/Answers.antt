@@ -1,21 +1,21 @@
 -- What the operations on networks answer. A refusal is by 10.
-use Prim.Native.Nat.{ℕ, _+_, _-_}
+use Prim.Native.Nat.{ℕ, _-_}
 use mathlib.Core.Bool.{Bool, cond, _&&_}
 use mathlib.Core.List.{List, [], _++_}
 use lib.ListN.{length, replicate}
 use Rattle.sets.specs.Lists.{all}
+use Rattle.expression.specs.declared.Verdict.{Verdict}
+use Rattle.expression.specs.declared.Verdict.the-variants.{Accepted, Refused}
 use Rattle.network.specs.Net.{nodes, variables, literalCount}
 use Rattle.network.specs.Listing.{listing}
 use Rattle.network.specs.Evaluation.{evaluate}
 use Rattle.network.specs.Held.{netOf, sized, reach, rules, mostVariables}
 use Rattle.network.specs.declared.Network.{Network}
 use Rattle.network.specs.declared.Listed.{Listed}
-use Rattle.network.specs.declared.Judged.{Judged}
-use Rattle.network.specs.declared.Judged.the-variants.{Accepted, Refused}
 use Rattle.network.specs.declared.Number.{Number}
 use Rattle.network.specs.declared.Number.the-variants.{Is, No}
 
-unfoldable pub judged : Network → Judged
+unfoldable pub judged : Network → Verdict
 judged n = cond (rules n) Accepted (Refused 10)
 
 unfoldable pub counted : Network → Number

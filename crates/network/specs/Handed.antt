@@ -1,11 +1,16 @@
--- A network handed back: the slots past those in use are zero.
-use Prim.Native.Nat.{ℕ, _-_}
+-- A network handed back: nodes laid one after the other, the slots past those in use zero; or a refusal.
+use Prim.Native.Nat.{ℕ, _+_, _*_, _-_}
 use mathlib.Core.Path.{_≡_}
+use mathlib.Core.Bool.{cond}
 use mathlib.Core.List.{List, [], _∷_, _++_, map}
 use lib.ListN.{length, replicate}
-use Rattle.expression.specs.Words.{cubesOf}
+use Rattle.sets.specs.Lists.{total}
+use Rattle.expression.specs.Words.{cubesOf, spareOf}
+use Rattle.expression.specs.declared.Verdict.the-variants.{Accepted, Refused}
 use Rattle.network.specs.Net.{Net, nodes, cubeCount}
+use Rattle.network.specs.Held.{mostOutputs, mostVariables, mostCubes, rules}
 use Rattle.network.specs.declared.Network.{Network}
+use Rattle.network.specs.declared.Handed.{Handed}
 
 module _ {A : Type 0} where
   -- the lists, one after the other
@@ -13,20 +18,36 @@ module _ {A : Type 0} where
   flat [] = []
   flat (x ∷ l) = x ++ flat l
 
--- the slots of a struct for nodes, and for cubes
+-- ---- the arrays of the struct
+
+-- the slots for nodes, for cubes, and for the words of cubes
 abbrev pub nodeSlots : ℕ
-nodeSlots = 96
+nodeSlots = mostOutputs + mostVariables
 
 abbrev pub cubeSlots : ℕ
-cubeSlots = 1088
+cubeSlots = mostCubes
 
--- the struct holds the network m; a slot that is not in use is zero, which for a cube is the empty one
+abbrev pub wordSlots : ℕ
+wordSlots = 2 * cubeSlots
+
+-- the arrays have their lengths
+pub record Shaped (n : Network) : Type 0 where
+  pub slots : length (n .counts) ≡ nodeSlots
+  pub places : length (cubesOf (n .words)) ≡ cubeSlots
+  pub whole : spareOf (n .words) ≡ []
+
+-- the nodes fs stand one after the other up to the place `to`, with their numbers of cubes; a slot after them is zero, which for a cube is the empty one
+pub record LaidNodes (words sizes : List ℕ) (to : ℕ) (fs : List (List (List ℕ))) : Type 0 where
+  pub place : to ≡ total length fs
+  pub counts : sizes ≡ map length fs ++ replicate (nodeSlots - length fs) 0
+  pub cubes : cubesOf words ≡ flat fs ++ replicate (cubeSlots - to) []
+
+-- the struct holds the network m
 pub record Holds (n : Network) (m : Net) : Type 0 where
   pub inputs : n .inputs ≡ m .inputs
   pub outputs : n .outputs ≡ length (m .outputs)
   pub divisors : n .divisors ≡ length (m .divisors)
-  pub counts : n .counts ≡ map length (nodes m) ++ replicate (nodeSlots - length (nodes m)) 0
-  pub cubes : cubesOf (n .words) ≡ flat (nodes m) ++ replicate (cubeSlots - cubeCount m) []
+  pub laid : LaidNodes (n .words) (n .counts) (cubeCount m) (nodes m)
 
 -- every field is zero
 pub record Blank (n : Network) : Type 0 where
@@ -34,4 +55,24 @@ pub record Blank (n : Network) : Type 0 where
   pub outputs : n .outputs ≡ 0
   pub divisors : n .divisors ≡ 0
   pub counts : n .counts ≡ replicate nodeSlots 0
-  pub words : n .words ≡ replicate 2176 0
+  pub words : n .words ≡ replicate wordSlots 0
+
+-- ---- answers
+
+-- a network, or the number of a refusal
+pub data Return : Type 0 where
+  gives : Net → Return
+  refuses : ℕ → Return
+
+-- the network held; or the number, with a network of zeros
+abbrev pub Told : Return → Handed → Type 0
+Told (gives m) r = (r .answer ≡ Accepted) × Holds (r .network) m
+Told (refuses k) r = (r .answer ≡ Refused k) × Blank (r .network)
+
+-- what is given for a network handed in: 10 where it breaks a rule
+abbrev pub byRules : Network → Net → Return
+byRules n m = cond (rules n) (gives m) (refuses 10)
+
+-- the struct itself, handed back
+abbrev pub Carries : Network → Handed → Type 0
+Carries n r = (r .answer ≡ Accepted) × (r .network ≡ n)

@@ -60,10 +60,10 @@ abbrev pub reach : ℕ → List (List ℕ) → Bool
 reach v f = all (all (λ l. ltb (l / 2) v)) f
 
 -- every node an expression over the network's variables, few enough literals, and no divisor reads itself through others: all are listed
-unfoldable pub lawful : Net → Bool
-lawful n =
+unfoldable pub ruled : Net → Bool
+ruled n =
     all expression (nodes n) && (all (reach (variables n)) (nodes n) && (leb (literalCount n) mostLiterals && eqb (length (listing n)) (length (n .divisors))))
 
 -- the rules on networks and expressions, and the limits
 unfoldable pub rules : Network → Bool
-rules n = sized n && lawful (netOf n)
+rules n = sized n && ruled (netOf n)

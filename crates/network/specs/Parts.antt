@@ -1,13 +1,13 @@
 -- What lent words and counts hold.
 use Prim.Native.Nat.{ℕ, _+_, _≤_}
-use mathlib.Core.Path.{_≡_}
 use mathlib.Core.List.{List}
 use lib.ListN.{length, take, drop}
 use Rattle.sets.specs.Lists.{total}
 use Rattle.expression.specs.Words.{cubesOf}
 use Rattle.network_nodes.specs.Nodes.{cut}
 use Rattle.network.specs.Net.{Net}
-use Rattle.network.specs.Held.{netOf, mostCubes, mostVariables}
+use Rattle.network.specs.Held.{netOf, mostOutputs, mostVariables, mostCubes}
+use Rattle.network.specs.Handed.{Shaped}
 use Rattle.network.specs.declared.Network.{Network}
 
 -- the expressions of the first e counts
@@ -26,10 +26,13 @@ abbrev pub netAt : ℕ → ℕ → ℕ → List ℕ → List ℕ → Net
 netAt n m k counts words = netOf (heldIn n m k counts words)
 
 -- what follows from the limits
-pub record Sized (n m k : ℕ) (words counts : List ℕ) : Type 0 where
-  pub slots : length counts ≡ 96
+pub record InLimits (n m k : ℕ) (words counts : List ℕ) : Type 0 where
+  pub shape : Shaped (heldIn n m k counts words)
   pub counted : m + k ≤ length counts
-  pub few : length (cubesOf words) ≤ mostCubes
-  pub narrow : m ≤ 32
+  pub narrow : m ≤ mostOutputs
   pub variables : n + k ≤ mostVariables
   pub cubes : total (λ c. c) (take (m + k) counts) ≤ mostCubes
+
+-- the limits are kept by a struct
+abbrev pub Limited : Network → Type 0
+Limited n = InLimits (n .inputs) (n .outputs) (n .divisors) (n .words) (n .counts)

@@ -1,5 +1,5 @@
 -- What the rules on networks say, in the paper's words, against which the test `rules` is held; which networks mean the same.
-use Prim.Native.Nat.{ℕ, _+_, _<_, _≤_}
+use Prim.Native.Nat.{ℕ, _<_, _≤_}
 use mathlib.Core.Path.{_≡_}
 use mathlib.Core.Bool.{true}
 use mathlib.Core.List.{List, map, List·Memᴰ}
@@ -20,28 +20,32 @@ pub record Alike (n m : Network) : Type 0 where
   pub counts : used n ≡ used m
   pub cubes : take (total (λ c. c) (used n)) (cubesOf (n .words)) ≡ take (total (λ c. c) (used m)) (cubesOf (m .words))
 
--- the network follows the rules and keeps the limits
-pub record Follows (n : Network) : Type 0 where
-  -- the limits
-  pub inputs : (1 ≤ n .inputs) × (n .inputs ≤ mostInputs)
-  pub outputs : (1 ≤ n .outputs) × (n .outputs ≤ mostOutputs)
-  pub variables : n .inputs + n .divisors ≤ mostVariables
-  pub cubes : total (λ c. c) (used n) ≤ mostCubes
-  pub literals : literalCount (netOf n) ≤ mostLiterals
-  -- every node has an expression, over the inputs and the divisors
-  pub expressions : (f : List (List ℕ)) → List·Memᴰ f (nodes (netOf n)) → expression f ≡ true
-  pub known : (f : List (List ℕ)) → List·Memᴰ f (nodes (netOf n)) → (v : ℕ) → Reads f v → v < n .inputs + n .divisors
-  -- no divisor reads itself through others
-  pub acyclic : (v : ℕ) → Through (netOf n) v v → ⊥
+-- ---- the rules
 
--- a network that a struct by the rules means
+-- what they say of the expressions
+pub record Good (n : Net) : Type 0 where
+  -- every node has an expression, over the inputs and the divisors
+  pub expressions : (f : List (List ℕ)) → List·Memᴰ f (nodes n) → expression f ≡ true
+  pub known : (f : List (List ℕ)) → List·Memᴰ f (nodes n) → (v : ℕ) → Reads f v → v < variables n
+  -- the divisors are numbered in turn, from the inputs on
+  pub inTurn : n .divisors ≡ numbered (n .inputs) (map (λ (e : Node). e .cubes) (n .divisors))
+  -- no divisor reads itself through others
+  pub acyclic : (v : ℕ) → Through n v v → ⊥
+
+-- the limits on a network's size
+pub record Within (n : Net) : Type 0 where
+  pub variables : variables n ≤ mostVariables
+  pub cubes : cubeCount n ≤ mostCubes
+  pub literals : literalCount n ≤ mostLiterals
+
+-- a network by the rules
 pub record Lawful (n : Net) : Type 0 where
   pub inputs : (1 ≤ n .inputs) × (n .inputs ≤ mostInputs)
   pub outputs : (1 ≤ length (n .outputs)) × (length (n .outputs) ≤ mostOutputs)
-  pub few : variables n ≤ mostVariables
-  pub cubes : cubeCount n ≤ mostCubes
-  pub literals : literalCount n ≤ mostLiterals
-  pub expressions : (f : List (List ℕ)) → List·Memᴰ f (nodes n) → expression f ≡ true
-  pub known : (f : List (List ℕ)) → List·Memᴰ f (nodes n) → (v : ℕ) → Reads f v → v < variables n
-  pub inTurn : n .divisors ≡ numbered (n .inputs) (map (λ (e : Node). e .cubes) (n .divisors))
-  pub acyclic : (v : ℕ) → Through n v v → ⊥
+  pub within : Within n
+  pub good : Good n
+
+-- the struct means one, and its counts are within the limit on cubes
+pub record Follows (n : Network) : Type 0 where
+  pub counted : total (λ c. c) (used n) ≤ mostCubes
+  pub lawful : Lawful (netOf n)

@@ -1,6 +1,7 @@
 // Networks by value, and the limits on them.
+use expression::Verdict;
 ghost use mathlib.Core.Path.{_≡_};
-ghost use Rattle.network.specs.Handed.{Blank};
+ghost use Rattle.network.specs.Handed.{Blank, Told, refuses, Carries};
 ghost use Rattle.network.specs.Held.{upTo, sized};
 
 // The limits: inputs, outputs, inputs plus divisors, cubes, and literals counted over all of them.
@@ -28,9 +29,10 @@ pub struct Network {
     pub words: [u64; WORDS],
 }
 
-pub enum Judged {
-    Accepted,
-    Refused(u32),
+// A network handed back; a refusal carries a network of zeros.
+pub struct Handed {
+    pub answer: Verdict,
+    pub network: Network,
 }
 
 // A number, or the number of a refusal.
@@ -82,5 +84,25 @@ pub fn blank() -> Network
         divisors: 0,
         counts: [0usize; NODES],
         words: [0u64; WORDS],
+    }
+}
+
+// The network, accepted.
+pub fn hand(network: Network) -> Handed
+    ensures { λ r. ⌜ Carries network r ⌝ }
+{
+    Handed {
+        answer: Verdict::Accepted,
+        network,
+    }
+}
+
+// A refusal by its number.
+pub fn refuse(number: u32) -> Handed
+    ensures { λ r. ⌜ Told (refuses number) r ⌝ }
+{
+    Handed {
+        answer: Verdict::Refused(number),
+        network: blank(),
     }
 }

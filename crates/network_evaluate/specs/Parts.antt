@@ -3,11 +3,12 @@ use Prim.Native.Nat.{ℕ, _-_}
 use mathlib.Core.Path.{_≡_}
 use mathlib.Core.Bool.{true}
 use mathlib.Core.List.{List, [], _∷_}
-use lib.ListN.{length, getD}
+use lib.ListN.{getD}
 use Rattle.sets.specs.Sets.{insert}
 use Rattle.network_known.specs.Known.{signed, someWithin}
 use Rattle.network.specs.Listing.{listing}
 use Rattle.network.specs.Held.{rules}
+use Rattle.network.specs.Handed.{Shaped}
 use Rattle.network.specs.Parts.{heldIn, netAt}
 use Rattle.network_listing.specs.Parts.{PaddedList}
 
@@ -18,7 +19,6 @@ settledIn n ds (v ∷ l) t = settledIn n ds l (insert (signed v (someWithin t (g
 
 -- a network by the rules, and the order of its divisors
 pub record Answerable (n m k : ℕ) (words counts : List ℕ) (count : ℕ) (order : List ℕ) : Type 0 where
-  pub slots : length counts ≡ 96
-  pub whole : length words ≡ 2176
+  pub shape : Shaped (heldIn n m k counts words)
   pub lawful : rules (heldIn n m k counts words) ≡ true
   pub listed : PaddedList (listing (netAt n m k counts words)) count order

@@ -1,6 +1,6 @@
 // Networks evaluated on one setting of their inputs.
 use cube::Cube;
-use network::Judged;
+use expression::Verdict;
 use network::Network;
 use network::Number;
 ghost use mathlib.Core.Path.{_≡_};
@@ -131,7 +131,7 @@ pub fn evaluate(n: Network, setting: u64) -> Number
     ensures { λ r. ⌜ r ≡ evaluated n setting ⌝ }
 {
     let j = network_rules::judge(n);
-    let Judged::Accepted = j else {
+    let Verdict::Accepted = j else {
         return Number::No(10);
     };
     Number::Is(value(n, setting))

@@ -10,7 +10,7 @@ use Rattle.sets.specs.Lists.{keep}
 use Rattle.expression.specs.Words.{cubesOf}
 use Rattle.network.specs.Held.{used, netOf, rules}
 use Rattle.network_nodes.specs.Nodes.{cut}
-use Rattle.network.specs.Parts.{nodesOf, divisorsOf, netAt, Sized}
+use Rattle.network.specs.Parts.{nodesOf, divisorsOf, netAt, InLimits}
 use Rattle.network.specs.declared.Network.{Network}
 use Rattle.network.proofs.Numbering.{numbered-length}
 use Rattle.network.proofs.Parts.{divisors-length, nodes-at}
@@ -21,11 +21,11 @@ use Rattle.network_hangs.specs.Parts.{Makes}
 use Rattle.network_hangs.proofs.Marking.{marks-none}
 use Rattle.network_hangs.proofs.Reading.{reached-none}
 
-found-all : (n m k : ℕ) (words counts : List ℕ) → Sized n m k words counts → length ((netAt n m k counts words) .divisors) ≡ k
+found-all : (n m k : ℕ) (words counts : List ℕ) → InLimits n m k words counts → length ((netAt n m k counts words) .divisors) ≡ k
 found-all n m k words counts z = numbered-length n (divisorsOf m k counts words) ∙ divisors-length counts words m k (z .counted)
 
 -- the divisors among what is reached from the variables that a node reads
-pub found-marks : {n m k : ℕ} {words counts : List ℕ} {i direct all r : ℕ} {f : List (List ℕ)} → Sized n m k words counts → i < m + k → f ≡ getD (cut counts (cubesOf words)) i []
+pub found-marks : {n m k : ℕ} {words counts : List ℕ} {i direct all r : ℕ} {f : List (List ℕ)} → InLimits n m k words counts → i < m + k → f ≡ getD (cut counts (cubesOf words)) i []
     → Marks direct (readsOf f) → Makes direct all (reached k (netAt n m k counts words)) → Makes all r (keep (λ v. leb n v))
     → Marks r (hangsOn (netAt n m k counts words) (getD (nodesOf (m + k) counts words) i []))
 unfolding hangsOn

@@ -1,6 +1,6 @@
 // Which divisors a node of a network hangs on. A set of variables is a mask, bit v for the variable v.
 use cube::Cube;
-use network::Judged;
+use expression::Verdict;
 use network::Network;
 ghost use mathlib.Core.Path.{_≡_};
 ghost use mathlib.Core.Bool.{cond};
@@ -13,7 +13,7 @@ ghost use Rattle.sets.specs.Sets.{mem, union};
 ghost use Rattle.cube.specs.Cube.{lits};
 ghost use Rattle.expression.specs.Words.{cubesOf};
 ghost use Rattle.network_nodes.specs.Nodes.{cut};
-ghost use Rattle.network.specs.Parts.{nodesOf, netAt, Sized};
+ghost use Rattle.network.specs.Parts.{nodesOf, netAt, InLimits};
 ghost use Rattle.network_hangs.specs.Hangs.{variablesOf, readsOf, readBy, reached, hangsOn, hangsAt, Marks};
 ghost use Rattle.network_hangs.specs.Parts.{Makes};
 
@@ -51,7 +51,7 @@ fn asked(words: &[u64], counts: &[usize], n: usize, m: usize, i: usize, mask: u6
 
 // The variables of the mask, and those that the divisors among them read.
 fn once(words: &[u64], counts: &[usize], n: usize, m: usize, k: usize, mask: u64) -> u64
-    requires { ⌜ Sized n m k (now words) (now counts) ⌝ }
+    requires { ⌜ InLimits n m k (now words) (now counts) ⌝ }
     ensures { λ r. ⌜ Makes mask r (λ l. union l (readBy (netAt n m k (now (counts .entry)) (now (words .entry))) l)) ⌝ }
 {
     let mut all = mask;
@@ -65,7 +65,7 @@ fn once(words: &[u64], counts: &[usize], n: usize, m: usize, k: usize, mask: u64
 
 // The same k times over: enough, since a chain of divisors that read one another has at most k.
 fn often(words: &[u64], counts: &[usize], n: usize, m: usize, k: usize, mask: u64) -> u64
-    requires { ⌜ Sized n m k (now words) (now counts) ⌝ }
+    requires { ⌜ InLimits n m k (now words) (now counts) ⌝ }
     ensures { λ r. ⌜ Makes mask r (reached k (netAt n m k (now (counts .entry)) (now (words .entry)))) ⌝ }
 {
     let mut all = mask;
@@ -87,7 +87,7 @@ fn above(n: usize, mask: u64) -> u64
 
 // The divisors that node i hangs on.
 fn found(words: &[u64], counts: &[usize], n: usize, m: usize, k: usize, i: usize) -> u64
-    requires { ⌜ Sized n m k (now words) (now counts) × (n < 64) × (i < m + k) ⌝ }
+    requires { ⌜ InLimits n m k (now words) (now counts) × (n < 64) × (i < m + k) ⌝ }
     ensures { λ r. ⌜ Marks r (hangsOn (netAt n m k (now (counts .entry)) (now (words .entry))) (getD (nodesOf (m + k) (now (counts .entry)) (now (words .entry))) i [])) ⌝ }
 {
     let direct = reads(network_nodes::node(words, counts, i));
@@ -99,7 +99,7 @@ pub fn hangs(n: Network, i: usize) -> u64
     ensures { λ r. ⌜ Marks r (hangsAt n i) ⌝ }
 {
     let j = network_rules::judge(n);
-    let Judged::Accepted = j else {
+    let Verdict::Accepted = j else {
         return 0;
     };
     if i >= n.outputs + n.divisors {

@@ -12,9 +12,9 @@ use Rattle.sets.proofs.Places.{at-in}
 use Rattle.expression.specs.Expression.{expression}
 use Rattle.network.specs.Net.{Node, Net, nodes, variables}
 use Rattle.network.specs.Listing.{listing}
-use Rattle.network.specs.Held.{numbered, netOf, sized, reach, lawful, rules}
+use Rattle.network.specs.Held.{numbered, netOf, sized, reach, ruled, rules}
 use Rattle.network.specs.Answers.{listable, numbersOf, listedOf}
-use Rattle.network.specs.Parts.{nodesOf, divisorsOf, netAt, Sized}
+use Rattle.network.specs.Parts.{nodesOf, divisorsOf, netAt, InLimits, Limited}
 use Rattle.network.specs.declared.Network.{Network}
 use Rattle.network.specs.declared.Listed.{Listed}
 use Rattle.network.proofs.Numbering.{numbered-length, numbered-range}
@@ -34,7 +34,7 @@ module _ (net : Net) (ds : List (List (List ℕ))) (e : net .divisors ≡ number
       let q = numbered-range n ds (r .0) (subst (λ (l : List Node). r .0 ∈ l) e (r .1)) in
       (rw (r .2) (q .0), rw (r .2) (q .1))
 
-module _ (n m k : ℕ) (words counts : List ℕ) (z : Sized n m k words counts) (count : ℕ) (order : List ℕ) where
+module _ (n m k : ℕ) (words counts : List ℕ) (z : InLimits n m k words counts) (count : ℕ) (order : List ℕ) where
   abbrev held : Net
   held = netAt n m k counts words
 
@@ -71,10 +71,10 @@ module _ (n : Network) where
   unfolding listable
   listable-no e = rw e
 
-  pub listable-as : (b : Bool) → length (n .counts) ≡ 96 → Sized (n .inputs) (n .outputs) (n .divisors) (n .words) (n .counts) → sized n ≡ true
+  pub listable-as : (b : Bool) → Limited n → sized n ≡ true
       → all (reach (n .inputs + n .divisors)) (nodesOf (n .outputs + n .divisors) (n .counts) (n .words)) ≡ b → listable n ≡ b
   unfolding listable
-  listable-as b a z e q = rw (e, nodes-held n, divisors-held n a (omega (arith, z .counted))) q
+  listable-as b z e q = rw (e, nodes-held n, divisors-held n (z .counted)) q
 
   pub listable-sized : listable n ≡ true → sized n ≡ true
   unfolding listable
@@ -90,9 +90,9 @@ module _ (n : Network) where
 
   -- by the rules there is
   pub rules-listable : rules n ≡ true → listable n ≡ true
-  unfolding rules lawful listable
+  unfolding rules ruled listable
   rules-listable h =
-      let a = both (sized n) (lawful (netOf n)) h in
+      let a = both (sized n) (ruled (netOf n)) h in
       let e = both (all expression (nodes (netOf n))) _ (a .1) in
       let f = both (all (reach (variables (netOf n))) (nodes (netOf n))) _ (e .1) in
       together (sized n) _ (a .0) (f .0)

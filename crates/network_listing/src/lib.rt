@@ -18,7 +18,7 @@ ghost use Rattle.network_known.specs.Known.{everyWithin, BothWays, signed};
 ghost use Rattle.network.specs.Listing.{listing};
 ghost use Rattle.network.specs.Held.{reach};
 ghost use Rattle.network.specs.Answers.{listable, listedOf};
-ghost use Rattle.network.specs.Parts.{nodesOf, netAt, Sized};
+ghost use Rattle.network.specs.Parts.{nodesOf, netAt, InLimits};
 ghost use Rattle.network_listing.specs.Parts.{nextIn, PaddedList};
 
 // c with both literals of the variable v.
@@ -56,7 +56,7 @@ fn is_next(f: &[u64], v: usize, k: Cube) -> bool
 
 // The first divisor that is not known and reads known variables alone.
 fn next(words: &[u64], counts: &[usize], n: usize, m: usize, k: usize, known: Cube) -> Place
-    requires { ⌜ Sized n m k (now words) (now counts) ⌝ }
+    requires { ⌜ InLimits n m k (now words) (now counts) ⌝ }
     ensures { λ r. ⌜ placeOf r ≡ nextIn (lits known) (netAt n m k (now (counts .entry)) (now (words .entry)) .divisors) ⌝ }
 {
     let mut i = 0;
@@ -71,7 +71,7 @@ fn next(words: &[u64], counts: &[usize], n: usize, m: usize, k: usize, known: Cu
 
 // Again and again the smallest number whose own divisors are all listed.
 fn list(words: &[u64], counts: &[usize], n: usize, m: usize, k: usize) -> Listed
-    requires { ⌜ Sized n m k (now words) (now counts) ⌝ }
+    requires { ⌜ InLimits n m k (now words) (now counts) ⌝ }
     ensures { λ r. ⌜ PaddedList (listing (netAt n m k (now (counts .entry)) (now (words .entry)))) (r .count) (r .order) ⌝ }
 {
     let mut order = [0u32; 64];

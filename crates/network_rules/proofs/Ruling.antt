@@ -13,8 +13,9 @@ use Rattle.expression.specs.Expression.{expression, literalsOf}
 use Rattle.expression.specs.Answers.{capped}
 use Rattle.network.specs.Net.{nodes, variables}
 use Rattle.network.specs.Listing.{listing}
-use Rattle.network.specs.Held.{netOf, sized, reach, lawful, rules, mostLiterals}
+use Rattle.network.specs.Held.{netOf, sized, reach, ruled, rules, mostLiterals}
 use Rattle.network.specs.Answers.{counted, listable, numbersOf}
+use Rattle.network.specs.Handed.{Shaped}
 use Rattle.network.specs.Parts.{nodesOf}
 use Rattle.network.specs.declared.Network.{Network}
 use Rattle.network.specs.declared.Number.the-variants.{Is, No}
@@ -31,7 +32,7 @@ leb-capped t = go (ltb t 18446744073709551616) refl
 module _ (n : Network) where
   -- without a listing the rules are broken
   pub rules-no : listable n ≡ false → false ≡ rules n
-  unfolding rules lawful listable
+  unfolding rules ruled listable
   rules-no h = go (sized n) (all expression (nodes (netOf n))) (all (reach (variables (netOf n))) (nodes (netOf n))) _ h
     where
       go : (s x r w : Bool) → (s && r) ≡ false → false ≡ (s && (x && (r && w)))
@@ -40,26 +41,26 @@ module _ (n : Network) where
       go true true false w e = refl
       go true true true w e = clash refl e
 
-  module _ (slots : length (n .counts) ≡ 96) where
+  module _ (s : Shaped n) where
     abbrev fs : List (List (List ℕ))
     fs = nodesOf (n .outputs + n .divisors) (n .counts) (n .words)
 
-    module _ (words : length (n .words) ≡ 2176) (h : listable n ≡ true) where
-      few : n .outputs + n .divisors ≤ 96
+    module _ (h : listable n ≡ true) where
+      few : n .outputs + n .divisors ≤ length (n .counts)
       unfolding listable
-      few = let z = sized-out n slots words ((both (sized n) _ h) .0) in omega (arith, z .slots, z .counted)
+      few = (sized-out n s ((both (sized n) _ h) .0)) .counted
 
       -- the other rules, of the nodes as they are held
-      lawful-held : lawful (netOf n) ≡ (all expression fs && (all (reach (variables (netOf n))) (nodes (netOf n)) && (leb (total literalsOf fs) mostLiterals && eqb (length (listing (netOf n))) (n .divisors))))
-      unfolding lawful
-      lawful-held = rw (nodes-held n, divisors-held n slots few)
+      ruled-held : ruled (netOf n) ≡ (all expression fs && (all (reach (variables (netOf n))) (nodes (netOf n)) && (leb (total literalsOf fs) mostLiterals && eqb (length (listing (netOf n))) (n .divisors))))
+      unfolding ruled
+      ruled-held = rw (nodes-held n, divisors-held n few)
 
       -- with a listing the rest decides
       pub rules-as : rules n ≡ (eqb (length (numbersOf n)) (n .divisors) && (all expression fs && leb (total literalsOf fs) mostLiterals))
       unfolding rules listable numbersOf
       rules-as =
           let p = both (sized n) (all (reach (variables (netOf n))) (nodes (netOf n))) h in
-          ap₂ _&&_ (p .0) (lawful-held ∙ turn (all expression fs) _ (leb (total literalsOf fs) mostLiterals) (eqb (length (listing (netOf n))) (n .divisors)) (p .1)) ∙ rw (p .0, p .1)
+          ap₂ _&&_ (p .0) (ruled-held ∙ turn (all expression fs) _ (leb (total literalsOf fs) mostLiterals) (eqb (length (listing (netOf n))) (n .divisors)) (p .1)) ∙ rw (p .0, p .1)
         where
           order : (x t w : Bool) → (x && (t && w)) ≡ (w && (x && t))
           order true true true = refl
@@ -74,7 +75,7 @@ module _ (n : Network) where
 
     pub counted-is : (t : ℕ) → rules n ≡ true → t ≡ capped (total literalsOf fs) → Is t ≡ counted n
     unfolding counted
-    counted-is t e q = rw e (ap Is (q ∙ ap (λ l. capped (total literalsOf l)) (sym (nodes-held n)) ∙ rules-literals n slots e))
+    counted-is t e q = rw e (ap Is (q ∙ ap (λ l. capped (total literalsOf l)) (sym (nodes-held n)) ∙ rules-literals n s e))
 
   pub counted-no : rules n ≡ false → No 10 ≡ counted n
   unfolding counted

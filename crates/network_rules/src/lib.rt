@@ -1,5 +1,5 @@
 // The rules on networks, and the literal count of a network by the rules.
-use network::Judged;
+use expression::Verdict;
 use network::Network;
 use network::Number;
 ghost use mathlib.Core.Path.{_≡_};
@@ -71,13 +71,13 @@ fn follows(n: Network) -> bool
 }
 
 // Whether the network keeps the rules: 10 where it does not.
-pub fn judge(n: Network) -> Judged
+pub fn judge(n: Network) -> Verdict
     ensures { λ r. ⌜ r ≡ judged n ⌝ }
 {
     if follows(n) {
-        Judged::Accepted
+        Verdict::Accepted
     } else {
-        Judged::Refused(10)
+        Verdict::Refused(10)
     }
 }
 

@@ -1,4 +1,4 @@
--- What a run on the network of a table leaves: the network is good and within the limits, and the counts, steps and reason are those of the definitions. Assumes nothing.
+-- What a run on the network of a table leaves: the counts, steps and reason are those of the definitions. Assumes nothing.
 use Prim.Native.Nat.{ℕ, _+_, _-_, _/_, _<_, _≤_}
 use mathlib.Core.Path.{_≡_, refl, sym, ap, _∙_, subst}
 use mathlib.Core.Bool.{true}
@@ -6,15 +6,14 @@ use mathlib.Core.List.{List, [], map, append-nil, List·Memᴰ·not-nil}
 use mathlib.Core.Option.{Option, some}
 use native.Mathlib.Omega.{arith}
 use lib.ListN.{length, take}
-use Rattle.sets.proofs.Lists.{_∈_}
 use Rattle.network.specs.Net.{Node, Net, nodes, variables, literalCount}
-use Rattle.network.specs.Meaning.{Through, itself, others}
-use Rattle.network.specs.Held.{numbered, netOf, rules}
+use Rattle.network.specs.Held.{netOf, rules}
 use Rattle.network.specs.Answers.{counted}
 use Rattle.network.specs.declared.Network.{Network}
 use Rattle.network.specs.declared.Number.the-variants.{Is}
 use Rattle.network.proofs.Handing.{holds-net}
 use Rattle.network.proofs.Holding.{rules-divisors}
+use Rattle.network.specs.Handed.{Shaped}
 use Rattle.extract_laws.specs.Run.{Made, Result, run}
 use Rattle.extract_laws.specs.Meaning.{Good, Within}
 use Rattle.extract_laws.proofs.Running.{run-few}
@@ -27,56 +26,10 @@ use Rattle.extract.specs.declared.Stop.{Stop}
 use Rattle.extract.specs.declared.Answer.the-variants.{Stopped, Refused}
 use Rattle.extract.specs.declared.Steps.{Steps}
 use Rattle.extract.specs.declared.Ran.{Ran}
-use Rattle.table.specs.Table.{State, tableNet, orZero}
-use Rattle.table.specs.Meaning.{Complete}
-use Rattle.table.proofs.Keeping.{table-cubes, table-literals}
-use Rattle.table.proofs.Outputs.{output-reads, outputs-are, outputs-ordered}
 use Rattle.table.specs.declared.Answer.the-variants.{Read}
 use Rattle.report.specs.Report.{ranText, runText}
 use Rattle.report.specs.Parts.{Falls, madeIn, runOf, Explored}
 use Rattle.report.proofs.Counting.{run-falls}
-
--- ---- the network of an accepted table
-
-module _ (s : State) (n m : ℕ) (c : Complete s n m) where
-  in-outputs : (f : List (List ℕ)) → f ∈ nodes (tableNet s) → f ∈ (tableNet s) .outputs
-  unfolding tableNet
-  in-outputs f i = subst (λ (l : List (List (List ℕ))). f ∈ l) (append-nil ((tableNet s) .outputs)) i
-
-  wide : (tableNet s) .inputs ≡ n
-  unfolding tableNet
-  wide = ap orZero (c .wide)
-
-  pub table-variables : variables (tableNet s) ≡ n
-  unfolding tableNet
-  table-variables = omega (arith, ap orZero (c .wide))
-
-  no-divisors : (tableNet s) .divisors ≡ []
-  unfolding tableNet
-  no-divisors = refl
-
-  through-none : {u v : ℕ} → Through (tableNet s) u v → ⊥
-  through-none (itself {e = e} i j d) = List·Memᴰ·not-nil (subst (λ (l : List Node). e ∈ l) no-divisors i)
-  through-none (others {e = e} i j d t) = List·Memᴰ·not-nil (subst (λ (l : List Node). e ∈ l) no-divisors i)
-
-  pub table-good : Good (tableNet s)
-  unfolding tableNet numbered
-  table-good = record {
-    expressions = λ f i. outputs-ordered s f (in-outputs f i) .0;
-    known = λ f i v d. omega (arith, table-variables, reads f (in-outputs f i) (d .0) (d .1) (d .2 .0) (d .2 .1), d .2 .2);
-    inTurn = refl;
-    acyclic = λ v t. through-none t;
-  }
-    where
-      reads : (f : List (List ℕ)) → f ∈ (tableNet s) .outputs → (k : List ℕ) → k ∈ f → (x : ℕ) → x ∈ k → x / 2 < n
-      reads f i k j x d = let o = outputs-are s f i in output-reads n (s .lines) (o .0) (λ l e. c .shaped l e .places) k (subst (λ (g : List (List ℕ)). k ∈ g) (o .1) j) x d
-
-  pub table-within : Within (tableNet s)
-  table-within = record {
-    variables = omega (arith, table-variables, c .inputs);
-    cubes = omega (arith, table-cubes s n m c);
-    literals = table-literals s n m c;
-  }
 
 -- ---- a run on a struct that follows the rules
 
@@ -91,16 +44,16 @@ ran-rules k n h = rw h
 steps-are : (s : Steps) (l : List Made) → Lists s l → madeIn s ≡ l
 steps-are s l h = ap (λ k. map madeOf (take k (s .list))) (h .number) ∙ h .steps
 
-module _ (n : Network) (slots : length (n .counts) ≡ 96) (words : length (n .words) ≡ 2176) (h : rules n ≡ true) where
+module _ (n : Network) (shape : Shaped n) (h : rules n ≡ true) where
   good : Good (netOf n)
-  good = rules-good n slots words h
+  good = rules-good n shape h
 
   within : Within (netOf n)
-  within = rules-within n slots words h
+  within = rules-within n shape h
 
   -- the first divisor's number
   pub first-number : n .inputs + n .divisors ≡ variables (netOf n)
-  first-number = omega (arith, rules-divisors n slots h)
+  first-number = omega (arith, rules-divisors n shape h)
 
   pub first-few : n .inputs + n .divisors ≤ 64
   first-few = omega (arith, first-number, within .variables)
@@ -117,7 +70,7 @@ module _ (n : Network) (slots : length (n .counts) ≡ 96) (words : length (n .w
 
     pub counted-after : counted (r .network) ≡ Is (literalCount (result .network))
     counted-after =
-        counted-rules (r .network) (run-rules n (r .network) slots words 64 h (told .1))
+        counted-rules (r .network) (run-rules n (r .network) shape 64 h (told .1))
         ∙ ap (λ (m : Net). Is (literalCount m)) (holds-net (r .network) (result .network) (told .1) (run-good 64 (netOf n) good .inTurn))
 
     -- what is found is what the definitions say

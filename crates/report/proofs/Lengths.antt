@@ -18,6 +18,7 @@ use Rattle.letters.specs.Laid.{Countable}
 use Rattle.letters.proofs.Numbers.{decimal-length}
 use Rattle.letters_products.proofs.Texts.{cube-length}
 use Rattle.network.specs.Net.{Net, variables, literalCount}
+use Rattle.table.proofs.Keeping.{table-lawful}
 use Rattle.table_lines.specs.Text.{onto, linesOf}
 use Rattle.extract_laws.specs.Divisor.{Divisor, pair, sum, own, small}
 use Rattle.extract_laws.specs.Extract.{weight, step}
@@ -39,7 +40,6 @@ use Rattle.report.specs.Report as report
 use Rattle.report.specs.Report.{divisorText, stepLine, stopText, runText, refusalText, ranText, outcomeText, reportOf}
 use Rattle.report.proofs.Lines.{field, lineEnd, plusWord, variableWord, equalsWord, weightWord, nowWord, startWord, endWord, refusedWord, lineWord, step-start, lines-none, lines-first, run-start, refusal-start}
 use Rattle.report.proofs.Counting.{step-falls, off-left}
-use Rattle.report.proofs.Exploring.{table-good, table-within}
 
 -- ---- the line of a step
 
@@ -173,7 +173,7 @@ refused-length t q e = go (refused-line t q e)
 
 outcome-length : (t : List ℕ) (o : Outcome) → readText t ≡ o → length (outcomeText o) ≤ 4096
 unfolding outcomeText
-outcome-length t (accepted s) e = let c = accepted-complete t s e in ran-length (tableNet s) (table-good s (c .0) (c .1) (c .2)) (table-within s (c .0) (c .1) (c .2))
+outcome-length t (accepted s) e = let c = accepted-complete t s e in let w = table-lawful s (c .0) (c .1) (c .2) in ran-length (tableNet s) (w .good) (w .within)
 outcome-length t (refused q) e = refused-length t q e
 
 -- 4,096 bytes are room for every report

@@ -3,10 +3,10 @@ use Prim.Native.Nat.{ℕ, _<_, _≤_}
 use mathlib.Core.Path.{_≡_, _∙_}
 use mathlib.Core.Bool.{false}
 use mathlib.Core.List.{List}
-use lib.ListN.{length}
 use Rattle.sets.specs.Masks.{bit}
 use Rattle.network.specs.Answers.{evaluated}
 use Rattle.network.specs.declared.Number.the-variants.{Is}
+use Rattle.network.specs.Handed.{Shaped}
 use Rattle.table.specs.Table.{readText}
 use Rattle.table.specs.Written.{outputsOf, cubeLinesOf, someCovers}
 use Rattle.table.specs.Answers as table
@@ -19,10 +19,10 @@ use Rattle.extract.specs.declared.Ran.{Ran}
 use Rattle.extract.proofs.Telling.{ran-outputs}
 
 module _ (text : List ℕ) (t : Table) (o : table.Told (readText text) t) (e : t .answer ≡ Read)
-    (slots : length (t .network .counts) ≡ 96) (words : length (t .network .words) ≡ 2176) (k : ℕ) (r : Ran) (q : extract.Told (ran k (t .network)) r) where
+    (shape : Shaped (t .network)) (k : ℕ) (r : Ran) (q : extract.Told (ran k (t .network)) r) where
   -- output j of the resulting network is on exactly when some cube line of the text with a `1` for output j covers the setting; other bits are zero
   pub run-table-outputs : (x : ℕ) → (y : ℕ) × (evaluated (r .network) x ≡ Is y)
       × ((j : ℕ) → j < outputsOf text → bit y j ≡ someCovers (cubeLinesOf text) x j)
       × ((j : ℕ) → outputsOf text ≤ j → bit y j ≡ false)
   run-table-outputs x =
-      let w = read-outputs text t o e x in (w .0, ran-outputs k (t .network) r slots words (read-rules text t o e) q x ∙ w .1, w .2, w .3)
+      let w = read-outputs text t o e x in (w .0, ran-outputs k (t .network) r shape (read-rules text t o e) q x ∙ w .1, w .2, w .3)

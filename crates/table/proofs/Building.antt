@@ -110,8 +110,11 @@ module _ (f : ℕ → List (List ℕ)) (g : ℕ → ℕ) where
       inputs = refl;
       outputs = sym size;
       divisors = refl;
-      counts = b .counted ∙ ap₂ (λ (x : List (List (List ℕ))) (z : ℕ). map length x ++ replicate (96 - z) 0) (sym (append-nil (done j))) (sym (ap length (append-nil (done j)) ∙ size));
-      cubes = b .cubes ∙ ap₂ (λ (x : List (List (List ℕ))) (z : ℕ). flat x ++ replicate (1088 - z) []) (sym (append-nil (done j))) (b .number ∙ flat-length (done j) ∙ ap (total length) (sym (append-nil (done j))));
+      laid = record {
+        place = refl;
+        counts = b .counted ∙ ap₂ (λ (x : List (List (List ℕ))) (z : ℕ). map length x ++ replicate (96 - z) 0) (sym (append-nil (done j))) (sym (ap length (append-nil (done j)) ∙ size));
+        cubes = b .cubes ∙ ap₂ (λ (x : List (List (List ℕ))) (z : ℕ). flat x ++ replicate (1088 - z) []) (sym (append-nil (done j))) (b .number ∙ flat-length (done j) ∙ ap (total length) (sym (append-nil (done j))));
+      };
     }
       where
         size : length (done j) ≡ j

@@ -1,12 +1,12 @@
 -- A table that is accepted is a network by the rules, which every operation on networks takes. Assumes nothing.
-use Prim.Native.Nat.{ℕ, _-_, _*_, _/_, _<_, _≤_}
-use mathlib.Core.Path.{_≡_, refl, ap, _∙_, subst}
+use Prim.Native.Nat.{ℕ, _*_, _/_, _<_, _≤_}
+use mathlib.Core.Path.{_≡_, refl, sym, ap, _∙_, subst}
 use mathlib.Core.Bool.{true, false}
 use mathlib.Core.Option.{Option, some}
 use mathlib.Core.List.{List, [], _∷_, map, append-nil, List·Memᴰ·not-nil}
 use native.Mathlib.Nat.{mul-le-mul-left}
 use native.Mathlib.Omega.{arith}
-use lib.ListN.{length, replicate, length-append, length-map, length-replicate}
+use lib.ListN.{length, length-map}
 use Rattle.sets.specs.Lists.{total, from}
 use Rattle.sets.specs.Masks.{bit}
 use Rattle.sets.proofs.Lists.{_∈_, total-map, total-times}
@@ -18,13 +18,13 @@ use Rattle.network.specs.Evaluation.{evaluate}
 use Rattle.network.specs.Meaning.{Through, itself, others}
 use Rattle.network.specs.Held.{numbered, netOf, rules}
 use Rattle.network.specs.Handed.{Holds}
-use Rattle.network.specs.Rules.{Follows}
+use Rattle.network.specs.Rules.{Lawful}
 use Rattle.network.specs.Answers.{evaluated}
 use Rattle.network.specs.declared.Network.{Network}
 use Rattle.network.specs.declared.Number.the-variants.{Is}
 use Rattle.network.proofs.Evaluating.{evaluate-past}
-use Rattle.network.proofs.Handing.{used-held, holds-net}
-use Rattle.network.proofs.Holding.{rules-iff}
+use Rattle.network.proofs.Handing.{holds-net}
+use Rattle.network.proofs.Ruling.{holds-lawful}
 use Rattle.table_rows.specs.Lines.{CubeLine}
 use Rattle.table.specs.Table.{State, cubesFor, outputFor, tableNet, orZero, Outcome, accepted, readText}
 use Rattle.table.specs.Written.{inputsOf, outputsOf, cubeLinesOf, someCovers}
@@ -87,56 +87,51 @@ module _ (s : State) (n m : ℕ) (c : Complete s n m) where
         rows,
       )
 
+  in-outputs : (f : List (List ℕ)) → f ∈ nodes (tableNet s) → f ∈ (tableNet s) .outputs
+  unfolding tableNet
+  in-outputs f i = subst (λ (l : List (List (List ℕ))). f ∈ l) (append-nil ((tableNet s) .outputs)) i
+
+  table-inputs : (tableNet s) .inputs ≡ n
+  unfolding tableNet
+  table-inputs = ap orZero (c .wide)
+
+  no-divisors : (tableNet s) .divisors ≡ []
+  unfolding tableNet
+  no-divisors = refl
+
+  through-none : {u v : ℕ} → Through (tableNet s) u v → ⊥
+  through-none (itself {e = e} i j d) = List·Memᴰ·not-nil (subst (λ (l : List Node). e ∈ l) no-divisors i)
+  through-none (others {e = e} i j d t) = List·Memᴰ·not-nil (subst (λ (l : List Node). e ∈ l) no-divisors i)
+
+  reads : (f : List (List ℕ)) → f ∈ (tableNet s) .outputs → (k : List ℕ) → k ∈ f → (x : ℕ) → x ∈ k → x / 2 < n
+  reads f i k j x d = let o = outputs-are s f i in output-reads n (s .lines) (o .0) (λ l e. c .shaped l e .places) k (subst (λ (g : List (List ℕ)). k ∈ g) (o .1) j) x d
+
+  -- the network of an accepted table is by the rules
+  pub table-lawful : Lawful (tableNet s)
+  unfolding numbered
+  table-lawful =
+      let wide = table-inputs in
+      let none = ap (length {A = Node}) no-divisors in
+      record {
+        inputs = (omega (arith, c .inputs), omega (arith, c .inputs));
+        outputs = (omega (arith, outputs-number, c .outputs), omega (arith, outputs-number, c .outputs));
+        within = record { variables = omega (arith, c .inputs); cubes = omega (arith, table-cubes); literals = table-literals };
+        good = record {
+          expressions = λ f i. outputs-ordered s f (in-outputs f i) .0;
+          known = λ f i v d. omega (arith, reads f (in-outputs f i) (d .0) (d .1) (d .2 .0) (d .2 .1), d .2 .2);
+          inTurn = no-divisors ∙ sym (ap (λ (l : List Node). numbered ((tableNet s) .inputs) (map (λ (e : Node). e .cubes) l)) no-divisors);
+          acyclic = λ v t. through-none t;
+        };
+      }
+
   -- ---- the struct that holds it
 
   module _ (r : Network) (h : Holds r (tableNet s)) where
     pub table-net : netOf r ≡ tableNet s
-    unfolding tableNet numbered
-    table-net = holds-net r (tableNet s) h refl
-
-    slots : length (r .counts) ≡ 96
-    slots =
-        let k : length (map length (nodes (tableNet s))) ≡ m = length-map (nodes (tableNet s)) length ∙ ap length nodes-list ∙ length-map (from 0 m) (outputFor (s .lines)) ∙ from-length 0 m in
-        let j : length (nodes (tableNet s)) ≡ m = ap length nodes-list ∙ length-map (from 0 m) (outputFor (s .lines)) ∙ from-length 0 m in
-        ap length (h .counts) ∙ length-append (map length (nodes (tableNet s))) (replicate (96 - length (nodes (tableNet s))) 0) ∙ omega (arith, length-replicate {A = ℕ} (96 - length (nodes (tableNet s))) 0, c .outputs)
-
-    inputs-number : r .inputs ≡ n
-    unfolding tableNet
-    inputs-number = h .inputs ∙ ap orZero (c .wide)
-
-    divisors-number : r .divisors ≡ 0
-    unfolding tableNet
-    divisors-number = h .divisors
-
-    in-outputs : (f : List (List ℕ)) → f ∈ nodes (netOf r) → f ∈ (tableNet s) .outputs
-    unfolding tableNet
-    in-outputs f i = subst (λ (l : List (List (List ℕ))). f ∈ l) (ap nodes table-net ∙ append-nil ((tableNet s) .outputs)) i
-
-    no-divisors : (netOf r) .divisors ≡ []
-    unfolding tableNet
-    no-divisors = ap (λ (k : Net). k .divisors) table-net
-
-    through-none : {u v : ℕ} → Through (netOf r) u v → ⊥
-    through-none (itself {e = e} i j d) = List·Memᴰ·not-nil (subst (λ (l : List Node). e ∈ l) no-divisors i)
-    through-none (others {e = e} i j d t) = List·Memᴰ·not-nil (subst (λ (l : List Node). e ∈ l) no-divisors i)
-
-    follows : Follows r
-    follows = record {
-      inputs = (omega (arith, inputs-number, c .inputs), omega (arith, inputs-number, c .inputs));
-      outputs = (omega (arith, h .outputs, outputs-number, c .outputs), omega (arith, h .outputs, outputs-number, c .outputs));
-      variables = omega (arith, inputs-number, divisors-number, c .inputs);
-      cubes = omega (arith, ap (total (λ k. k)) (used-held r (tableNet s) h), total-map (λ k. k) length (nodes (tableNet s)), table-cubes);
-      literals = omega (arith, ap literalCount table-net, table-literals);
-      expressions = λ f i. outputs-ordered s f (in-outputs f i) .0;
-      known = λ f i v d. omega (arith, inputs-number, divisors-number, reads f (in-outputs f i) (d .0) (d .1) (d .2 .0) (d .2 .1), d .2 .2);
-      acyclic = λ v t. through-none t;
-    }
-      where
-        reads : (f : List (List ℕ)) → f ∈ (tableNet s) .outputs → (k : List ℕ) → k ∈ f → (x : ℕ) → x ∈ k → x / 2 < n
-        reads f i k j x d = let o = outputs-are s f i in output-reads n (s .lines) (o .0) (λ l e. c .shaped l e .places) k (subst (λ (g : List (List ℕ)). k ∈ g) (o .1) j) x d
+    table-net = holds-net r (tableNet s) h (table-lawful .good .inTurn)
 
     pub table-rules : rules r ≡ true
-    table-rules = (rules-iff r slots) .1 follows
+    table-rules = holds-lawful r (tableNet s) h table-lawful
 
 -- ---- what reading a table hands back
 
@@ -170,7 +165,7 @@ module _ (t : List ℕ) (r : Table) (o : Told (readText t) r) (e : r .answer ≡
 
   -- as many inputs and outputs as `.i` and `.o` say
   pub read-sizes : (r .network .inputs ≡ inputsOf t) × (r .network .outputs ≡ outputsOf t)
-  read-sizes = (inputs-number state (inputsOf t) (outputsOf t) whole (r .network) holds, holds .outputs ∙ outputs-number state (inputsOf t) (outputsOf t) whole)
+  read-sizes = (holds .inputs ∙ table-inputs state (inputsOf t) (outputsOf t) whole, holds .outputs ∙ outputs-number state (inputsOf t) (outputsOf t) whole)
 
   -- it keeps the rules
   pub read-rules : rules (r .network) ≡ true
@@ -190,4 +185,4 @@ module _ (t : List ℕ) (r : Table) (o : Told (readText t) r) (e : r .answer ≡
 
   -- its cubes stand in cube order
   pub read-ordered : (f : List (List ℕ)) → f ∈ nodes (netOf (r .network)) → ordered f ≡ true
-  read-ordered f i = outputs-ordered state f (in-outputs state (inputsOf t) (outputsOf t) whole (r .network) holds f i) .1
+  read-ordered f i = outputs-ordered state f (in-outputs state (inputsOf t) (outputsOf t) whole f (subst (λ (k : Net). f ∈ nodes k) net i)) .1

@@ -1,25 +1,21 @@
 -- No two answers to one text differ, and an answer says what the outcome is. Assumes nothing.
 use Prim.Native.Nat.{ℕ}
 use mathlib.Core.Path.{_≡_, refl, sym, _∙_, ap}
-use mathlib.Core.Bool.{true}
 use native.Mathlib.Omega.{arith}
-use lib.ListN.{length}
-use Rattle.expression.proofs.Words.{fit}
-use Rattle.network.proofs.Handing.{holds-one, blank-one}
+use Rattle.network.proofs.Handing.{Typed, holds-one, blank-one}
 use Rattle.table.specs.Table.{State, Outcome, accepted, refused, tableNet}
 use Rattle.table.specs.Answers.{Told}
 use Rattle.table.specs.declared.Refusal.{Refusal}
 use Rattle.table.specs.declared.Answer.the-variants.{Read, Refused}
 use Rattle.table.specs.declared.Table.{Table}
 
--- words that fit their type, as many as the struct has
-pub told-one : (o : Outcome) (r p : Table) → length (r .network .words) ≡ 2176 → length (p .network .words) ≡ 2176
-    → fit (r .network .words) ≡ true → fit (p .network .words) ≡ true → Told o r → Told o p → r ≡ p
-told-one (accepted s) r p lr lp fr fp a b = λ i. record {
+-- two answers to one text are the same
+pub told-one : (o : Outcome) (r p : Table) → Typed (r .network) → Typed (p .network) → Told o r → Told o p → r ≡ p
+told-one (accepted s) r p x y a b = λ i. record {
   answer = (a .0 ∙ sym (b .0)) i;
-  network = holds-one (r .network) (p .network) (tableNet s) lr lp fr fp (a .1) (b .1) i;
+  network = holds-one (r .network) (p .network) (tableNet s) x y (a .1) (b .1) i;
 }
-told-one (refused q) r p lr lp fr fp a b = λ i. record { answer = (a .0 ∙ sym (b .0)) i; network = blank-one (r .network) (p .network) (a .1) (b .1) i }
+told-one (refused q) r p x y a b = λ i. record { answer = (a .0 ∙ sym (b .0)) i; network = blank-one (r .network) (p .network) (a .1) (b .1) i }
 
 module _ (r : Table) where
   pub told-accepted : (o : Outcome) → Told o r → r .answer ≡ Read → (s : State) × (o ≡ accepted s)

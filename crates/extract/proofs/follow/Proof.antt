@@ -14,6 +14,8 @@ use mir.Syntax.{w32}
 use mir.Val.{toZ, ofZ}
 use mir.Facts.{toZ-ofZ}
 use Rattle.network.specs.Held.{netOf, mostVariables}
+use Rattle.network.specs.Handed.{Shaped}
+use Rattle.network.proofs.Handing.{shape-of}
 use Rattle.extract_laws.specs.Run.{runFrom}
 use Rattle.extract_step.specs.declared.Outcome.the-variants as Outcome
 use Rattle.extract.specs.Answers.{Told}
@@ -49,8 +51,8 @@ above : (c : tie.Else2 Inv-loop μ-loop) → ltZ (pos 0) (c .before .before .bef
 above c = not-le (c .before .before .before .before .loop .s .weight) (ap (λ w. leZ w (pos 0)) (sym (read (c .before))) ∙ c .if2 .left)
 
 -- the next network has the slots of its type
-slots : (c : tie.After-step Inv-loop μ-loop) → let n = c .step .result .network in (length (n .counts) ≡ 96) × (length (n .words) ≡ 2176)
-slots c = search needs
+shape : (c : tie.After-step Inv-loop μ-loop) → Shaped (c .step .result .network)
+shape c = shape-of _ (search needs) (search needs)
 
 -- where a step is made
 abbrev head : tie.After-enum-told Inv-loop μ-loop → tie.At-loop Inv-loop μ-loop
@@ -63,7 +65,7 @@ on : (c : tie.After-best2 Inv-loop μ-loop) → let t = c .before .before .befor
 on c =
     let t = c .before .before .before .before in
     let l = head (c .before) in
-    going-on (l .loop .inv) (above (t .before)) (omega arith) (t .step .result) (t .step .ensures) (slots t .0) (slots t .1) (c .best2 .result) (c .best2 .ensures) (c .before .enum-told .given .1)
+    going-on (l .loop .inv) (above (t .before)) (omega arith) (t .step .result) (t .step .ensures) (shape t) (c .best2 .result) (c .best2 .ensures) (c .before .enum-told .given .1)
 
 no-steps-requires : tie.Need-no-steps-requires Inv-loop μ-loop
 no-steps-requires c κs = search needs
@@ -74,7 +76,7 @@ best-requires c κs = search needs
 loop-holds : tie.Need-loop-holds Inv-loop μ-loop
 loop-holds c =
     let s = c .before .before in
-    going-first (s .args .steps) (s .args .n) (c .before .no-steps .result) (c .best .result) (search needs) (search needs) (s .pre) (c .before .no-steps .ensures) (c .best .ensures)
+    going-first (s .args .steps) (s .args .n) (c .before .no-steps .result) (c .best .result) (shape-of _ (search needs) (search needs)) (s .pre) (c .before .no-steps .ensures) (c .best .ensures)
 
 ended-requires : tie.Need-ended-requires Inv-loop μ-loop
 ended-requires c κs = search needs

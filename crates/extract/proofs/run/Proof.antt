@@ -3,7 +3,8 @@ use mathlib.Core.Path.{_≡_, refl}
 use mathlib.Core.Bool.{true}
 use lib.ListN.{length}
 use Rattle.network.specs.Held.{netOf, rules}
-use Rattle.network.specs.Handed.{Holds}
+use Rattle.network.specs.Handed.{Holds, Shaped}
+use Rattle.network.proofs.Handing.{shape-of}
 use Rattle.extract_laws.specs.Run.{inOrder}
 use Rattle.extract_tidy.proofs.Tidied.{tidied-accepted, tidied-refused}
 use Rattle.extract.proofs.Starting.{start-ready, start-told, refused-told}
@@ -11,8 +12,8 @@ use borrow.Author.Needs.{needs}
 use Rattle.extract.proofs.run.Statement.{statement}
 use Rattle.extract.proofs.run.Tie as tie
 
-slots : (s : tie.Start) → (length (s .args .n .counts) ≡ 96) × (length (s .args .n .words) ≡ 2176)
-slots s = search needs
+shape : (s : tie.Start) → Shaped (s .args .n)
+shape s = shape-of _ (search needs) (search needs)
 
 -- what is held where the network is accepted
 kept : (c : tie.After-enum-told) → let i = c .before .before .before in let n = i .before .args .n in (rules n ≡ true) × Holds (i .in-order .result .network) (inOrder (netOf n))
@@ -42,14 +43,14 @@ follow-requires : tie.Need-follow-requires
 follow-requires c κs =
     let i = c .before .before .before in
     let s = i .before in
-    start-ready (s .args .n) (i .in-order .result .network) (slots s .0) (slots s .1) (kept c .0) (kept c .1)
+    start-ready (s .args .n) (i .in-order .result .network) (shape s) (kept c .0) (kept c .1)
 
 returns-2 : tie.Need-returns-2
 returns-2 c =
     let m = c .before in
     let i = m .before .before .before in
     let s = i .before in
-    start-told (s .args .n) (i .in-order .result .network) (slots s .0) (slots s .1) (kept m .0) (kept m .1) (s .args .steps) (c .follow .result) (c .follow .ensures)
+    start-told (s .args .n) (i .in-order .result .network) (shape s) (kept m .0) (kept m .1) (s .args .steps) (c .follow .result) (c .follow .ensures)
 
 pub run-spec : {M : Type 1} → statement M
 run-spec =

@@ -6,6 +6,8 @@ use lib.ListN.{length}
 use borrow.Author.Tests.{not-true, not-false}
 use Rattle.network.specs.Held.{netOf}
 use Rattle.network.proofs.Holding.{nodes-held}
+use Rattle.network.specs.Handed.{Shaped}
+use Rattle.network.proofs.Handing.{shape-of}
 use Rattle.extract_tidy.specs.Tidy.{arranged}
 use Rattle.extract_choice.proofs.Deciding.{arranged-few, arranged-orderly, chosen-leads, chosen-not}
 use borrow.Author.Needs.{needs}
@@ -18,8 +20,8 @@ begin c = c .before .before
 kept : (c : tie.Else1) → arranged (begin c .args .n) ≡ true
 kept c = sym (c .before .is-arranged .ensures) ∙ not-false _ (c .if1 .left)
 
-slots : (s : tie.Start) → (length (s .args .n .counts) ≡ 96) × (length (s .args .n .words) ≡ 2176)
-slots s = search needs
+shape : (s : tie.Start) → Shaped (s .args .n)
+shape s = shape-of _ (search needs) (search needs)
 
 is-arranged-requires : tie.Need-is-arranged-requires
 is-arranged-requires c κs = search needs
@@ -37,10 +39,10 @@ slice-aggregate-choose-2 : tie.Need-slice-aggregate-choose-2
 slice-aggregate-choose-2 c = search needs
 
 add-choose : tie.Need-add-choose
-add-choose c = let s = begin (c .before .before .before .before .before) in omega (arith, arranged-few (s .args .n) (kept (c .before .before .before .before .before)) (slots s .0) (slots s .1))
+add-choose c = let s = begin (c .before .before .before .before .before) in omega (arith, arranged-few (s .args .n) (kept (c .before .before .before .before .before)) (shape s))
 
 choose-requires : tie.Need-choose-requires
-choose-requires c κs = let s = begin (c .before .before .before .before .before) in arranged-orderly (s .args .n) (kept (c .before .before .before .before .before)) (slots s .0) (slots s .1)
+choose-requires c κs = let s = begin (c .before .before .before .before .before) in arranged-orderly (s .args .n) (kept (c .before .before .before .before .before)) (shape s)
 
 returns-2 : tie.Need-returns-2
 returns-2 c =

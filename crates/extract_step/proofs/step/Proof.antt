@@ -7,6 +7,8 @@ use lib.ListN.{length}
 use borrow.Author.Tests.{not-true, not-false}
 use Rattle.network.specs.Net.{variables}
 use Rattle.network.specs.Held.{netOf}
+use Rattle.network.specs.Handed.{Shaped}
+use Rattle.network.proofs.Handing.{shape-of}
 use Rattle.extract_laws.specs.Run.{roomFor}
 use Rattle.extract_tidy.specs.Tidy.{arranged}
 use Rattle.extract_tidy.proofs.Arranged.{arranged-sized}
@@ -22,22 +24,22 @@ use Rattle.extract_step.proofs.step.Tie as tie
 abbrev start : tie.Else1 → tie.Start
 start c = c .before .before
 
-slots : (s : tie.Start) → (length (s .args .n .counts) ≡ 96) × (length (s .args .n .words) ≡ 2176)
-slots s = search needs
+shape : (s : tie.Start) → Shaped (s .args .n)
+shape s = shape-of _ (search needs) (search needs)
 
 -- the network stands in cube order, and so within the limits
 tidy : (c : tie.Else1) → arranged (start c .args .n) ≡ true
 tidy c = sym (c .before .is-arranged .ensures) ∙ not-false _ (c .if1 .left)
 
 few : (c : tie.Else1) → start c .args .n .inputs + start c .args .n .divisors ≤ 64
-few c = arranged-sized (start c .args .n) (tidy c) (slots (start c) .0) (slots (start c) .1) .variables
+few c = arranged-sized (start c .args .n) (tidy c) (shape (start c)) .variables
 
 -- what the divisor was found to be
 tested : (c : tie.After-is-fit) → let s = start (c .before .before) in fitting (variables (netOf (s .args .n))) (divisorOf (s .args .d)) ≡ c .is-fit .result
 tested c =
     let e = c .before .before in
     let s = start e in
-    ap (λ (v : ℕ). fitting v (divisorOf (s .args .d))) (arranged-variables (s .args .n) (slots s .0) (slots s .1) (tidy e)) ∙ sym (c .is-fit .ensures)
+    ap (λ (v : ℕ). fitting v (divisorOf (s .args .d))) (arranged-variables (s .args .n) (shape s) (tidy e)) ∙ sym (c .is-fit .ensures)
 
 is-arranged-requires : tie.Need-is-arranged-requires
 is-arranged-requires c κs = search needs
@@ -76,7 +78,7 @@ returns-3 c =
     let e = c .before .before in
     let t = e .before .before .before in
     let s = start t in
-    stepped-as _ _ (fits e ∙ ap (allowed (netOf (s .args .n))) (room-full (s .args .n) (slots s .0) (slots s .1) (tidy t) _ (c .before .if3 .taken))) (c .refused3 .ensures)
+    stepped-as _ _ (fits e ∙ ap (allowed (netOf (s .args .n))) (room-full (s .args .n) (shape s) (tidy t) _ (c .before .if3 .taken))) (c .refused3 .ensures)
 
 slice-aggregate-made : tie.Need-slice-aggregate-made
 slice-aggregate-made c = search needs
@@ -90,7 +92,7 @@ made-requires c κs =
     let e = h .before in
     let t = e .before .before .before in
     let s = start t in
-    (arranged-source (s .args .n) (slots s .0) (slots s .1) (tidy t) (h .if3 .left), h .if3 .left, fitting-more _ 64 _ (few t) (sym (e .before .is-fit .ensures) ∙ not-false _ (e .if2 .left)))
+    (arranged-source (s .args .n) (shape s) (tidy t) (h .if3 .left), h .if3 .left, fitting-more _ 64 _ (few t) (sym (e .before .is-fit .ensures) ∙ not-false _ (e .if2 .left)))
 
 returns-4 : tie.Need-returns-4
 returns-4 c = stepped-as _ _ (fits (c .before .before .before .before .before .before)) (c .made .ensures)

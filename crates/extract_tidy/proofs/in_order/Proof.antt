@@ -5,8 +5,9 @@ use mathlib.Core.Bool.{true}
 use native.Mathlib.Omega.{arith}
 use lib.ListN.{length}
 use Rattle.network.specs.Held.{netOf, rules}
-use Rattle.network.specs.Handed.{Holds}
-use Rattle.network.specs.Parts.{heldIn, Sized}
+use Rattle.network.specs.Handed.{Shaped, Holds}
+use Rattle.network.specs.Parts.{heldIn, Limited}
+use Rattle.network.proofs.Handing.{shape-of}
 use Rattle.network.proofs.Limits.{rules-sized}
 use Rattle.network.proofs.Ruling.{accepted-rules, refused-rules, rules-refused}
 use Rattle.extract_laws.specs.Run.{inOrder}
@@ -20,11 +21,11 @@ use Rattle.extract_tidy.proofs.in_order.Tie as tie
 kept : (c : tie.After-enum-told) → rules (c .before .before .before .args .n) ≡ true
 kept c = accepted-rules _ (sym (c .before .before .judge .ensures) ∙ c .enum-told .given .1)
 
-slots : (s : tie.Start) → (length (s .args .n .counts) ≡ 96) × (length (s .args .n .words) ≡ 2176)
-slots s = search needs
+shape : (s : tie.Start) → Shaped (s .args .n)
+shape s = shape-of _ (search needs) (search needs)
 
-sized : (c : tie.After-enum-told) → let n = c .before .before .before .args .n in Sized (n .inputs) (n .outputs) (n .divisors) (n .words) (n .counts)
-sized c = let s = c .before .before .before in rules-sized (s .args .n) (slots s .0) (slots s .1) (kept c)
+limited : (c : tie.After-enum-told) → Limited (c .before .before .before .args .n)
+limited c = let s = c .before .before .before in rules-sized (s .args .n) (shape s) (kept c)
 
 judge-requires : tie.Need-judge-requires
 judge-requires c κs = search needs
@@ -46,7 +47,7 @@ returns c =
     tidied-broken n _ h (j .judge .ensures ∙ rules-refused n h) (c .blank .ensures)
 
 add-nodes : tie.Need-add-nodes
-add-nodes c = let z = sized (c .before .before .before) in omega (arith, z .narrow, z .variables)
+add-nodes c = let z = limited (c .before .before .before) in omega (arith, z .narrow, z .variables)
 
 slice-aggregate-sort-nodes : tie.Need-slice-aggregate-sort-nodes
 slice-aggregate-sort-nodes c = search needs
@@ -57,22 +58,22 @@ slice-aggregate-sort-nodes-2 c = search needs
 sort-nodes-requires : tie.Need-sort-nodes-requires
 sort-nodes-requires c κs =
     let t = c .before .before .before .before .before in
-    sized-sortable (sized t) (slots (t .before .before .before) .1)
+    sized-sortable (limited t)
 
 slice-aggregate-front-counts : tie.Need-slice-aggregate-front-counts
 slice-aggregate-front-counts c = search needs
 
 front-counts-requires : tie.Need-front-counts-requires
 front-counts-requires c κs =
-    let z = sized (c .before .before .before .before .before .before .before .before) in
-    (z .slots, omega (arith, z .slots, z .counted))
+    let z = limited (c .before .before .before .before .before .before .before .before) in
+    (z .shape .slots, omega (arith, z .shape .slots, z .counted))
 
 slice-aggregate-front-words : tie.Need-slice-aggregate-front-words
 slice-aggregate-front-words c = search needs
 
 -- no more cubes than the limit
 few : (c : tie.After-sort-nodes) → c .sort-nodes .result ≤ 1088
-few c = omega (arith, c .sort-nodes .ensures .number, sized (c .before .before .before .before .before .before) .cubes)
+few c = omega (arith, c .sort-nodes .ensures .number, limited (c .before .before .before .before .before .before) .cubes)
 
 mul-front-words : tie.Need-mul-front-words
 mul-front-words c = omega (arith, few (c .before .before .before .before))
@@ -88,7 +89,7 @@ returns-2 c =
     let n = s .args .n in
     tidied-kept n _ (kept a) (a .enum-told .given .1)
     (subst (λ m. Holds m (inOrder (netOf n))) (ap₂ (heldIn (n .inputs) (n .outputs) (n .divisors)) (sym (c .before .before .front-counts .ensures)) (sym (c .front-words .ensures)))
-    (sorts-holds n (slots s .0) (slots s .1) (kept a) (t .sort-nodes .last .0) (t .sort-nodes .result) (search needs) (t .sort-nodes .ensures)))
+    (sorts-holds n (shape s) (kept a) (t .sort-nodes .last .0) (t .sort-nodes .result) (search needs) (t .sort-nodes .ensures)))
 
 pub in-order-spec : {M : Type 1} → statement M
 in-order-spec =

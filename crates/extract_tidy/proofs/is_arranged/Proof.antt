@@ -4,7 +4,8 @@ use mathlib.Core.Bool.{true, false}
 use native.Mathlib.Omega.{arith}
 use borrow.Author.Tests.{not-true, not-false}
 use Rattle.network.specs.Held.{sized}
-use Rattle.network.specs.Parts.{Sized}
+use Rattle.network.specs.Parts.{Limited}
+use Rattle.network.proofs.Handing.{shape-of}
 use Rattle.network.proofs.Limits.{sized-out}
 use Rattle.extract_tidy.proofs.Arranged.{arranged-as}
 use Rattle.extract_tidy.proofs.Sorted.{sized-sortable}
@@ -16,8 +17,8 @@ use Rattle.extract_tidy.proofs.is_arranged.Tie as tie
 limits : (c : tie.Else1) → sized (c .before .before .args .n) ≡ true
 limits c = sym (c .before .is-sized .ensures) ∙ not-false _ (c .if1 .left)
 
-small : (c : tie.Else1) → let n = c .before .before .args .n in Sized (n .inputs) (n .outputs) (n .divisors) (n .words) (n .counts)
-small c = sized-out (c .before .before .args .n) (search needs) (search needs) (limits c)
+small : (c : tie.Else1) → Limited (c .before .before .args .n)
+small c = sized-out (c .before .before .args .n) (shape-of _ (search needs) (search needs)) (limits c)
 
 is-sized-requires : tie.Need-is-sized-requires
 is-sized-requires c κs = search needs
@@ -35,7 +36,7 @@ add-all-ordered : tie.Need-add-all-ordered
 add-all-ordered c = let z = small (c .before .before .before .before .before) in omega (arith, z .narrow, z .variables)
 
 all-ordered-requires : tie.Need-all-ordered-requires
-all-ordered-requires c κs = sized-sortable (small (c .before .before .before .before .before)) (search needs)
+all-ordered-requires c κs = sized-sortable (small (c .before .before .before .before .before))
 
 returns-2 : tie.Need-returns-2
 returns-2 c =

@@ -44,7 +44,7 @@ mul-size : tie.Need-mul-size Inv-loop μ-loop
 mul-size c = let z = small (c .before .before .before .before .before .before .before .pre) in omega (arith, taken c, z .0, z .1)
 
 shared-slice-read-size : tie.Need-shared-slice-read-size Inv-loop μ-loop
-shared-slice-read-size c = let p = c .before .before .before .before .before .before .before .before .pre in let z = small p in omega (arith, taken (c .before), z .0, z .1, p .slots)
+shared-slice-read-size c = let p = c .before .before .before .before .before .before .before .before .pre in let z = small p in omega (arith, taken (c .before), z .0, z .1, p .shape .slots)
 
 node-requires : tie.Need-node-requires Inv-loop μ-loop
 node-requires c κs = search needs

@@ -4,6 +4,7 @@ use mathlib.Core.Bool.{true}
 use borrow.Author.Needs.{needs}
 use Rattle.network.specs.Held.{rules}
 use Rattle.network.proofs.Ruling.{accepted-rules}
+use Rattle.network.proofs.Handing.{shape-of}
 use Rattle.image_number.proofs.Telling.{told-refused, rules-order, told-held}
 use Rattle.image_number.proofs.renumber.Statement.{statement}
 use Rattle.image_number.proofs.renumber.Tie as tie
@@ -42,7 +43,7 @@ lawful c = accepted-rules _ (sym (c .before .before .judge .ensures) ∙ c .enum
 build-requires : tie.Need-build-requires
 build-requires c κs =
     let l = c .before .before .before .before .before .before in
-    record { lawful = lawful (l .before); slots = search needs; whole = search needs; listed = rules-order _ (lawful (l .before)) _ (l .listing .ensures) }
+    record { lawful = lawful (l .before); shape = shape-of _ (search needs) (search needs); listed = rules-order _ (lawful (l .before)) _ (l .listing .ensures) }
 
 returns-2 : tie.Need-returns-2
 returns-2 c =

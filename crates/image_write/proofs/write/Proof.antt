@@ -3,9 +3,9 @@ use mathlib.Core.Path.{_≡_}
 use mathlib.Core.Bool.{true}
 use native.Mathlib.Omega.{arith}
 use borrow.Author.Needs.{needs}
-use lib.ListN.{length}
 use Rattle.network.specs.Held.{netOf, rules}
-use Rattle.network.specs.Handed.{nodeSlots, Holds}
+use Rattle.network.specs.Handed.{Shaped, Holds}
+use Rattle.network.proofs.Handing.{shape-of}
 use Rattle.image_laws.specs.Renumber.{renumbered}
 use Rattle.image_write.proofs.Telling.{by-rules, by-refusal, sizes, held, told-rule, told-long, ready, told-written}
 use Rattle.image_write.proofs.write.Statement.{statement}
@@ -15,14 +15,11 @@ use Rattle.image_write.proofs.write.Tie as tie
 by : (c : tie.After-enum-told) → (rules (c .before .before .before .before .args .n) ≡ true) × Holds (c .before .before .renumber .result .network) (renumbered (netOf (c .before .before .before .before .args .n)))
 by c = by-rules _ _ _ (c .before .before .renumber .ensures) (c .enum-told .given .1)
 
-slots : (c : tie.After-enum-told) → length (c .before .before .before .before .args .n .counts) ≡ nodeSlots
-slots c = search needs
+shape : (c : tie.After-enum-told) → Shaped (c .before .before .before .before .args .n)
+shape c = shape-of _ (search needs) (search needs)
 
-places : (c : tie.After-enum-told) → length (c .before .before .renumber .result .network .counts) ≡ nodeSlots
-places c = search needs
-
-whole : (c : tie.After-enum-told) → length (c .before .before .renumber .result .network .words) ≡ 2176
-whole c = search needs
+whole : (c : tie.After-enum-told) → Shaped (c .before .before .renumber .result .network)
+whole c = shape-of _ (search needs) (search needs)
 
 renumber-requires : tie.Need-renumber-requires
 renumber-requires c κs = search needs
@@ -45,13 +42,13 @@ slice-aggregate-nodes-bits-2 c = search needs
 add-nodes-bits : tie.Need-add-nodes-bits
 add-nodes-bits c =
     let t = c .before .before .before .before .before .before in
-    let z = sizes _ (slots t) (by t .0) _ (by t .1) in
+    let z = sizes _ (shape t) (by t .0) _ (by t .1) in
     omega (arith, z .2)
 
 nodes-bits-requires : tie.Need-nodes-bits-requires
 nodes-bits-requires c κs =
     let t = c .before .before .before .before .before .before in
-    held _ (slots t) (by t .0) _ (by t .1) (places t) (whole t)
+    held _ (shape t) (by t .0) _ (by t .1) (whole t)
 
 add-bits : tie.Need-add-bits
 add-bits c = search needs
@@ -62,7 +59,7 @@ add-length c = search needs
 returns-2 : tie.Need-returns-2
 returns-2 c =
     let t = c .before .before .before .before .before .before .before .before in
-    told-long _ (slots t) (by t .0) _ (by t .1) (places t) (whole t) _ _ (c .before .nodes-bits .ensures .0) (c .if1 .taken)
+    told-long _ (shape t) (by t .0) _ (by t .1) (whole t) _ _ (c .before .nodes-bits .ensures .0) (c .if1 .taken)
 
 slice-aggregate-put-all : tie.Need-slice-aggregate-put-all
 slice-aggregate-put-all c = search needs
@@ -74,7 +71,7 @@ put-all-requires : tie.Need-put-all-requires
 put-all-requires c κs =
     let t = c .before .before .before .before .before .before .before .before .before .before .before in
     let b = c .before .before .before .before in
-    ready _ (slots t) (by t .0) _ (by t .1) (places t) (whole t) _ _ (b .nodes-bits .ensures .0) (c .before .before .before .if1 .left) (b .nodes-bits .ensures .1)
+    ready _ (shape t) (by t .0) _ (by t .1) (whole t) _ _ (b .nodes-bits .ensures .0) (c .before .before .before .if1 .left) (b .nodes-bits .ensures .1)
 
 same-length : tie.Need-same-length
 same-length c = search needs
@@ -83,7 +80,7 @@ returns-3 : tie.Need-returns-3
 returns-3 c =
     let t = c .before .before .before .before .before .before .before .before .before .before .before .before .before .before in
     let b = c .before .before .before .before .before .before .before in
-    told-written _ (slots t) (by t .0) _ (by t .1) (places t) (whole t) _ _ (b .nodes-bits .ensures .0) (c .before .before .before .before .before .before .if1 .left) _ _ (c .before .before .put-all .ensures)
+    told-written _ (shape t) (by t .0) _ (by t .1) (whole t) _ _ (b .nodes-bits .ensures .0) (c .before .before .before .before .before .before .if1 .left) _ _ (c .before .before .put-all .ensures)
 
 pub write-spec : {M : Type 1} → statement M
 write-spec =

@@ -1,26 +1,26 @@
 -- `network_evaluate::answer` meets its contract: the divisors settle along the listing, and the outputs are read. Assumes nothing.
 use mathlib.Core.Path.{_∙_}
 use native.Mathlib.Omega.{arith}
-use Rattle.network.specs.Parts.{heldIn, Sized}
+use Rattle.network.specs.Parts.{heldIn, InLimits}
 use Rattle.network.proofs.Limits.{rules-sized}
 use Rattle.network_listing.proofs.Answering.{ordered-listing}
 use Rattle.network_evaluate.proofs.Answering.{answer-is}
 use Rattle.network_evaluate.proofs.answer.Statement.{statement}
 use Rattle.network_evaluate.proofs.answer.Tie as tie
 
-sized : (s : tie.Start) → Sized (s .args .n) (s .args .m) (s .args .k) (s .args .words .now) (s .args .counts .now)
-sized s = rules-sized (heldIn (s .args .n) (s .args .m) (s .args .k) (s .args .counts .now) (s .args .words .now)) (s .pre .slots) (s .pre .whole) (s .pre .lawful)
+limited : (s : tie.Start) → InLimits (s .args .n) (s .args .m) (s .args .k) (s .args .words .now) (s .args .counts .now)
+limited s = rules-sized (heldIn (s .args .n) (s .args .m) (s .args .k) (s .args .counts .now) (s .args .words .now)) (s .pre .shape) (s .pre .lawful)
 
 given-requires : tie.Need-given-requires
-given-requires c κs = omega (arith, sized (c .before .before .before) .variables)
+given-requires c κs = omega (arith, limited (c .before .before .before) .variables)
 
 settle-requires : tie.Need-settle-requires
 settle-requires c κs =
     let s = c .before .before .before .before in
-    ordered-listing (s .args .n) (s .args .m) (s .args .k) (s .args .words .now) (s .args .counts .now) (sized s) _ _ (s .pre .listed)
+    ordered-listing (s .args .n) (s .args .m) (s .args .k) (s .args .words .now) (s .args .counts .now) (limited s) _ _ (s .pre .listed)
 
 collect-requires : tie.Need-collect-requires
-collect-requires c κs = let z = sized (c .before .before .before .before .before) in (omega (arith, z .counted), z .narrow)
+collect-requires c κs = let z = limited (c .before .before .before .before .before) in (omega (arith, z .counted), z .narrow)
 
 returns : tie.Need-returns
 returns c =

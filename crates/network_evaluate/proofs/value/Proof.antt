@@ -1,5 +1,6 @@
 -- `network_evaluate::value` meets its contract: by the rules the listing is handed out whole. Assumes nothing.
 use borrow.Author.Needs.{needs}
+use Rattle.network.proofs.Handing.{shape-of}
 use Rattle.network_listing.proofs.Answering.{listed-out, rules-listable}
 use Rattle.network_evaluate.proofs.value.Statement.{statement}
 use Rattle.network_evaluate.proofs.value.Tie as tie
@@ -20,7 +21,7 @@ answer-requires : tie.Need-answer-requires
 answer-requires c κs =
     let l = c .before .before .before .before .before .before in
     let s = l .before in
-    record { slots = search needs; whole = search needs; lawful = s .pre; listed = listed-out (s .args .n) _ (rules-listable (s .args .n) (s .pre)) (l .listing .ensures) }
+    record { shape = shape-of (s .args .n) (search needs) (search needs); lawful = s .pre; listed = listed-out (s .args .n) _ (rules-listable (s .args .n) (s .pre)) (l .listing .ensures) }
 
 returns : tie.Need-returns
 returns c = c .answer .ensures

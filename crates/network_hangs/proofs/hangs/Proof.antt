@@ -4,10 +4,12 @@ use mathlib.Core.Bool.{true}
 use native.Mathlib.Omega.{arith}
 use borrow.Author.Needs.{needs}
 use Rattle.network.specs.Held.{rules}
-use Rattle.network.specs.Parts.{Sized}
+use Rattle.network.specs.Parts.{Limited}
 use Rattle.network.proofs.Limits.{rules-sized}
 use Rattle.network.proofs.Holding.{rules-iff}
 use Rattle.network.proofs.Ruling.{accepted-rules, refused-rules}
+use Rattle.network.specs.Handed.{Shaped}
+use Rattle.network.proofs.Handing.{shape-of}
 use Rattle.network_hangs.proofs.Finding.{hangs-refused, hangs-past, hangs-found}
 use Rattle.network_hangs.proofs.hangs.Statement.{statement}
 use Rattle.network_hangs.proofs.hangs.Tie as tie
@@ -15,8 +17,11 @@ use Rattle.network_hangs.proofs.hangs.Tie as tie
 kept : (c : tie.After-struct-known) → rules (c .before .before .before .before .args .n) ≡ true
 kept c = accepted-rules _ (sym (c .before .before .before .judge .ensures) ∙ c .before .enum-told .given .1)
 
-sized : (c : tie.After-struct-known) → let n = c .before .before .before .before .args .n in Sized (n .inputs) (n .outputs) (n .divisors) (n .words) (n .counts)
-sized c = rules-sized (c .before .before .before .before .args .n) (search needs) (search needs) (kept c)
+shape : (c : tie.After-struct-known) → Shaped (c .before .before .before .before .args .n)
+shape c = shape-of _ (search needs) (search needs)
+
+limited : (c : tie.After-struct-known) → Limited (c .before .before .before .before .args .n)
+limited c = rules-sized (c .before .before .before .before .args .n) (shape c) (kept c)
 
 judge-requires : tie.Need-judge-requires
 judge-requires c κs = search needs
@@ -33,7 +38,7 @@ returns c =
     hangs-refused (s .args .n) (s .args .i) (refused-rules _ _ (sym (c .before .before .judge .ensures) ∙ c .enum-told2 .given .1))
 
 add-if1 : tie.Need-add-if1
-add-if1 c = omega (arith, sized c .narrow, sized c .variables)
+add-if1 c = omega (arith, limited c .narrow, limited c .variables)
 
 returns-2 : tie.Need-returns-2
 returns-2 c =
@@ -50,7 +55,7 @@ found-requires : tie.Need-found-requires
 found-requires c κs =
     let k = c .before .before .before .before .before in
     let n = k .before .before .before .before .args .n in
-    (sized k, omega (arith, (rules-iff n (search needs)) .0 (kept k) .inputs .1), omega arith)
+    (limited k, omega (arith, (rules-iff n (shape k)) .0 (kept k) .lawful .inputs .1), omega arith)
 
 returns-3 : tie.Need-returns-3
 returns-3 c =

@@ -5,7 +5,8 @@ use native.Mathlib.Omega.{arith}
 use borrow.Author.Needs.{needs}
 use borrow.Author.Tests.{not-true, not-false}
 use Rattle.network.specs.Held.{sized}
-use Rattle.network.specs.Parts.{Sized}
+use Rattle.network.specs.Parts.{Limited}
+use Rattle.network.proofs.Handing.{shape-of}
 use Rattle.network.proofs.Limits.{sized-out}
 use Rattle.network_listing.proofs.Answering.{listable-no, listable-as}
 use Rattle.network_listing.proofs.is_listable.Statement.{statement}
@@ -15,8 +16,8 @@ use Rattle.network_listing.proofs.is_listable.Tie as tie
 limits : (c : tie.Else1) → sized (c .before .before .args .n) ≡ true
 limits c = sym (c .before .is-sized .ensures) ∙ not-false _ (c .if1 .left)
 
-small : (c : tie.Else1) → let n = c .before .before .args .n in Sized (n .inputs) (n .outputs) (n .divisors) (n .words) (n .counts)
-small c = sized-out (c .before .before .args .n) (search needs) (search needs) (limits c)
+small : (c : tie.Else1) → Limited (c .before .before .args .n)
+small c = sized-out (c .before .before .args .n) (shape-of _ (search needs) (search needs)) (limits c)
 
 is-sized-requires : tie.Need-is-sized-requires
 is-sized-requires c κs = search needs
@@ -31,7 +32,7 @@ slice-aggregate-reaches-2 : tie.Need-slice-aggregate-reaches-2
 slice-aggregate-reaches-2 c = search needs
 
 add-reaches : tie.Need-add-reaches
-add-reaches c = let z = small (c .before .before .before .before .before) in omega (arith, z .slots, z .counted)
+add-reaches c = let z = small (c .before .before .before .before .before) in omega (arith, z .narrow, z .variables)
 
 add-reaches-2 : tie.Need-add-reaches-2
 add-reaches-2 c = omega (arith, small (c .before .before .before .before .before .before) .variables)
@@ -42,7 +43,7 @@ reaches-requires c κs = small (c .before .before .before .before .before .befor
 returns-2 : tie.Need-returns-2
 returns-2 c =
     let e = c .before .before .before .before .before .before .before in
-    sym (listable-as (e .before .before .args .n) _ (small e .slots) (small e) (limits e) (sym (c .reaches .ensures)))
+    sym (listable-as (e .before .before .args .n) _ (small e) (limits e) (sym (c .reaches .ensures)))
 
 pub is-listable-spec : {M : Type 1} → statement M
 is-listable-spec =

@@ -4,6 +4,7 @@ use mathlib.Core.Bool.{true}
 use borrow.Author.Needs.{needs}
 use borrow.Author.Tests.{not-true, not-false}
 use Rattle.network.specs.Answers.{listable}
+use Rattle.network.proofs.Handing.{shape-of}
 use Rattle.network.proofs.Limits.{sized-out}
 use Rattle.network_listing.proofs.Answering.{listed-no, listed-is, listable-sized}
 use Rattle.network_listing.proofs.listing.Statement.{statement}
@@ -32,7 +33,7 @@ slice-aggregate-list-2 c = search needs
 list-requires : tie.Need-list-requires
 list-requires c κs =
     let e = c .before .before .before .before in
-    sized-out (e .before .before .args .n) (search needs) (search needs) (listable-sized (e .before .before .args .n) (allowed e))
+    sized-out (e .before .before .args .n) (shape-of _ (search needs) (search needs)) (listable-sized (e .before .before .args .n) (allowed e))
 
 returns-2 : tie.Need-returns-2
 returns-2 c = listed-is _ _ (allowed (c .before .before .before .before .before)) (c .list .ensures)

@@ -5,7 +5,9 @@ use native.Mathlib.Omega.{arith}
 use borrow.Author.Needs.{needs}
 use borrow.Author.Tests.{not-true, not-false}
 use Rattle.network.specs.Answers.{listable}
-use Rattle.network.specs.Parts.{Sized}
+use Rattle.network.specs.Handed.{Shaped}
+use Rattle.network.specs.Parts.{Limited}
+use Rattle.network.proofs.Handing.{shape-of}
 use Rattle.network.proofs.Limits.{sized-out}
 use Rattle.network_listing.proofs.Answering.{listable-sized}
 use Rattle.network_rules.proofs.Ruling.{rules-no, rules-as}
@@ -15,8 +17,11 @@ use Rattle.network_rules.proofs.follows.Tie as tie
 allowed : (c : tie.Else1) → listable (c .before .before .args .n) ≡ true
 allowed c = sym (c .before .is-listable .ensures) ∙ not-false _ (c .if1 .left)
 
-small : (c : tie.Else1) → let n = c .before .before .args .n in Sized (n .inputs) (n .outputs) (n .divisors) (n .words) (n .counts)
-small c = sized-out (c .before .before .args .n) (search needs) (search needs) (listable-sized (c .before .before .args .n) (allowed c))
+shape : (c : tie.Else1) → Shaped (c .before .before .args .n)
+shape c = shape-of _ (search needs) (search needs)
+
+small : (c : tie.Else1) → Limited (c .before .before .args .n)
+small c = sized-out (c .before .before .args .n) (shape c) (listable-sized (c .before .before .args .n) (allowed c))
 
 is-listable-requires : tie.Need-is-listable-requires
 is-listable-requires c κs = search needs
@@ -30,7 +35,7 @@ is-acyclic-requires c κs = search needs
 returns-2 : tie.Need-returns-2
 returns-2 c =
     let e = c .before .before in
-    sym (rules-as (e .before .before .args .n) (search needs) (search needs) (allowed e) ∙ rw (sym (c .before .is-acyclic .ensures) ∙ not-true _ (c .if2 .taken)))
+    sym (rules-as (e .before .before .args .n) (shape e) (allowed e) ∙ rw (sym (c .before .is-acyclic .ensures) ∙ not-true _ (c .if2 .taken)))
 
 slice-aggregate-is-lawful : tie.Need-slice-aggregate-is-lawful
 slice-aggregate-is-lawful c = search needs
@@ -39,7 +44,7 @@ slice-aggregate-is-lawful-2 : tie.Need-slice-aggregate-is-lawful-2
 slice-aggregate-is-lawful-2 c = search needs
 
 add-is-lawful : tie.Need-add-is-lawful
-add-is-lawful c = let z = small (c .before .before .before .before .before .before .before) in omega (arith, z .slots, z .counted)
+add-is-lawful c = let z = small (c .before .before .before .before .before .before .before) in omega (arith, z .narrow, z .variables)
 
 is-lawful-requires : tie.Need-is-lawful-requires
 is-lawful-requires c κs = small (c .before .before .before .before .before .before .before) .counted
@@ -49,7 +54,7 @@ returns-3 c =
     let a = c .before .before .before .before .before .before in
     let e = a .before .before in
     let n = e .before .before .args .n in
-    c .is-lawful .ensures ∙ sym (rules-as n (search needs) (search needs) (allowed e) ∙ rw (sym (a .before .is-acyclic .ensures) ∙ not-false _ (a .if2 .left)))
+    c .is-lawful .ensures ∙ sym (rules-as n (shape e) (allowed e) ∙ rw (sym (a .before .is-acyclic .ensures) ∙ not-false _ (a .if2 .left)))
 
 pub follows-spec : {M : Type 1} → statement M
 follows-spec =

@@ -4,7 +4,7 @@ use mathlib.Core.Bool.{Bool, true, false, cond}
 use Rattle.network.specs.Held.{rules}
 use Rattle.network.specs.Answers.{judged}
 use Rattle.network.specs.declared.Network.{Network}
-use Rattle.network.specs.declared.Judged.the-variants.{Accepted, Refused}
+use Rattle.expression.specs.declared.Verdict.the-variants.{Accepted, Refused}
 use borrow.Author.Needs.{needs}
 use Rattle.network_rules.proofs.judge.Statement.{statement}
 use Rattle.network_rules.proofs.judge.Tie as tie

@@ -4,7 +4,8 @@ use mathlib.Core.Bool.{true}
 use native.Mathlib.Omega.{arith}
 use borrow.Author.Tests.{not-true, not-false}
 use Rattle.network.specs.Held.{rules}
-use Rattle.network.specs.Parts.{Sized}
+use Rattle.network.specs.Parts.{Limited}
+use Rattle.network.proofs.Handing.{shape-of}
 use Rattle.network.proofs.Limits.{rules-sized}
 use Rattle.network_rules.proofs.Ruling.{counted-no, counted-is}
 use borrow.Author.Needs.{needs}
@@ -14,8 +15,8 @@ use Rattle.network_rules.proofs.literals.Tie as tie
 kept : (c : tie.Else1) → rules (c .before .before .args .n) ≡ true
 kept c = sym (c .before .follows .ensures) ∙ not-false _ (c .if1 .left)
 
-sized : (c : tie.Else1) → let n = c .before .before .args .n in Sized (n .inputs) (n .outputs) (n .divisors) (n .words) (n .counts)
-sized c = rules-sized (c .before .before .args .n) (search needs) (search needs) (kept c)
+limited : (c : tie.Else1) → Limited (c .before .before .args .n)
+limited c = rules-sized (c .before .before .args .n) (shape-of _ (search needs) (search needs)) (kept c)
 
 follows-requires : tie.Need-follows-requires
 follows-requires c κs = search needs
@@ -30,7 +31,7 @@ slice-aggregate-count-2 : tie.Need-slice-aggregate-count-2
 slice-aggregate-count-2 c = search needs
 
 add-count : tie.Need-add-count
-add-count c = let z = sized (c .before .before .before .before .before) in omega (arith, z .slots, z .counted)
+add-count c = let z = limited (c .before .before .before .before .before) in omega (arith, z .narrow, z .variables)
 
 count-requires : tie.Need-count-requires
 count-requires c κs = search needs
@@ -38,7 +39,7 @@ count-requires c κs = search needs
 returns-2 : tie.Need-returns-2
 returns-2 c =
     let e = c .before .before .before .before .before .before in
-    counted-is (e .before .before .args .n) (sized e .slots) _ (kept e) (c .count .ensures)
+    counted-is (e .before .before .args .n) (limited e .shape) _ (kept e) (c .count .ensures)
 
 pub literals-spec : {M : Type 1} → statement M
 literals-spec =

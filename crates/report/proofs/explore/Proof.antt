@@ -6,12 +6,14 @@ use borrow.Author.Needs.{needs}
 use lib.ListN.{length}
 use Rattle.network.specs.Answers.{counted}
 use Rattle.network.specs.declared.Number.the-variants.{Is, No}
+use Rattle.network.specs.Handed.{Shaped}
+use Rattle.network.proofs.Handing.{shape-of}
 use Rattle.report.proofs.Exploring.{counted-rules, first-few, never-refused, counted-after, explored}
 use Rattle.report.proofs.explore.Statement.{statement}
 use Rattle.report.proofs.explore.Tie as tie
 
-slots : (s : tie.Start) → (length (s .args .n .counts) ≡ 96) × (length (s .args .n .words) ≡ 2176)
-slots s = search needs
+shape : (s : tie.Start) → Shaped (s .args .n)
+shape s = shape-of _ (search needs) (search needs)
 
 -- two answers to one question
 clash : (x : ℕ) (k : ℕ) → Is x ≡ No k → ⊥
@@ -35,7 +37,7 @@ refused-requires c κs = search needs
 returns : tie.Need-returns
 returns c =
     let s = c .before .before .before .before in
-    absurd (never-refused (s .args .n) (slots s .0) (slots s .1) (s .pre) (c .before .before .before .run .result) (c .before .before .before .run .ensures) _ (c .before .enum-told .given .1))
+    absurd (never-refused (s .args .n) (shape s) (s .pre) (c .before .before .before .run .result) (c .before .before .before .run .ensures) _ (c .before .enum-told .given .1))
 
 literals-requires : tie.Need-literals-requires
 literals-requires c κs = search needs
@@ -69,17 +71,17 @@ refused-requires-3 c κs = search needs
 returns-3 : tie.Need-returns-3
 returns-3 c =
     let s = c .before .before .before .before .before .before .before .before .before .before .before .before in
-    absurd (clash _ _ (sym (counted-after (s .args .n) (slots s .0) (slots s .1) (s .pre) (c .before .before .before .before .before .before .before .before .before .before .before .run .result) (c .before .before .before .before .before .before .before .before .before .before .before .run .ensures)) ∙ sym (c .before .before .before .literals2 .ensures) ∙ c .before .enum-told3 .given .1))
+    absurd (clash _ _ (sym (counted-after (s .args .n) (shape s) (s .pre) (c .before .before .before .before .before .before .before .before .before .before .before .run .result) (c .before .before .before .before .before .before .before .before .before .before .before .run .ensures)) ∙ sym (c .before .before .before .literals2 .ensures) ∙ c .before .enum-told3 .given .1))
 
 add-t14 : tie.Need-add-t14
-add-t14 c = let s = c .before .before .before .before .before .before .before .before .before .before .before .before .before .before in omega (arith, first-few (s .args .n) (slots s .0) (slots s .1) (s .pre))
+add-t14 c = let s = c .before .before .before .before .before .before .before .before .before .before .before .before .before .before in omega (arith, first-few (s .args .n) (shape s) (s .pre))
 
 returns-4 : tie.Need-returns-4
 returns-4 c =
     let s = c .before .before .before .before .before .before .before .before .before .before .before .before .before .before in
-    explored (s .args .n) (slots s .0) (slots s .1) (s .pre) (c .before .before .before .before .before .before .before .before .before .before .before .before .before .run .result) (c .before .before .before .before .before .before .before .before .before .before .before .before .before .run .ensures) _ _ _ (c .before .before .before .before .before .before .before .before .before .before .before .answer .given .1)
+    explored (s .args .n) (shape s) (s .pre) (c .before .before .before .before .before .before .before .before .before .before .before .before .before .run .result) (c .before .before .before .before .before .before .before .before .before .before .before .before .before .run .ensures) _ _ _ (c .before .before .before .before .before .before .before .before .before .before .before .answer .given .1)
     (same _ _ (sym (c .before .before .before .before .before .before .before .start .given .1) ∙ c .before .before .before .before .before .before .before .before .before .literals .ensures ∙ counted-rules (s .args .n) (s .pre)))
-    (same _ _ (sym (c .before .before .before .end .given .1) ∙ c .before .before .before .before .before .literals2 .ensures ∙ counted-after (s .args .n) (slots s .0) (slots s .1) (s .pre) (c .before .before .before .before .before .before .before .before .before .before .before .before .before .run .result) (c .before .before .before .before .before .before .before .before .before .before .before .before .before .run .ensures)))
+    (same _ _ (sym (c .before .before .before .end .given .1) ∙ c .before .before .before .before .before .literals2 .ensures ∙ counted-after (s .args .n) (shape s) (s .pre) (c .before .before .before .before .before .before .before .before .before .before .before .before .before .run .result) (c .before .before .before .before .before .before .before .before .before .before .before .before .before .run .ensures)))
 
 pub explore-spec : {M : Type 1} → statement M
 explore-spec =

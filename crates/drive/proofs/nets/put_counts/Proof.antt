@@ -70,4 +70,3 @@ put-counts-spec =
     loop-again
     same-length-2
     returns-2)
-
