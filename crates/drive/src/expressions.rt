@@ -1,4 +1,5 @@
 // Requests on lent expressions and their rooms.
+use crate::rooms;
 use crate::wire;
 use crate::wire::Told;
 use cokernel::Listed;
@@ -31,21 +32,30 @@ fn divided(f: &[u64], d: &[u64], left: &mut [u64], right: &mut [u64], out: &mut 
 
 // The rooms, one after the other.
 fn divide_right(f: &[u64], d: &[u64], left: &mut [u64], text: &[u8], out: &mut [u8]) -> usize {
-    let mut room = request::words();
-    let n = request::numbers(text, &mut room);
+    let mut room = rooms::numbers();
+    let n = rooms::read_numbers(text, &mut room);
+    if n > rooms::MOST {
+        return wire::put_none(out);
+    }
     divided(f, d, left, &mut room[0..n], out)
 }
 
 fn divide_left(f: &[u64], d: &[u64], text: &[u8], out: &mut [u8]) -> usize {
-    let mut room = request::words();
-    let n = request::numbers(request::head(text), &mut room);
-    divide_right(f, d, &mut room[0..n], request::tail(text), out)
+    let mut room = rooms::numbers();
+    let n = rooms::read_numbers(drive_request::head(text), &mut room);
+    if n > rooms::MOST {
+        return wire::put_none(out);
+    }
+    divide_right(f, d, &mut room[0..n], drive_request::tail(text), out)
 }
 
 fn divide_by(f: &[u64], text: &[u8], out: &mut [u8]) -> usize {
-    let mut pool = request::words();
-    let n = request::numbers(request::head(text), &mut pool);
-    divide_left(f, &pool[0..n], request::tail(text), out)
+    let mut pool = rooms::numbers();
+    let n = rooms::read_numbers(drive_request::head(text), &mut pool);
+    if n > rooms::MOST {
+        return wire::put_none(out);
+    }
+    divide_left(f, &pool[0..n], drive_request::tail(text), out)
 }
 
 fn listed(a: Listed) -> Told {
@@ -62,8 +72,11 @@ fn list(f: &[u64], room: &mut [u64], out: &mut [u8]) -> usize {
 }
 
 fn list_to(f: &[u64], text: &[u8], out: &mut [u8]) -> usize {
-    let mut room = request::words();
-    let n = request::numbers(text, &mut room);
+    let mut room = rooms::numbers();
+    let n = rooms::read_numbers(text, &mut room);
+    if n > rooms::MOST {
+        return wire::put_none(out);
+    }
     list(f, &mut room[0..n], out)
 }
 
@@ -80,8 +93,11 @@ fn write(f: &[u64], room: &mut [u8], out: &mut [u8]) -> usize {
 }
 
 fn write_to(f: &[u64], text: &[u8], out: &mut [u8]) -> usize {
-    let mut room = request::room();
-    let n = request::bytes(text, &mut room);
+    let mut room = rooms::bytes();
+    let n = rooms::read_bytes(text, &mut room);
+    if n > rooms::MOST {
+        return wire::put_none(out);
+    }
     write(f, &mut room[0..n], out)
 }
 
@@ -102,9 +118,13 @@ fn answer(a: Asked, f: &[u64], text: &[u8], out: &mut [u8]) -> usize {
     }
 }
 
-// `divide ; EXPR ; EXPR ; ROOM ; ROOM`, `cokernels ; EXPR ; ROOM` and `factored ; EXPR ; ROOM` with a room in bytes: the groups after the first.
+// `divide ; EXPR ; EXPR ; ROOM ; ROOM`, `cokernels ; EXPR ; ROOM` and `factored ; EXPR ; ROOM` with a room in bytes: the groups after
+// the first.
 pub fn on_expression(a: Asked, text: &[u8], out: &mut [u8]) -> usize {
-    let mut pool = request::words();
-    let n = request::numbers(request::head(text), &mut pool);
-    answer(a, &pool[0..n], request::tail(text), out)
+    let mut pool = rooms::numbers();
+    let n = rooms::read_numbers(drive_request::head(text), &mut pool);
+    if n > rooms::MOST {
+        return wire::put_none(out);
+    }
+    answer(a, &pool[0..n], drive_request::tail(text), out)
 }

@@ -1,5 +1,6 @@
 // Requests for images.
 use crate::nets;
+use crate::rooms;
 use crate::wire;
 use crate::wire::Told;
 use image_read::Answer;
@@ -20,8 +21,11 @@ fn write(n: Network, room: &mut [u8], out: &mut [u8]) -> usize {
 
 // `write ; NET ; ROOM`
 pub fn on_write(n: Network, lent: &[u8], out: &mut [u8]) -> usize {
-    let mut room = request::room();
-    let r = request::bytes(lent, &mut room);
+    let mut room = rooms::bytes();
+    let r = rooms::read_bytes(lent, &mut room);
+    if r > rooms::MOST {
+        return wire::put_none(out);
+    }
     write(n, &mut room[0..r], out)
 }
 

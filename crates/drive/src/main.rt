@@ -3,9 +3,11 @@
 mod expressions;
 mod images;
 mod nets;
+mod rooms;
 mod runs;
 mod wire;
 
+use drive_request::Hex;
 use expressions::Asked;
 use libc::STDIN_FILENO;
 use network::Network;
@@ -74,124 +76,99 @@ fn answer_bytes(name: &[u8], bytes: &[u8], out: &mut [u8]) -> usize {
 }
 
 fn decode(name: &[u8], word: &[u8], out: &mut [u8]) -> usize {
-    let mut room = request::room();
-    let n = request::bytes(word, &mut room);
+    let mut room = rooms::bytes();
+    let n = rooms::read_bytes(word, &mut room);
+    if n > rooms::MOST {
+        return wire::put_none(out);
+    }
     answer_bytes(name, &room[0..n], out)
 }
 
 fn on_bytes(line: &[u8], out: &mut [u8]) -> usize {
-    let word = request::rest(line);
-    if !request::are_bytes(word) {
-        return wire::put_none(out);
-    }
-    decode(request::first(line), word, out)
+    decode(drive_request::first(line), drive_request::rest(line), out)
 }
 
 // ---- operations on expressions
 
-const NUMBERS: usize = 262144;
-
-fn factored(text: &[u8]) -> Asked {
-    if request::fits(request::head(text), NUMBERS) && request::are_bytes(request::tail(text)) {
+fn asked_of(head: &[u8]) -> Asked {
+    if check::same(head, b"factored") {
         return Asked::Factored;
     }
-    Asked::Nothing
-}
-
-fn asked_of(head: &[u8], text: &[u8]) -> Asked {
-    if check::same(head, b"factored") {
-        return factored(text);
-    }
-    if check::same(head, b"cokernels") && request::fits(text, NUMBERS) {
+    if check::same(head, b"cokernels") {
         return Asked::Cokernels;
     }
     Asked::Nothing
 }
 
 fn on_three(line: &[u8], out: &mut [u8]) -> usize {
-    let text = request::tail(line);
-    let a = asked_of(request::head(line), text);
-    expressions::on_expression(a, text, out)
-}
-
-fn divides(text: &[u8]) -> Asked {
-    if request::fits(text, NUMBERS) {
-        return Asked::Division;
-    }
-    Asked::Nothing
+    let a = asked_of(drive_request::head(line));
+    expressions::on_expression(a, drive_request::tail(line), out)
 }
 
 // ---- operations on networks
 
-// Of four groups: 1 for the literal count, 2 for an evaluation, 3 for a run, 0 for no request.
-fn named(head: &[u8]) -> u8 {
+// What is asked of a network.
+enum Wanted {
+    Literals,
+    Evaluation(u64),
+    Run(u64),
+    Nothing,
+}
+
+fn wanted_of(head: &[u8]) -> Wanted {
     if check::same(head, b"literals") {
-        return 1;
+        return Wanted::Literals;
     }
-    let name = request::first(head);
-    if !request::is_number(request::rest(head)) {
-        return 0;
-    }
+    let Hex::Is(v) = drive_request::number(drive_request::rest(head)) else {
+        return Wanted::Nothing;
+    };
+    let name = drive_request::first(head);
     if check::same(name, b"evaluate") {
-        return 2;
+        return Wanted::Evaluation(v);
     }
     if check::same(name, b"extract") {
-        return 3;
+        return Wanted::Run(v);
     }
-    0
+    Wanted::Nothing
 }
 
-fn counted(op: u8, n: Network, v: u64) -> Told {
-    if op == 1 {
-        return nets::told(network_rules::literals(n));
+fn answer_net(w: Wanted, n: Network, out: &mut [u8]) -> usize {
+    match w {
+        Wanted::Literals => wire::put_told(out, nets::told(network_rules::literals(n))),
+        Wanted::Evaluation(v) => wire::put_told(out, nets::told(network_evaluate::evaluate(n, v))),
+        Wanted::Run(v) => runs::on_extract(n, v, out),
+        Wanted::Nothing => wire::put_none(out),
     }
-    nets::told(network_evaluate::evaluate(n, v))
-}
-
-fn answer_net(op: u8, n: Network, v: u64, out: &mut [u8]) -> usize {
-    if op == 3 {
-        return runs::on_extract(n, v, out);
-    }
-    wire::put_told(out, counted(op, n, v))
 }
 
 fn on_four(line: &[u8], out: &mut [u8]) -> usize {
-    let head = request::head(line);
-    let text = request::tail(line);
-    let op = named(head);
-    if op == 0 || !nets::is_net(text) {
+    let g = nets::read_net(drive_request::tail(line));
+    if !g.ok {
         return wire::put_none(out);
     }
-    answer_net(
-        op,
-        nets::read_net(text),
-        request::number(request::rest(head)),
-        out,
-    )
+    let network = g.network;
+    answer_net(wanted_of(drive_request::head(line)), network, out)
 }
 
 // ---- operations of five groups
 
 // The last of four groups.
 fn last(text: &[u8]) -> &[u8] {
-    request::tail(request::tail(request::tail(text)))
-}
-
-// Whether there are a network and a room.
-fn is_lent(text: &[u8]) -> bool {
-    nets::is_net(text) && request::are_bytes(last(text))
+    drive_request::tail(drive_request::tail(drive_request::tail(text)))
 }
 
 fn answer_write(text: &[u8], out: &mut [u8]) -> usize {
-    if !is_lent(text) {
+    let g = nets::read_net(text);
+    if !g.ok {
         return wire::put_none(out);
     }
-    images::on_write(nets::read_net(text), last(text), out)
+    let network = g.network;
+    images::on_write(network, last(text), out)
 }
 
 fn answer_five(head: &[u8], text: &[u8], out: &mut [u8]) -> usize {
     if check::same(head, b"divide") {
-        return expressions::on_expression(divides(text), text, out);
+        return expressions::on_expression(Asked::Division, text, out);
     }
     if check::same(head, b"write") {
         return answer_write(text, out);
@@ -200,12 +177,12 @@ fn answer_five(head: &[u8], text: &[u8], out: &mut [u8]) -> usize {
 }
 
 fn on_five(line: &[u8], out: &mut [u8]) -> usize {
-    answer_five(request::head(line), request::tail(line), out)
+    answer_five(drive_request::head(line), drive_request::tail(line), out)
 }
 
 // The answer to a line, to the front of out; its length is returned.
 fn answer(line: &[u8], out: &mut [u8]) -> usize {
-    let groups = request::groups(line);
+    let groups = drive_request::groups(line);
     if groups == 1 {
         return on_bytes(line, out);
     }
@@ -325,12 +302,8 @@ fn serve(line: &mut [u8], out: &mut [u8]) -> Coming {
     c
 }
 
-fn room() -> [u8; 262144] {
-    [0; 262144]
-}
-
 fn main() {
-    let mut line = room();
+    let mut line = rooms::line();
     let mut out = io::large_buffer();
     let c = serve(&mut line, &mut out);
     if c.length > 0 {

@@ -1,4 +1,5 @@
 // Networks in requests and answers: `n m k ; counts ; words`.
+use crate::rooms;
 use crate::wire;
 use crate::wire::Told;
 use network::Network;
@@ -7,15 +8,21 @@ use std::num;
 
 // ---- requests
 
-// Whether a text begins with the three groups of a network.
-pub fn is_net(text: &[u8]) -> bool {
-    let after = request::tail(text);
-    let sizes = request::head(text);
-    if request::fits(sizes, 2) || !request::fits(sizes, 3) {
-        return false;
-    }
-    request::fits(request::head(after), network::NODES)
-        && request::fits(request::head(request::tail(after)), network::WORDS)
+// A network, and whether it was one that was given.
+pub struct Given {
+    pub ok: bool,
+    pub network: Network,
+}
+
+struct Sizes {
+    ok: bool,
+    pool: [u64; 3],
+}
+
+fn read_sizes(text: &[u8]) -> Sizes {
+    let mut pool = [0u64; 3];
+    let n = rooms::read_numbers(text, &mut pool);
+    Sizes { ok: n == 3, pool }
 }
 
 fn narrow(pool: [u64; network::NODES]) -> [usize; network::NODES] {
@@ -28,36 +35,53 @@ fn narrow(pool: [u64; network::NODES]) -> [usize; network::NODES] {
     counts
 }
 
-fn sizes(text: &[u8]) -> [u64; 3] {
-    let mut pool = [0u64; 3];
-    request::numbers(text, &mut pool);
-    pool
+struct Counts {
+    ok: bool,
+    pool: [usize; network::NODES],
 }
 
-fn counts(text: &[u8]) -> [usize; network::NODES] {
+fn read_counts(text: &[u8]) -> Counts {
     let mut pool = [0u64; network::NODES];
-    request::numbers(text, &mut pool);
-    narrow(pool)
+    let n = rooms::read_numbers(text, &mut pool);
+    Counts {
+        ok: n <= network::NODES,
+        pool: narrow(pool),
+    }
 }
 
-fn words(text: &[u8]) -> [u64; network::WORDS] {
+struct Words {
+    ok: bool,
+    pool: [u64; network::WORDS],
+}
+
+fn read_words(text: &[u8]) -> Words {
     let mut pool = [0u64; network::WORDS];
-    request::numbers(text, &mut pool);
-    pool
+    let n = rooms::read_numbers(text, &mut pool);
+    Words {
+        ok: n <= network::WORDS,
+        pool,
+    }
 }
 
 // The network of the first three groups. Slots that are not given are 0.
-pub fn read_net(text: &[u8]) -> Network {
-    let after = request::tail(text);
-    let sizes = sizes(request::head(text));
-    let counts = counts(request::head(after));
-    let words = words(request::head(request::tail(after)));
-    Network {
+pub fn read_net(text: &[u8]) -> Given {
+    let after = drive_request::tail(text);
+    let s = read_sizes(drive_request::head(text));
+    let c = read_counts(drive_request::head(after));
+    let w = read_words(drive_request::head(drive_request::tail(after)));
+    let sizes = s.pool;
+    let counts = c.pool;
+    let words = w.pool;
+    let network = Network {
         inputs: sizes[0] as usize,
         outputs: sizes[1] as usize,
         divisors: sizes[2] as usize,
         counts,
         words,
+    };
+    Given {
+        ok: s.ok && c.ok && w.ok,
+        network,
     }
 }
 

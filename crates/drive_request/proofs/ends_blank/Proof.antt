@@ -1,0 +1,21 @@
+-- `drive_request::ends_blank` meets its contract. Assumes nothing.
+use mathlib.Core.Path.{sym}
+use Rattle.drive_request.proofs.Splitting.{blank-none}
+use borrow.Author.Needs.{needs}
+use Rattle.drive_request.proofs.ends_blank.Statement.{statement}
+use Rattle.drive_request.proofs.ends_blank.Tie as tie
+
+returns : tie.Need-returns
+returns c = sym (blank-none (c .before .args .line .now) (c .if1 .taken))
+
+sub-result : tie.Need-sub-result
+sub-result c = search needs
+
+shared-slice-read-result : tie.Need-shared-slice-read-result
+shared-slice-read-result c = search needs
+
+returns-2 : tie.Need-returns-2
+returns-2 c = search needs
+
+pub ends-blank-spec : {M : Type 1} → statement M
+ends-blank-spec = tie.close (tie.spec returns sub-result shared-slice-read-result returns-2)

@@ -1,0 +1,134 @@
+-- `drive_request::numbers` meets its contract. The loop's invariant: the numbers of the words from `at` on are due. Assumes nothing.
+use mathlib.Core.Path.{_≡_, sym, ap, _∙_}
+use mathlib.Core.List.{List, _∷_, map}
+use mathlib.Core.Option.{Option, none, some}
+use Prim.Native.Nat.{ℕ, _+_, _-_, _≤_}
+use native.Mathlib.Omega.{arith}
+use lib.ListN.{length, drop}
+use Rattle.drive_request.specs.Numbers.{numberOf, numberIn, numbersOf}
+use Rattle.drive_request.proofs.Splitting.{words-next, words-done}
+use Rattle.drive_request.proofs.Storing.{Storing, storing-all, storing-as, storing-none, storing-full, storing-next, storing-done}
+use borrow.Author.Needs.{needs}
+use Rattle.drive_request.proofs.numbers.Statement.{statement}
+use Rattle.drive_request.proofs.numbers.Tie as tie
+
+abbrev Inv-loop : tie.InvT-loop
+Inv-loop text pool₀ at₀ n₀ pool at n = (at ≤ length text + 1) × Storing pool₀ pool n (numbersOf (drop at text)) (numbersOf text)
+
+abbrev μ-loop : tie.MeasureT-loop
+μ-loop text pool₀ at₀ n₀ pool at n = length text + 1 - at
+
+abbrev text : tie.At-loop Inv-loop μ-loop → List ℕ
+text s = s .before .before .before .args .text .now
+
+-- the numbers after the word
+abbrev rest : tie.After-word-end Inv-loop μ-loop → List (Option ℕ)
+rest w = numbersOf (drop (w .word-end .result + 1) (text (w .before .before)))
+
+-- a word is read: what it is, and the numbers after it
+read : (c : tie.After-number Inv-loop μ-loop) → let w = c .before .before in let s = w .before .before in
+    numbersOf (drop (s .loop .at) (text s)) ≡ numberIn (c .number .result) ∷ rest w
+read c = let w = c .before .before in let s = w .before .before in
+    ap (map numberOf) (words-next (text s) (s .loop .at) (w .word-end .result) (w .before .loop-test .taken) (w .word-end .ensures .0))
+    ∙ ap (λ o. o ∷ rest w) (sym (c .number .ensures))
+
+loop-holds : tie.Need-loop-holds Inv-loop μ-loop
+loop-holds c = (omega arith, storing-all _ _)
+
+word-end-requires : tie.Need-word-end-requires Inv-loop μ-loop
+word-end-requires c κs = search needs
+
+sub-number : tie.Need-sub-number Inv-loop μ-loop
+sub-number c = search needs
+
+part-number-start : tie.Need-part-number-start Inv-loop μ-loop
+part-number-start c = search needs
+
+part-number-end : tie.Need-part-number-end Inv-loop μ-loop
+part-number-end c = search needs
+
+number-requires : tie.Need-number-requires Inv-loop μ-loop
+number-requires c κs = search needs
+
+enum-known-v : tie.Need-enum-known-v Inv-loop μ-loop
+enum-known-v c = search needs
+
+enum-told : tie.Need-enum-told Inv-loop μ-loop
+enum-told c = search needs
+
+-- the word is no number
+missing : (c : tie.After-enum-told Inv-loop μ-loop) → let w = c .before .before .before .before in let s = w .before .before in
+    Storing (s .before .before .before .args .pool .now) (s .loop .pool) (s .loop .n) (none ∷ rest w) (numbersOf (text s))
+missing c = let n = c .before .before in let w = n .before .before in let s = w .before .before in
+    storing-as (read n ∙ ap (λ k. numberIn k ∷ rest w) (c .enum-told .given .1)) (s .loop .inv .1)
+
+same-length : tie.Need-same-length Inv-loop μ-loop
+same-length c = missing c .size
+
+returns : tie.Need-returns Inv-loop μ-loop
+returns c = storing-none (missing c)
+
+-- the number is due, then those after it
+due : (c : tie.After-known-told Inv-loop μ-loop) → let w = c .before .before .before .before .before in let s = w .before .before in
+    Storing (s .before .before .before .args .pool .now) (s .loop .pool) (s .loop .n) (some (c .before .v .given .0 .0) ∷ rest w) (numbersOf (text s))
+due c = let n = c .before .before .before in let w = n .before .before in let s = w .before .before in
+    storing-as (read n ∙ ap (λ k. numberIn k ∷ rest w) (c .before .v .given .1)) (s .loop .inv .1)
+
+same-length-2 : tie.Need-same-length-2 Inv-loop μ-loop
+same-length-2 c = due (c .before) .size
+
+returns-2 : tie.Need-returns-2 Inv-loop μ-loop
+returns-2 c = storing-full (due (c .before)) (c .if1 .taken)
+
+mul-pool : tie.Need-mul-pool Inv-loop μ-loop
+mul-pool c = search needs
+
+slice-write-pool : tie.Need-slice-write-pool Inv-loop μ-loop
+slice-write-pool c = search needs
+
+add-n : tie.Need-add-n Inv-loop μ-loop
+add-n c = search needs
+
+add-at : tie.Need-add-at Inv-loop μ-loop
+add-at c = search needs
+
+loop-less : tie.Need-loop-less Inv-loop μ-loop
+loop-less c = search needs
+
+loop-again : tie.Need-loop-again Inv-loop μ-loop
+loop-again c = let w = c .before .before .before .before .before .before in
+    (omega (arith, w .word-end .ensures .1), storing-next (due (c .before)) (c .if1 .left))
+
+same-length-3 : tie.Need-same-length-3 Inv-loop μ-loop
+same-length-3 c = c .before .loop .inv .1 .size
+
+returns-3 : tie.Need-returns-3 Inv-loop μ-loop
+returns-3 c = let s = c .before in
+    storing-done (storing-as (ap (map numberOf) (words-done (text s) (s .loop .at) (c .loop-test .left))) (s .loop .inv .1))
+
+pub numbers-spec : {M : Type 1} → statement M
+numbers-spec =
+    tie.close
+    (tie.spec
+    Inv-loop
+    μ-loop
+    loop-holds
+    word-end-requires
+    sub-number
+    part-number-start
+    part-number-end
+    number-requires
+    enum-known-v
+    enum-told
+    same-length
+    returns
+    same-length-2
+    returns-2
+    mul-pool
+    slice-write-pool
+    add-n
+    add-at
+    loop-less
+    loop-again
+    same-length-3
+    returns-3)
