@@ -21,11 +21,11 @@ use Rattle.network.specs.Held.{mostVariables, mostCubes}
 use Rattle.image_laws.specs.Widths.{edition1, mostCubeBits, mostCubesBits, mostNodeBits}
 use Rattle.image_laws.specs.Reading.{Parsed, bad, getMany, getCube, getNode}
 use Rattle.image_read.specs.Parts.{FieldIs, setOf, CubeGot, added, Near, Added, CubesGot, CubesAre, NodesGot}
-use Rattle.image_read.specs.declared.Field.the-variants.{Is, Cut}
-use Rattle.image_read.specs.declared.Taken.{Taken}
-use Rattle.image_read.specs.declared.State.{State}
-use Rattle.image_read.specs.declared.Step.{Step}
-use Rattle.image_read.specs.declared.Step.the-variants.{On, Bad}
+use Rattle.image_read.specs.declared.fields.Field.the-variants.{Is, Cut}
+use Rattle.image_read.specs.declared.fields.Taken.{Taken}
+use Rattle.image_read.specs.declared.nodes.State.{State}
+use Rattle.image_read.specs.declared.nodes.Step.{Step}
+use Rattle.image_read.specs.declared.nodes.Step.the-variants.{On, Bad}
 use Rattle.image_read.proofs.Fielding.{field-cut, field-bad, field-got}
 use Rattle.image_read.proofs.Flags.{and-true, and-assoc}
 use Rattle.image_read.proofs.Going.{Going, going-none, going-bad, going-next, going-end}

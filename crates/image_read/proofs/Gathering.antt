@@ -20,9 +20,9 @@ use Rattle.network.specs.Held.{mostVariables}
 use Rattle.image_laws.specs.Widths.{edition1, mostLiteralBits, mostCubeBits}
 use Rattle.image_laws.specs.Reading.{Parsed, got, bad, andThen, getField, allowed, getLiterals, getCube}
 use Rattle.image_read.specs.Parts.{FieldIs, setOf, CubeGot, CubeIs}
-use Rattle.image_read.specs.declared.Field.the-variants.{Is, Cut}
-use Rattle.image_read.specs.declared.Turn.{Turn}
-use Rattle.image_read.specs.declared.Turn.the-variants as turn
+use Rattle.image_read.specs.declared.fields.Field.the-variants.{Is, Cut}
+use Rattle.image_read.specs.declared.fields.Turn.{Turn}
+use Rattle.image_read.specs.declared.fields.Turn.the-variants as turn
 use Rattle.image_read.proofs.Flags.{and-true, and-flip}
 use Rattle.image_read.proofs.Fielding.{field-cut, field-bad, field-got}
 

@@ -16,7 +16,7 @@ use Rattle.network.specs.Held.{mostVariables}
 use Rattle.image_laws.specs.Widths.{editionWidth, edition1, headWidth}
 use Rattle.image_laws.specs.Reading.{Parsed, bad, Raw, andThen, getField, getNodes, getRaw}
 use Rattle.image_read.specs.Parts.{FieldIs, sizesOf, HeadIs}
-use Rattle.image_read.specs.declared.Field.the-variants.{Is, Cut}
+use Rattle.image_read.specs.declared.fields.Field.the-variants.{Is, Cut}
 use Rattle.image_read.specs.declared.Head.{Head}
 use Rattle.image_read.proofs.Bits.{value-below}
 use Rattle.image_read.proofs.Fielding.{field-cut, field-bad, field-got}

@@ -18,7 +18,7 @@ use Rattle.network.specs.Held.{mostCubes}
 use Rattle.network_nodes.specs.Nodes.{cut}
 use Rattle.network.proofs.Handing.{cut-flat, flat-length, flat-append}
 use Rattle.image_read.specs.Parts.{setOf, Added, blankWords, blankCounts}
-use Rattle.image_read.specs.declared.State.{State}
+use Rattle.image_read.specs.declared.nodes.State.{State}
 use Rattle.image_read.proofs.Gathering.{set-asc}
 
 drop-blank : {A : Type 0} (k n : ℕ) (x : A) → drop k (replicate n x) ≡ replicate (n - k) x

@@ -30,7 +30,7 @@ use Rattle.image_read.specs.declared.Answer.{Answer}
 use Rattle.image_read.specs.declared.Answer.the-variants.{Accepted, Refused}
 use Rattle.image_read.specs.declared.Image.{Image}
 use Rattle.image_read.specs.declared.Sizes.{Sizes}
-use Rattle.image_read.specs.declared.State.{State}
+use Rattle.image_read.specs.declared.nodes.State.{State}
 use Rattle.image_read.proofs.Flags.{and-assoc}
 use Rattle.image_read.proofs.Testing.{all-tidy, order-asc}
 use Rattle.image_read.proofs.Standing.{cubes-stand, counts-stand, nodes-stand, both-stand, sum-lengths, total-flat}

@@ -19,14 +19,14 @@ use Rattle.image_laws.specs.Widths.{edition1, headWidth, mostNodeBits, mostBits
 use Rattle.image_laws.specs.Reading.{Parsed, got, bad, Raw, getMany, getNode, getNodes, getRaw, padding, readsEarlier}
 use Rattle.image_read.specs.declared.Answer.{Answer}
 use Rattle.image_read.specs.declared.Answer.the-variants.{Accepted, Refused}
-use Rattle.image_read.specs.declared.Field.{Field}
-use Rattle.image_read.specs.declared.Field.the-variants.{Is, Cut}
-use Rattle.image_read.specs.declared.Taken.{Taken}
-use Rattle.image_read.specs.declared.Turn.{Turn}
-use Rattle.image_read.specs.declared.Turn.the-variants as turn
-use Rattle.image_read.specs.declared.State.{State}
-use Rattle.image_read.specs.declared.Step.{Step}
-use Rattle.image_read.specs.declared.Step.the-variants as step
+use Rattle.image_read.specs.declared.fields.Field.{Field}
+use Rattle.image_read.specs.declared.fields.Field.the-variants.{Is, Cut}
+use Rattle.image_read.specs.declared.fields.Taken.{Taken}
+use Rattle.image_read.specs.declared.fields.Turn.{Turn}
+use Rattle.image_read.specs.declared.fields.Turn.the-variants as turn
+use Rattle.image_read.specs.declared.nodes.State.{State}
+use Rattle.image_read.specs.declared.nodes.Step.{Step}
+use Rattle.image_read.specs.declared.nodes.Step.the-variants as step
 use Rattle.image_read.specs.declared.Sizes.{Sizes}
 use Rattle.image_read.specs.declared.Head.{Head}
 use Rattle.image_read.specs.declared.Head.the-variants as head

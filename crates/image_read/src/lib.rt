@@ -1,30 +1,25 @@
 // The reader of images: fields in turn, then what is left over, then the sums, then the order. A fault leaves at once.
-use cube::Cube;
-use cube::Found;
-use cube::Literal;
+mod fields;
+mod nodes;
+
 use cube::Order;
 use cube::Variable;
 use network::Network;
+use crate::nodes::State;
+use crate::nodes::Step;
 ghost use mathlib.Core.Path.{_≡_};
-ghost use mathlib.Core.Bool.{cond, not, _&&_};
-ghost use mathlib.Core.List.{[]};
-ghost use Prim.Native.Nat.{_+_, _-_, _*_, _/_, _%_, _<_, _≤_};
-ghost use lib.Dec.{ltb};
-ghost use lib.ListN.{length, getD, take, drop};
+ghost use mathlib.Core.Bool.{_&&_};
+ghost use Prim.Native.Nat.{_+_, _-_, _*_, _/_, _<_, _≤_};
+ghost use lib.ListN.{length, drop};
 ghost use Rattle.sets.specs.Lists.{all, total};
-ghost use Rattle.sets.specs.Literal.{oppositeOf};
-ghost use Rattle.sets.specs.Sets.{mem};
-ghost use Rattle.sets.specs.Masks.{bit};
-ghost use Rattle.cube.specs.Cube.{lits};
-ghost use Rattle.image_fields.specs.Fields.{valueOf, bitsIn};
+ghost use Rattle.image_fields.specs.Fields.{bitsIn};
 ghost use Rattle.expression.specs.Words.{cubesOf};
 ghost use Rattle.expression.specs.Expression.{ordered};
 ghost use Rattle.network.specs.Handed.{Blank};
 ghost use Rattle.network.specs.Held.{mostInputs, mostOutputs, mostVariables, mostCubes, reach};
 ghost use Rattle.network_nodes.specs.Nodes.{cut};
-ghost use Rattle.image_laws.specs.Widths.{mostLiteralBits, mostCubeBits, mostCubesBits, mostNodeBits};
-ghost use Rattle.image_laws.specs.Reading.{getLiterals, getCube, getMany, getNode, padding, readsEarlier, judgeRaw, readImage};
-ghost use Rattle.image_read.specs.Parts.{times, widest, FieldIs, CubeIs, added, Low, CubesAre, NodesAre, SizesFit, nodesAt, sizesOf, HeadIs, tidy, nodesIn, orderedIn, Counted, Judging, judgedOf, Copied, Half, Whole};
+ghost use Rattle.image_laws.specs.Reading.{padding, readsEarlier, judgeRaw, readImage};
+ghost use Rattle.image_read.specs.Parts.{times, SizesFit, nodesAt, sizesOf, HeadIs, tidy, nodesIn, orderedIn, Counted, Judging, judgedOf, Copied, Half, Whole};
 ghost use Rattle.image_read.specs.Answers.{Told};
 
 // Where the fields before the first node begin, and the bytes that they end in.
@@ -49,38 +44,6 @@ pub struct Image {
     pub network: Network,
 }
 
-// The number that a field holds; or the image ends before its last bit.
-enum Field {
-    Is(usize),
-    Cut,
-}
-
-// A cube as read: its literals as a set, how many were written, whether they ascend, and the bit after it.
-struct Taken {
-    cube: Cube,
-    literals: usize,
-    ascending: bool,
-    at: usize,
-}
-
-enum Turn {
-    Cube(Taken),
-    Bad(u32),
-}
-
-// How far the image is read: the next bit, the sums of the counts as written, and whether all literals ascend so far.
-struct State {
-    at: usize,
-    cubes: usize,
-    literals: usize,
-    ascending: bool,
-}
-
-enum Step {
-    On(State),
-    Bad(u32),
-}
-
 // The numbers of inputs, outputs and divisors.
 struct Sizes {
     inputs: usize,
@@ -91,207 +54,6 @@ struct Sizes {
 enum Head {
     Of(Sizes),
     Bad(u32),
-}
-
-// A byte as a number of the machine's width.
-fn wide(b: u8) -> usize
-    ensures { λ r. ⌜ r ≡ b ⌝ }
-{
-    b as usize
-}
-
-// Bit p of the image as a number: the bits of a byte, the most significant first.
-fn bit_at(bytes: &[u8], p: usize) -> usize
-    requires { ⌜ p < 8 * length (now bytes) ⌝ }
-    ensures { λ r. ⌜ r ≡ cond (bit (getD (now (bytes .entry)) (p / 8) 0) (7 - p % 8)) 1 0 ⌝ }
-{
-    let b = wide(bytes[p / 8]);
-    if (b >> (7 - p % 8)) & 1 == 1 { 1 } else { 0 }
-}
-
-// The number in w bits from a bit on, which are all there.
-fn value_at(bytes: &[u8], at: usize, w: usize) -> usize
-    requires { ⌜ (at + w ≤ 8 * length (now bytes)) × (at ≤ times 6) × (w ≤ widest) ⌝ }
-    ensures { λ r. ⌜ r ≡ valueOf (take w (drop at (bitsIn (now (bytes .entry))))) ⌝ }
-{
-    let mut v = 0;
-    let mut i = 0;
-    while i < w {
-        v = 2 * v + bit_at(bytes, at + i);
-        i += 1;
-    }
-    v
-}
-
-// The field of w bits from a bit on.
-fn field_at(bytes: &[u8], at: usize, w: usize) -> Field
-    requires { ⌜ (at ≤ times 6) × (1 ≤ w) × (w ≤ widest) ⌝ }
-    ensures { λ r. ⌜ FieldIs w (drop at (bitsIn (now (bytes .entry)))) r ⌝ }
-{
-    if bytes.len() < (at + w + 7) / 8 {
-        return Field::Cut;
-    }
-    Field::Is(value_at(bytes, at, w))
-}
-
-// Whether all literals of c are below l.
-fn is_below(c: Cube, l: Literal) -> bool
-    ensures { λ r. ⌜ r ≡ all (λ x. ltb x (l .0)) (lits c) ⌝ }
-{
-    let f = cube_order::first_from(c, l);
-    match f {
-        Found::At(_) => false,
-        Found::Nothing => true,
-    }
-}
-
-// Whether l is of one of v variables and its opposite is not in c.
-fn is_allowed(c: Cube, l: Literal, v: usize) -> bool
-    ensures { λ r. ⌜ r ≡ (ltb (l .0 / 2) v && not (mem (oppositeOf (l .0)) (lits c))) ⌝ }
-{
-    let x = cube::variable_of(l);
-    if x.0 as usize >= v {
-        return false;
-    }
-    let o = cube::opposite(l);
-    !cube::has(c, o)
-}
-
-// Whether both hold.
-fn both(a: bool, b: bool) -> bool
-    ensures { λ r. ⌜ r ≡ (a && b) ⌝ }
-{
-    if !a {
-        return false;
-    }
-    b
-}
-
-// So many literals of v variables, from a bit on.
-fn literals(bytes: &[u8], start: usize, v: usize, k: usize) -> Turn
-    requires { ⌜ (start ≤ times 5) × (v ≤ mostVariables) × (k ≤ mostVariables) ⌝ }
-    ensures { λ r. ⌜ CubeIs mostLiteralBits (bitsIn (now (bytes .entry))) start (getLiterals v k [] (drop start (bitsIn (now (bytes .entry))))) r ⌝ }
-{
-    let mut seen = cube::empty();
-    let mut ascending = true;
-    let mut at = start;
-    let mut i = 0;
-    while i < k {
-        let f = field_at(bytes, at, image_laws::LITERAL_WIDTH);
-        let Field::Is(x) = f else {
-            return Turn::Bad(11);
-        };
-        let l = Literal(x as u32);
-        if !is_allowed(seen, l, v) {
-            return Turn::Bad(12);
-        }
-        ascending = both(ascending, is_below(seen, l));
-        seen = cube::with(seen, l);
-        at += image_laws::LITERAL_WIDTH;
-        i += 1;
-    }
-    Turn::Cube(Taken {
-        cube: seen,
-        literals: k,
-        ascending,
-        at,
-    })
-}
-
-// The cube from a bit on.
-fn cube_at(bytes: &[u8], at: usize, v: usize) -> Turn
-    requires { ⌜ (at ≤ times 4) × (v ≤ mostVariables) ⌝ }
-    ensures { λ r. ⌜ CubeIs mostCubeBits (bitsIn (now (bytes .entry))) at (getCube v (drop at (bitsIn (now (bytes .entry))))) r ⌝ }
-{
-    let f = field_at(bytes, at, image_laws::LITERALS_WIDTH);
-    let Field::Is(k) = f else {
-        return Turn::Bad(11);
-    };
-    if k > v {
-        return Turn::Bad(12);
-    }
-    literals(bytes, at + image_laws::LITERALS_WIDTH, v, k)
-}
-
-// One cube more.
-fn added(s: State, c: Taken) -> State
-    requires { ⌜ Low (times 5) s × (c .literals ≤ mostVariables) ⌝ }
-    ensures { λ r. ⌜ r ≡ added s c ⌝ }
-{
-    let ascending = both(s.ascending, c.ascending);
-    State {
-        at: c.at,
-        cubes: s.cubes + 1,
-        literals: s.literals + c.literals,
-        ascending,
-    }
-}
-
-// So many cubes, put one after the other; past the last place nothing is put.
-fn cubes(bytes: &[u8], start: State, v: usize, k: usize, words: &mut [u64]) -> Step
-    requires { ⌜ Low (times 3) start × (v ≤ mostVariables) × (k ≤ mostCubes) ⌝ }
-    ensures { λ r. ⌜ CubesAre mostCubesBits (bitsIn (now (bytes .entry))) start (getMany (getCube v) k (drop (start .at) (bitsIn (now (bytes .entry))))) (now (words .entry)) (now (words .exit)) r ⌝ }
-{
-    let mut s = start;
-    let mut i = 0;
-    while i < k {
-        let t = cube_at(bytes, s.at, v);
-        match t {
-            Turn::Bad(e) => {
-                return Step::Bad(e);
-            }
-            Turn::Cube(c) => {
-                expression::put_cube(words, s.cubes, c.cube);
-                s = added(s, c);
-            }
-        }
-        i += 1;
-    }
-    Step::On(s)
-}
-
-// The node from here on: its cube count and its cubes.
-fn node(bytes: &[u8], start: State, v: usize, words: &mut [u64]) -> Step
-    requires { ⌜ Low (times 2) start × (v ≤ mostVariables) ⌝ }
-    ensures { λ r. ⌜ CubesAre mostNodeBits (bitsIn (now (bytes .entry))) start (getNode v (drop (start .at) (bitsIn (now (bytes .entry))))) (now (words .entry)) (now (words .exit)) r ⌝ }
-{
-    let f = field_at(bytes, start.at, image_laws::CUBES_WIDTH);
-    let Field::Is(k) = f else {
-        return Step::Bad(11);
-    };
-    if k > network::CUBES {
-        return Step::Bad(12);
-    }
-    let mut s = start;
-    s.at = start.at + image_laws::CUBES_WIDTH;
-    cubes(bytes, s, v, k, words)
-}
-
-// So many nodes, their counts from place `first` on.
-fn nodes(
-    bytes: &[u8],
-    start: State,
-    v: usize,
-    first: usize,
-    number: usize,
-    words: &mut [u64],
-    counts: &mut [usize],
-) -> Step
-    requires { ⌜ Low (times 1) start × (v ≤ mostVariables) × (first + number ≤ length (now counts)) × (number ≤ mostVariables) ⌝ }
-    ensures { λ r. ⌜ NodesAre number (bitsIn (now (bytes .entry))) start (getMany (getNode v) number (drop (start .at) (bitsIn (now (bytes .entry))))) (now (words .entry)) (now (words .exit)) first (now (counts .entry)) (now (counts .exit)) r ⌝ }
-{
-    let mut s = start;
-    let mut i = 0;
-    while i < number {
-        let t = node(bytes, s, v, words);
-        let Step::On(n) = t else {
-            return t;
-        };
-        counts[first + i] = n.cubes - s.cubes;
-        s = n;
-        i += 1;
-    }
-    Step::On(s)
 }
 
 // The numbers that the first fields give: 12 where there are too many variables.
@@ -316,16 +78,16 @@ fn front(bytes: &[u8]) -> Head
     if bytes.len() < EDITION_BYTES {
         return Head::Bad(11);
     }
-    if value_at(bytes, 0, image_laws::EDITION_WIDTH) != image_laws::EDITION {
+    if fields::value_at(bytes, 0, image_laws::EDITION_WIDTH) != image_laws::EDITION {
         return Head::Bad(12);
     }
     if bytes.len() < HEAD_BYTES {
         return Head::Bad(11);
     }
     sizes_of(
-        value_at(bytes, INPUTS_AT, image_laws::INPUTS_WIDTH),
-        value_at(bytes, OUTPUTS_AT, image_laws::OUTPUTS_WIDTH),
-        value_at(bytes, DIVISORS_AT, image_laws::DIVISORS_WIDTH),
+        fields::value_at(bytes, INPUTS_AT, image_laws::INPUTS_WIDTH),
+        fields::value_at(bytes, OUTPUTS_AT, image_laws::OUTPUTS_WIDTH),
+        fields::value_at(bytes, DIVISORS_AT, image_laws::DIVISORS_WIDTH),
     )
 }
 
@@ -341,7 +103,7 @@ fn is_padded(bytes: &[u8], at: usize) -> bool
     if 8 * n <= at {
         return true;
     }
-    value_at(bytes, at, 8 * n - at) == 0
+    fields::value_at(bytes, at, 8 * n - at) == 0
 }
 
 // Whether each cube comes before the next.
@@ -395,7 +157,7 @@ fn reaches(f: &[u64], v: usize) -> bool
     let next = cube::plain(Variable(v as u32));
     let mut i = 0;
     while i < expression::number(f) {
-        if !is_below(expression::cube_at(f, i), next) {
+        if !fields::is_below(expression::cube_at(f, i), next) {
             return false;
         }
         i += 1;
@@ -540,7 +302,7 @@ fn rest(bytes: &[u8], z: Sizes, s: State, apart: &[u64], given: [usize; network:
     let mut words = [0u64; network::WORDS];
     let mut next = s;
     next.cubes = 0;
-    let o = nodes(
+    let o = nodes::nodes(
         bytes,
         next,
         z.inputs + z.divisors,
@@ -568,7 +330,7 @@ fn body(bytes: &[u8], z: Sizes) -> Image
         literals: 0,
         ascending: true,
     };
-    let d = nodes(
+    let d = nodes::nodes(
         bytes,
         start,
         z.inputs + z.divisors,

@@ -9,7 +9,7 @@ use Rattle.network.specs.Handed.{nodeSlots}
 use Rattle.image_laws.specs.Widths.{headWidth}
 use Rattle.image_laws.specs.Reading.{getMany, getNode}
 use Rattle.image_read.specs.Parts.{NodesAre, blankWords, blankCounts, first}
-use Rattle.image_read.specs.declared.Step.{Step}
+use Rattle.image_read.specs.declared.nodes.Step.{Step}
 use Rattle.image_read.proofs.Telling.{divisors-refused}
 use Rattle.image_read.proofs.body.Statement.{statement}
 use Rattle.image_read.proofs.body.Tie as tie

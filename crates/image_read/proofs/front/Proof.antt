@@ -6,7 +6,7 @@ use lib.ListN.{drop}
 use Rattle.image_fields.specs.Fields.{bitsIn}
 use Rattle.image_laws.specs.Widths.{editionWidth, edition1}
 use Rattle.image_read.specs.Parts.{FieldIs}
-use Rattle.image_read.specs.declared.Field.the-variants.{Is}
+use Rattle.image_read.specs.declared.fields.Field.the-variants.{Is}
 use Rattle.image_read.proofs.Heading.{inputsAt, outputsAt, divisorsAt, field-below, field-is, field-short, edition-cut, edition-bad, front-cut, sizes-are}
 use Rattle.image_read.proofs.front.Statement.{statement}
 use Rattle.image_read.proofs.front.Tie as tie

@@ -8,7 +8,7 @@ use Rattle.image_fields.specs.Fields.{bitsIn}
 use Rattle.network.specs.Handed.{nodeSlots}
 use Rattle.image_laws.specs.Reading.{getMany, getNode}
 use Rattle.image_read.specs.Parts.{NodesAre, blankWords, second}
-use Rattle.image_read.specs.declared.Step.{Step}
+use Rattle.image_read.specs.declared.nodes.Step.{Step}
 use Rattle.image_read.proofs.Telling.{outputs-refused}
 use Rattle.image_read.proofs.rest.Statement.{statement}
 use Rattle.image_read.proofs.rest.Tie as tie

@@ -3,10 +3,10 @@ use Prim.Native.Nat.{_+_}
 use mathlib.Core.Path.{ap}
 use mathlib.Core.Bool.{Bool}
 use borrow.Author.Needs.{needs}
-use Rattle.image_read.specs.declared.Taken.{Taken}
-use Rattle.image_read.specs.declared.State.{State}
-use Rattle.image_read.proofs.added.Statement.{statement}
-use Rattle.image_read.proofs.added.Tie as tie
+use Rattle.image_read.specs.declared.fields.Taken.{Taken}
+use Rattle.image_read.specs.declared.nodes.State.{State}
+use Rattle.image_read.proofs.nodes.added.Statement.{statement}
+use Rattle.image_read.proofs.nodes.added.Tie as tie
 
 abbrev state : State → Taken → Bool → State
 state s c b = record { at = c .at; cubes = s .cubes + 1; literals = s .literals + c .literals; ascending = b }

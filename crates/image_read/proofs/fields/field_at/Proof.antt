@@ -5,8 +5,8 @@ use lib.ListN.{length, drop}
 use borrow.Author.Needs.{needs}
 use Rattle.image_fields.specs.Fields.{bitsIn}
 use Rattle.image_fields.proofs.Bytes.{left-length}
-use Rattle.image_read.proofs.field_at.Statement.{statement}
-use Rattle.image_read.proofs.field_at.Tie as tie
+use Rattle.image_read.proofs.fields.field_at.Statement.{statement}
+use Rattle.image_read.proofs.fields.field_at.Tie as tie
 
 add-if1 : tie.Need-add-if1
 add-if1 c = search needs

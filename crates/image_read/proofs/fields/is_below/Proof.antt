@@ -3,8 +3,8 @@ use mathlib.Core.Path.{sym, ap, _∙_}
 use borrow.Author.Needs.{needs}
 use Rattle.cube.specs.Cube.{answer}
 use Rattle.image_read.proofs.Testing.{isNone, first-below}
-use Rattle.image_read.proofs.is_below.Statement.{statement}
-use Rattle.image_read.proofs.is_below.Tie as tie
+use Rattle.image_read.proofs.fields.is_below.Statement.{statement}
+use Rattle.image_read.proofs.fields.is_below.Tie as tie
 
 first-from-requires : tie.Need-first-from-requires
 first-from-requires c κs = search needs

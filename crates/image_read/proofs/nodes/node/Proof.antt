@@ -8,11 +8,11 @@ use borrow.Author.Needs.{needs}
 use Rattle.image_fields.specs.Fields.{bitsIn}
 use Rattle.image_laws.specs.Widths.{edition1}
 use Rattle.image_read.specs.Parts.{FieldIs}
-use Rattle.image_read.specs.declared.Field.{Field}
-use Rattle.image_read.specs.declared.Field.the-variants.{Is}
+use Rattle.image_read.specs.declared.fields.Field.{Field}
+use Rattle.image_read.specs.declared.fields.Field.the-variants.{Is}
 use Rattle.image_read.proofs.Filling.{node-cut, node-bad, node-are}
-use Rattle.image_read.proofs.node.Statement.{statement}
-use Rattle.image_read.proofs.node.Tie as tie
+use Rattle.image_read.proofs.nodes.node.Statement.{statement}
+use Rattle.image_read.proofs.nodes.node.Tie as tie
 
 abbrev start : tie.After-known-told → tie.Start
 start k = k .before .before .before .before .before .before

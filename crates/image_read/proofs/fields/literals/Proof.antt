@@ -11,12 +11,12 @@ use Rattle.cube.specs.Cube.{lits}
 use Rattle.image_fields.specs.Fields.{bitsIn}
 use Rattle.image_laws.specs.Widths.{edition1}
 use Rattle.image_read.specs.Parts.{FieldIs}
-use Rattle.image_read.specs.declared.Field.{Field}
-use Rattle.image_read.specs.declared.Field.the-variants.{Is}
+use Rattle.image_read.specs.declared.fields.Field.{Field}
+use Rattle.image_read.specs.declared.fields.Field.the-variants.{Is}
 use Rattle.image_read.proofs.Heading.{field-below}
 use Rattle.image_read.proofs.Gathering.{Gathering, gather-none, gather-cut, gather-bad, gather-next, gather-end}
-use Rattle.image_read.proofs.literals.Statement.{statement}
-use Rattle.image_read.proofs.literals.Tie as tie
+use Rattle.image_read.proofs.fields.literals.Statement.{statement}
+use Rattle.image_read.proofs.fields.literals.Tie as tie
 
 abbrev Inv-loop : tie.InvT-loop
 Inv-loop bytes start v k seen₀ ascending₀ at₀ i₀ seen ascending at i =

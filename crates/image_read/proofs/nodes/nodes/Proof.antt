@@ -8,10 +8,10 @@ use Rattle.image_fields.specs.Fields.{bitsIn}
 use Rattle.image_laws.specs.Widths.{mostNodeBits}
 use Rattle.image_laws.specs.Reading.{getMany, getNode}
 use Rattle.image_read.specs.Parts.{CubesAre, NodesAre}
-use Rattle.image_read.specs.declared.Step.{Step}
+use Rattle.image_read.specs.declared.nodes.Step.{Step}
 use Rattle.image_read.proofs.Filling.{Counting, count-none, count-bad, count-next, count-end}
-use Rattle.image_read.proofs.nodes.Statement.{statement}
-use Rattle.image_read.proofs.nodes.Tie as tie
+use Rattle.image_read.proofs.nodes.nodes.Statement.{statement}
+use Rattle.image_read.proofs.nodes.nodes.Tie as tie
 
 abbrev Inv-loop : tie.InvT-loop
 Inv-loop bytes v first number words₀ counts₀ s₀ i₀ words counts s i =

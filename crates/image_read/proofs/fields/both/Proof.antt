@@ -2,8 +2,8 @@
 use mathlib.Core.Path.{sym, ap}
 use mathlib.Core.Bool.{Bool, _&&_}
 use borrow.Author.Tests.{not-true, not-false}
-use Rattle.image_read.proofs.both.Statement.{statement}
-use Rattle.image_read.proofs.both.Tie as tie
+use Rattle.image_read.proofs.fields.both.Statement.{statement}
+use Rattle.image_read.proofs.fields.both.Tie as tie
 
 returns : tie.Need-returns
 returns c =

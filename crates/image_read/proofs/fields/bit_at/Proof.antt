@@ -6,8 +6,8 @@ use borrow.Author.Needs.{needs}
 use borrow.Author.Tests.{eq-eqb, ne-eqb}
 use Rattle.sets.specs.Masks.{bit}
 use Rattle.sets.proofs.Digits.{bit-test}
-use Rattle.image_read.proofs.bit_at.Statement.{statement}
-use Rattle.image_read.proofs.bit_at.Tie as tie
+use Rattle.image_read.proofs.fields.bit_at.Statement.{statement}
+use Rattle.image_read.proofs.fields.bit_at.Tie as tie
 
 shared-slice-read-wide : tie.Need-shared-slice-read-wide
 shared-slice-read-wide c = search needs

@@ -8,11 +8,11 @@ use borrow.Author.Needs.{needs}
 use Rattle.image_fields.specs.Fields.{bitsIn}
 use Rattle.image_laws.specs.Widths.{edition1}
 use Rattle.image_read.specs.Parts.{FieldIs}
-use Rattle.image_read.specs.declared.Field.{Field}
-use Rattle.image_read.specs.declared.Field.the-variants.{Is}
+use Rattle.image_read.specs.declared.fields.Field.{Field}
+use Rattle.image_read.specs.declared.fields.Field.the-variants.{Is}
 use Rattle.image_read.proofs.Gathering.{cube-cut, cube-bad, cube-is}
-use Rattle.image_read.proofs.cube_at.Statement.{statement}
-use Rattle.image_read.proofs.cube_at.Tie as tie
+use Rattle.image_read.proofs.fields.cube_at.Statement.{statement}
+use Rattle.image_read.proofs.fields.cube_at.Tie as tie
 
 abbrev start : tie.After-known-told → tie.Start
 start k = k .before .before .before .before .before

@@ -10,8 +10,8 @@ use Rattle.sets.specs.Masks.{bit}
 use Rattle.image_fields.specs.Fields.{valueOf, bitsIn}
 use Rattle.image_fields.proofs.Bytes.{value-next}
 use Rattle.image_read.proofs.Bits.{value-small, bit-small}
-use Rattle.image_read.proofs.value_at.Statement.{statement}
-use Rattle.image_read.proofs.value_at.Tie as tie
+use Rattle.image_read.proofs.fields.value_at.Statement.{statement}
+use Rattle.image_read.proofs.fields.value_at.Tie as tie
 
 abbrev Inv-loop : tie.InvT-loop
 Inv-loop bytes at w v₀ i₀ v i =

@@ -8,10 +8,10 @@ use Rattle.image_fields.specs.Fields.{bitsIn}
 use Rattle.image_laws.specs.Widths.{mostCubeBits}
 use Rattle.image_laws.specs.Reading.{getCube}
 use Rattle.image_read.specs.Parts.{CubeIs}
-use Rattle.image_read.specs.declared.Turn.{Turn}
+use Rattle.image_read.specs.declared.fields.Turn.{Turn}
 use Rattle.image_read.proofs.Filling.{Filling, fill-none, fill-bad, fill-next, fill-end}
-use Rattle.image_read.proofs.cubes.Statement.{statement}
-use Rattle.image_read.proofs.cubes.Tie as tie
+use Rattle.image_read.proofs.nodes.cubes.Statement.{statement}
+use Rattle.image_read.proofs.nodes.cubes.Tie as tie
 
 abbrev Inv-loop : tie.InvT-loop
 Inv-loop bytes v k words₀ s₀ i₀ words s i =

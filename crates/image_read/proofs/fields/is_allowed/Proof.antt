@@ -7,8 +7,8 @@ use borrow.Author.Needs.{needs}
 use borrow.Author.Tests.{lt-ltb, le-ltb}
 use Rattle.sets.specs.Sets.{mem}
 use Rattle.cube.specs.Cube.{lits}
-use Rattle.image_read.proofs.is_allowed.Statement.{statement}
-use Rattle.image_read.proofs.is_allowed.Tie as tie
+use Rattle.image_read.proofs.fields.is_allowed.Statement.{statement}
+use Rattle.image_read.proofs.fields.is_allowed.Tie as tie
 
 variable-of-requires : tie.Need-variable-of-requires
 variable-of-requires c κs = search needs
