@@ -12,7 +12,7 @@ use Rattle.image_fields.proofs.Bits.{bits-length}
 use Rattle.expression.specs.Expression.{literalsOf}
 use Rattle.network.specs.Net.{Node, Net, nodes, cubeCount, literalCount}
 use Rattle.network.specs.Handed.{flat}
-use Rattle.image_laws.specs.Widths.{editionWidth, edition1, headWidth}
+use Rattle.image_laws.specs.Widths.{editionField, edition1, headSize}
 use Rattle.image_laws.specs.Image.{field, cubeFields, nodeFields, headFields, netFields}
 
 pub fields-append : (a b : List Field) → fieldBits (a ++ b) ≡ fieldBits a ++ fieldBits b
@@ -47,7 +47,7 @@ literalFields c = map (field (edition1 .literal)) c
 
 -- the head, and bits after it
 abbrev pub headed : ℕ → ℕ → ℕ → List Bool → List Bool
-headed n m k l = bitsOf editionWidth (edition1 .number) ++ (inputsBits n ++ (outputsBits m ++ (divisorsBits k ++ l)))
+headed n m k l = bitsOf editionField (edition1 .number) ++ (inputsBits n ++ (outputsBits m ++ (divisorsBits k ++ l)))
 
 pub head-fields : (n m k : ℕ) (l : List Bool) → fieldBits (headFields n m k) ++ l ≡ headed n m k l
 unfolding headFields fieldBits
@@ -110,11 +110,11 @@ nodes-bits-length (f ∷ fs) =
     ap length (fields-append (nodeFields f) (flat (map nodeFields fs))) ∙ length-append (fieldBits (nodeFields f)) (nodeBits fs)
     ∙ omega (arith, node-bits-length f, nodes-bits-length fs)
 
-head-bits-length : (n m k : ℕ) → length (fieldBits (headFields n m k)) ≡ headWidth
+head-bits-length : (n m k : ℕ) → length (fieldBits (headFields n m k)) ≡ headSize
 unfolding fieldBits headFields bitsOf
 head-bits-length n m k = refl
 
-pub net-bits-length : (n : Net) → length (fieldBits (netFields n)) ≡ headWidth + bitsFor (length (nodes n)) (cubeCount n) (literalCount n)
+pub net-bits-length : (n : Net) → length (fieldBits (netFields n)) ≡ headSize + bitsFor (length (nodes n)) (cubeCount n) (literalCount n)
 net-bits-length n =
     let ds = divisorCubes n in
     ap length (net-bits n) ∙ length-append (headBits n) (nodeBits ds ++ nodeBits (n .outputs))

@@ -19,7 +19,7 @@ use Rattle.image_fields.proofs.Bits.{bits-length, value-lt, value-bits, bits-va
 use Rattle.network.specs.Held.{mostInputs, mostOutputs, mostVariables, mostCubes}
 use Rattle.network.specs.Handed.{flat}
 use Rattle.network.proofs.Numbering.{numbered-length, numbered-cubes}
-use Rattle.image_laws.specs.Widths.{editionWidth, edition1}
+use Rattle.image_laws.specs.Widths.{editionField, edition1}
 use Rattle.image_laws.specs.Image.{cubeFields, nodeFields, headFields}
 use Rattle.image_laws.specs.Reading.{Parsed, got, bad, andThen, getField, getMany, allowed, getLiterals, getCube, getNode, Raw, getNodes, getRaw, rawNodes, rawNet}
 use Rattle.image_laws.specs.Meaning.{FitCube, FitNode, FitRaw, rawBits}
@@ -216,7 +216,7 @@ head-put n m k l a b c =
     let n₁ : suc (n - 1) ≡ n = omega arith in
     let m₁ : suc (m - 1) ≡ m = omega arith in
     rw (
-      field-put editionWidth (edition1 .number) (eqb (edition1 .number)) (inputsBits n ++ (outputsBits m ++ (divisorsBits k ++ l))) (omega arith) refl,
+      field-put editionField (edition1 .number) (eqb (edition1 .number)) (inputsBits n ++ (outputsBits m ++ (divisorsBits k ++ l))) (omega arith) refl,
       field-put (edition1 .inputs) (n - 1) (λ x. true) (outputsBits m ++ (divisorsBits k ++ l)) (omega arith) refl,
       field-put (edition1 .outputs) (m - 1) (λ x. true) (divisorsBits k ++ l) (omega arith) refl,
       field-put (edition1 .divisors) k (λ j. leb (suc (n - 1) + j) mostVariables) l (omega arith) (le-leb (suc (n - 1) + k) mostVariables (omega arith)),
@@ -272,11 +272,11 @@ nodes-get n m k l r rest e =
 pub put-get : (l : List Bool) (r : Raw) (rest : List Bool) → getRaw l ≡ got r rest → (l ≡ rawBits r ++ rest) × FitRaw r
 unfolding getRaw
 put-get l r rest e =
-    let p₁ = then-out (getField editionWidth (eqb (edition1 .number)) l) _ e in
+    let p₁ = then-out (getField editionField (eqb (edition1 .number)) l) _ e in
     let p₂ = then-out (getField (edition1 .inputs) (λ x. true) (p₁ .1)) _ (p₁ .3) in
     let p₃ = then-out (getField (edition1 .outputs) (λ x. true) (p₂ .1)) _ (p₂ .3) in
     let p₄ = then-out (getField (edition1 .divisors) (λ k. leb (suc (p₂ .0) + k) mostVariables) (p₃ .1)) _ (p₃ .3) in
-    let f₁ = field-get editionWidth (eqb (edition1 .number)) l (p₁ .2) in
+    let f₁ = field-get editionField (eqb (edition1 .number)) l (p₁ .2) in
     let f₂ = field-get (edition1 .inputs) (λ x. true) (p₁ .1) (p₂ .2) in
     let f₃ = field-get (edition1 .outputs) (λ x. true) (p₂ .1) (p₃ .2) in
     let f₄ = field-get (edition1 .divisors) (λ k. leb (suc (p₂ .0) + k) mostVariables) (p₃ .1) (p₄ .2) in
@@ -285,7 +285,7 @@ put-get l r rest e =
     let a : p₂ .0 ≡ r .inputs - 1 = omega (arith, o .inputs) in
     let b : p₃ .0 ≡ length (r .outputs) - 1 = omega (arith, o .outputs) in
     let few : suc (p₂ .0) + p₄ .0 ≤ mostVariables = leb-true (suc (p₂ .0) + p₄ .0) mostVariables (f₄ .2) in (
-      f₁ .0 ∙ ap₂ (λ x t. bitsOf editionWidth x ++ t) edition
+      f₁ .0 ∙ ap₂ (λ x t. bitsOf editionField x ++ t) edition
           (f₂ .0 ∙ ap₂ (λ x t. bitsOf (edition1 .inputs) x ++ t) a
           (f₃ .0 ∙ ap₂ (λ x t. bitsOf (edition1 .outputs) x ++ t) b
           (f₄ .0 ∙ ap₂ (λ x t. divisorsBits x ++ t) (sym (o .divisors)) (o .bits))))

@@ -5,7 +5,7 @@ use lib.ListN.{length}
 use Rattle.image_fields.specs.Fields.{Field, fieldBits, bytesOf}
 use Rattle.network.specs.Net.{Node, Net}
 use Rattle.network.specs.Handed.{flat}
-use Rattle.image_laws.specs.Widths.{editionWidth, edition1}
+use Rattle.image_laws.specs.Widths.{editionField, edition1}
 use Rattle.image_laws.specs.Renumber.{renumbered}
 
 abbrev pub field : ℕ → ℕ → Field
@@ -22,7 +22,7 @@ nodeFields f = field (edition1 .cubes) (length f) ∷ flat (map cubeFields f)
 -- the edition, n-1, m-1 and k
 unfoldable pub headFields : ℕ → ℕ → ℕ → List Field
 headFields n m k =
-    field editionWidth (edition1 .number) ∷ field (edition1 .inputs) (n - 1) ∷ field (edition1 .outputs) (m - 1) ∷ field (edition1 .divisors) k ∷ []
+    field editionField (edition1 .number) ∷ field (edition1 .inputs) (n - 1) ∷ field (edition1 .outputs) (m - 1) ∷ field (edition1 .divisors) k ∷ []
 
 -- then each divisor, then each output
 unfoldable pub netFields : Net → List Field

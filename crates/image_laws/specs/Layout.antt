@@ -7,7 +7,7 @@ use lib.Dec.{leb, eqb}
 use lib.ListN.{length}
 use Rattle.image_fields.specs.Fields.{valueOf}
 use Rattle.network.specs.Held.{mostVariables, mostCubes}
-use Rattle.image_laws.specs.Widths.{editionWidth, edition1}
+use Rattle.image_laws.specs.Widths.{editionField, edition1}
 use Rattle.image_laws.specs.Reading.{allowed, Raw}
 
 pub data Layout : Type 0 where
@@ -42,7 +42,7 @@ nodesLayout n m k =
 -- the edition, n-1, m-1 and k
 unfoldable pub imageLayout : Layout
 imageLayout =
-    next editionWidth (eqb (edition1 .number)) (λ e.
+    next editionField (eqb (edition1 .number)) (λ e.
     next (edition1 .inputs) (λ x. true) (λ a.
     next (edition1 .outputs) (λ x. true) (λ b.
     next (edition1 .divisors) (λ k. leb (suc a + k) mostVariables) (λ k. nodesLayout (suc a) (suc b) k))))

@@ -11,7 +11,7 @@ use Rattle.image_fields.specs.Fields.{valueOf, bitsIn}
 use Rattle.expression.specs.Expression.{loose, ordered, literalsOf}
 use Rattle.network.specs.Net.{Net}
 use Rattle.network.specs.Held.{numbered, reach, mostVariables, mostCubes, mostLiterals}
-use Rattle.image_laws.specs.Widths.{editionWidth, edition1}
+use Rattle.image_laws.specs.Widths.{editionField, edition1}
 
 -- what is read and the bits after it, or the number of a refusal
 pub data Parsed (A : Type 0) : Type 0 where
@@ -63,7 +63,7 @@ getNodes n m k l =
 
 unfoldable pub getRaw : List Bool → Parsed Raw
 getRaw l =
-    andThen (getField editionWidth (eqb (edition1 .number)) l) (λ e r₁.
+    andThen (getField editionField (eqb (edition1 .number)) l) (λ e r₁.
     andThen (getField (edition1 .inputs) (λ x. true) r₁) (λ a r₂.
     andThen (getField (edition1 .outputs) (λ x. true) r₂) (λ b r₃.
     andThen (getField (edition1 .divisors) (λ k. leb (suc a + k) mostVariables) r₃) (λ k r₄. getNodes (suc a) (suc b) k r₄))))

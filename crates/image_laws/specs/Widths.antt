@@ -3,11 +3,11 @@ use Prim.Native.Nat.{ℕ, _+_, _-_, _*_}
 use Rattle.network.specs.Held.{mostOutputs, mostVariables, mostCubes}
 
 -- the field that holds the number of the edition stands first in every edition
-abbrev pub editionWidth : ℕ
-editionWidth = 4
+abbrev pub editionField : ℕ
+editionField = 4
 
 -- an edition: its number, and how wide n-1, m-1, k, a cube count, a literal count and a literal are
-pub record Edition : Type 0 where
+pub record EditionRow : Type 0 where
   pub number : ℕ
   pub inputs : ℕ
   pub outputs : ℕ
@@ -16,12 +16,12 @@ pub record Edition : Type 0 where
   pub literals : ℕ
   pub literal : ℕ
 
-abbrev pub edition1 : Edition
+abbrev pub edition1 : EditionRow
 edition1 = record { number = 1; inputs = 5; outputs = 5; divisors = 6; cubes = 11; literals = 7; literal = 7 }
 
 -- the edition, n-1, m-1 and k
-abbrev pub headWidth : ℕ
-headWidth = editionWidth + edition1 .inputs + edition1 .outputs + edition1 .divisors
+abbrev pub headSize : ℕ
+headSize = editionField + edition1 .inputs + edition1 .outputs + edition1 .divisors
 
 -- ---- the most bits: a literal of each variable, as many cubes as a network may have in each node, a node for each output and for each variable but one
 
@@ -38,4 +38,4 @@ abbrev pub mostNodeBits : ℕ
 mostNodeBits = edition1 .cubes + mostCubesBits
 
 abbrev pub mostBits : ℕ
-mostBits = headWidth + (mostOutputs + mostVariables - 1) * mostNodeBits
+mostBits = headSize + (mostOutputs + mostVariables - 1) * mostNodeBits

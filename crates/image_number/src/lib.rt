@@ -106,7 +106,8 @@ fn put_node(f: &[u64], places: &[u32], out: &mut [u64], at: usize)
     ensures { λ r. ⌜ Placed (now (out .entry)) (now (out .exit)) at (nodeBy (now (places .entry)) (cubesOf (now (f .entry)))) ⌝ }
 {
     copy(f, places, out, at);
-    expression_sort::sort_part(out, at, at + expression::number(f));
+    let e = at + expression::number(f);
+    expression_sort::sort_part(out, at, e);
 }
 
 // The node that comes to stand at place i: outputs as they are, then the divisors in their order.

@@ -13,7 +13,7 @@ use Rattle.sets.proofs.Truth.{decided}
 use Rattle.image_fields.specs.Fields.{bytesFor, valueOf, bitsIn}
 use Rattle.image_fields.proofs.Bytes.{left-length}
 use Rattle.network.specs.Held.{mostVariables}
-use Rattle.image_laws.specs.Widths.{editionWidth, edition1, headWidth}
+use Rattle.image_laws.specs.Widths.{editionField, edition1, headSize}
 use Rattle.image_laws.specs.Reading.{Parsed, bad, Raw, andThen, getField, getNodes, getRaw}
 use Rattle.image_read.specs.Parts.{FieldIs, sizesOf, HeadIs}
 use Rattle.image_read.specs.declared.fields.Field.the-variants.{Is, Cut}
@@ -27,7 +27,7 @@ field-below w v l h = subst (λ n. n < 2 ^ w) (sym (h .1)) (value-below w l)
 
 -- where the fields begin
 abbrev pub inputsAt : ℕ
-inputsAt = editionWidth
+inputsAt = editionField
 
 abbrev pub outputsAt : ℕ
 outputsAt = inputsAt + edition1 .inputs
@@ -46,19 +46,19 @@ abbrev afterEdition : List Bool → Parsed Raw
 afterEdition l = andThen (getField (edition1 .inputs) (λ x. true) l) (λ a r. afterInputs a r)
 
 module _ (bits : List Bool) where
-  pub edition-cut : FieldIs editionWidth bits Cut → getRaw bits ≡ bad 11
+  pub edition-cut : FieldIs editionField bits Cut → getRaw bits ≡ bad 11
   unfolding getRaw
-  edition-cut h = rw (field-cut editionWidth (eqb (edition1 .number)) bits h)
+  edition-cut h = rw (field-cut editionField (eqb (edition1 .number)) bits h)
 
-  module _ (e : ℕ) (h : FieldIs editionWidth bits (Is e)) where
+  module _ (e : ℕ) (h : FieldIs editionField bits (Is e)) where
     pub edition-bad : (e ≡ edition1 .number → ⊥) → getRaw bits ≡ bad 12
     unfolding getRaw
-    edition-bad d = rw (field-bad editionWidth (eqb (edition1 .number)) bits e h (ne-eqb (edition1 .number) e (λ q. d (sym q))))
+    edition-bad d = rw (field-bad editionField (eqb (edition1 .number)) bits e h (ne-eqb (edition1 .number) e (λ q. d (sym q))))
 
     module _ (one : e ≡ edition1 .number) where
       edition-on : getRaw bits ≡ afterEdition (drop inputsAt bits)
       unfolding getRaw
-      edition-on = rw (field-got editionWidth (eqb (edition1 .number)) bits 0 e h (eq-eqb (edition1 .number) e (sym one)))
+      edition-on = rw (field-got editionField (eqb (edition1 .number)) bits 0 e h (eq-eqb (edition1 .number) e (sym one)))
 
       inputs-cut : FieldIs (edition1 .inputs) (drop inputsAt bits) Cut → getRaw bits ≡ bad 11
       inputs-cut q = edition-on ∙ rw (field-cut (edition1 .inputs) (λ x. true) (drop inputsAt bits) q) refl
@@ -78,7 +78,7 @@ module _ (bits : List Bool) where
           divisors-cut q = outputs-on ∙ rw (field-cut (edition1 .divisors) test (drop divisorsAt bits) q) refl
 
           module _ (k : ℕ) (hk : FieldIs (edition1 .divisors) (drop divisorsAt bits) (Is k)) where
-            sizes-on : test k ≡ true → getRaw bits ≡ getNodes (suc a) (suc b) k (drop headWidth bits)
+            sizes-on : test k ≡ true → getRaw bits ≡ getNodes (suc a) (suc b) k (drop headSize bits)
             sizes-on q = outputs-on ∙ rw (field-got (edition1 .divisors) test bits divisorsAt k hk q) refl
 
             sizes-off : test k ≡ false → getRaw bits ≡ bad 12
@@ -110,7 +110,7 @@ module _ (bytes : List ℕ) (at w v : ℕ) where
   field-short h k = let short : length (drop at (bitsIn bytes)) < w = omega (arith, left-length bytes at) in short
 
 -- the edition is there, and not all that follows it before the nodes
-pub front-cut : (bytes : List ℕ) (e : ℕ) → FieldIs editionWidth (bitsIn bytes) (Is e) → e ≡ edition1 .number → 1 ≤ length bytes → length bytes < bytesFor headWidth → getRaw (bitsIn bytes) ≡ bad 11
+pub front-cut : (bytes : List ℕ) (e : ℕ) → FieldIs editionField (bitsIn bytes) (Is e) → e ≡ edition1 .number → 1 ≤ length bytes → length bytes < bytesFor headSize → getRaw (bitsIn bytes) ≡ bad 11
 front-cut bytes e h one some few = ⊎-elim two less (decided (leb (bytesFor divisorsAt) (length bytes)))
   where
     two : leb (bytesFor divisorsAt) (length bytes) ≡ true → getRaw (bitsIn bytes) ≡ bad 11

@@ -22,7 +22,7 @@ use Rattle.network.proofs.Handing.{Typed, flat-length, holds-one, blank-one}
 use Rattle.image_fields.specs.Fields.{bitsIn}
 use Rattle.network.proofs.Numbering.{numbered-cubes, numbered-length}
 use Rattle.network.proofs.Places.{all-append}
-use Rattle.image_laws.specs.Widths.{headWidth}
+use Rattle.image_laws.specs.Widths.{headSize}
 use Rattle.image_laws.specs.Reading.{got, bad, Raw, rawNodes, rawNet, Outcome, accepted, refused, padding, summed, allInOrder, inTheOrder, readsEarlier, judgeRaw, getMany, getNode, getNodes, getRaw, readImage}
 use Rattle.image_read.specs.Answers.{Told}
 use Rattle.image_read.specs.Parts.{nodesAt, nodesIn, orderedIn, outputCounts, divisorCounts, Judging, verdict, judgedOf, Copied, blankCounts, Half, Whole}
@@ -270,7 +270,7 @@ module _ {bits : List Bool} {z : Sizes} {d : ℕ} {t : State} {apart words count
 -- ---- nodes that are not there
 
 module _ (bits : List Bool) (z : Sizes) (k : ℕ) (r : Image) (h : (r .answer ≡ Refused k) × Blank (r .network)) where
-  pub divisors-refused : getMany (getNode (z .inputs + z .divisors)) (z .divisors) (drop headWidth bits) ≡ bad k → Told (judgeRaw (nodesAt bits z)) r
+  pub divisors-refused : getMany (getNode (z .inputs + z .divisors)) (z .divisors) (drop headSize bits) ≡ bad k → Told (judgeRaw (nodesAt bits z)) r
   unfolding getNodes judgeRaw
   divisors-refused e = rw e h
 

@@ -15,7 +15,7 @@ use Rattle.expression.specs.Expression.{expression, ordered}
 use Rattle.network.specs.Handed.{flat, nodeSlots}
 use Rattle.network.specs.Held.{mostOutputs, mostVariables, mostCubes, mostLiterals}
 use Rattle.network_nodes.specs.Nodes.{cut}
-use Rattle.image_laws.specs.Widths.{edition1, headWidth, mostNodeBits, mostBits}
+use Rattle.image_laws.specs.Widths.{edition1, headSize, mostNodeBits, mostBits}
 use Rattle.image_laws.specs.Reading.{Parsed, got, bad, Raw, getMany, getNode, getNodes, getRaw, padding, readsEarlier}
 use Rattle.image_read.specs.declared.Answer.{Answer}
 use Rattle.image_read.specs.declared.Answer.the-variants.{Accepted, Refused}
@@ -127,7 +127,7 @@ pub record SizesFit (z : Sizes) : Type 0 where
 
 -- the nodes after the first fields
 abbrev pub nodesAt : List Bool → Sizes → Parsed Raw
-nodesAt bits z = getNodes (z .inputs) (z .outputs) (z .divisors) (drop headWidth bits)
+nodesAt bits z = getNodes (z .inputs) (z .outputs) (z .divisors) (drop headSize bits)
 
 -- 12 where there are too many variables
 abbrev pub sizesOf : ℕ → ℕ → ℕ → Head
@@ -189,7 +189,7 @@ pub record Copied (from : List ℕ) (number : ℕ) (old new : List ℕ) (place :
 
 -- before the first node
 abbrev pub first : State
-first = record { at = headWidth; cubes = 0; literals = 0; ascending = true }
+first = record { at = headSize; cubes = 0; literals = 0; ascending = true }
 
 -- before the first output: its cubes are put apart from the divisors'
 abbrev pub second : State → State
@@ -205,7 +205,7 @@ blankCounts = replicate nodeSlots 0
 -- the divisors are read
 pub record Half (bits : List Bool) (z : Sizes) (s : State) (apart counts : List ℕ) : Type 0 where
   pub sized : SizesFit z
-  pub divisors : NodesGot (z .divisors) bits first (getMany (getNode (z .inputs + z .divisors)) (z .divisors) (drop headWidth bits)) blankWords apart (z .outputs) blankCounts counts s
+  pub divisors : NodesGot (z .divisors) bits first (getMany (getNode (z .inputs + z .divisors)) (z .divisors) (drop headSize bits)) blankWords apart (z .outputs) blankCounts counts s
 
 -- the outputs too
 pub record Whole (bits : List Bool) (z : Sizes) (divisors : ℕ) (t : State) (apart words counts : List ℕ) : Type 0 where

@@ -2,11 +2,11 @@
 mod fields;
 mod nodes;
 
+use crate::nodes::State;
+use crate::nodes::Step;
 use cube::Order;
 use cube::Variable;
 use network::Network;
-use crate::nodes::State;
-use crate::nodes::Step;
 ghost use mathlib.Core.Path.{_≡_};
 ghost use mathlib.Core.Bool.{_&&_};
 ghost use Prim.Native.Nat.{_+_, _-_, _*_, _/_, _<_, _≤_};

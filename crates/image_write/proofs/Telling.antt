@@ -24,7 +24,7 @@ use Rattle.network.proofs.Numbering.{numbered-length}
 use Rattle.network.proofs.Ruling.{rules-lawful}
 use Rattle.network_nodes.proofs.Cutting.{cut-take}
 use Rattle.image_laws.specs.Renumber.{newNode, renumbered}
-use Rattle.image_laws.specs.Widths.{headWidth}
+use Rattle.image_laws.specs.Widths.{headSize}
 use Rattle.image_laws.specs.Image.{headFields, netFields, netBytes, imageOf}
 use Rattle.image_laws.proofs.Fielding.{divisorCubes, nodeBits, net-bits, net-bits-length, nodes-bits-length}
 use Rattle.image_number.specs.Answers.{toldBy}
@@ -80,7 +80,7 @@ module _ (r : Network) (m : Net) (h : Holds r m) where
       ∙ sym (net-bits m)
 
   -- so many of them
-  pub size-held : headWidth + length (bitsFrom 0 e (r .words) (r .counts)) ≡ length (fieldBits (netFields m))
+  pub size-held : headSize + length (bitsFrom 0 e (r .words) (r .counts)) ≡ length (fieldBits (netFields m))
   size-held = omega (arith, ap (λ (x : List (List (List ℕ))). length (nodeBits x)) (from-zero e ∙ front), nodes-bits-length (nodes m), net-bits-length m)
 
 -- ---- the network renumbered
@@ -101,18 +101,18 @@ module _ (n : Network) (shape : Shaped n) (lawful : rules n ≡ true) (r : Netwo
     held = record { counted = omega (arith, whole .slots, sizes .2); nodes = sizes .2; few = omega (arith, whole .places) }
 
     module _ (o : List ℕ) (bits : ℕ) (b : bits ≡ length (bitsFrom 0 (r .outputs + r .divisors) (r .words) (r .counts))) where
-      image-length : length (imageOf (netOf n)) ≡ bytesFor (headWidth + bits)
+      image-length : length (imageOf (netOf n)) ≡ bytesFor (headSize + bits)
       unfolding imageOf netBytes
       image-length =
           bytes-length (fieldBits (netFields (renumbered (netOf n))))
-          ∙ ap bytesFor (sym (size-held r (renumbered (netOf n)) h) ∙ ap (headWidth +_) (sym b))
+          ∙ ap bytesFor (sym (size-held r (renumbered (netOf n)) h) ∙ ap (headSize +_) (sym b))
 
       -- 9 where the image is longer
-      pub told-long : length o < bytesFor (headWidth + bits) → Told (refusedBy n o) n o o (wrote.Refused 9)
+      pub told-long : length o < bytesFor (headSize + bits) → Told (refusedBy n o) n o o (wrote.Refused 9)
       unfolding refusedBy
       told-long l = rw (lawful, lt-ltb (length o) (length (imageOf (netOf n))) (omega (arith, image-length))) (refl, refl)
 
-      module _ (l : bytesFor (headWidth + bits) ≤ length o) where
+      module _ (l : bytesFor (headSize + bits) ≤ length o) where
         pub ready : bits ≤ nodeSlots * mostHeldBits → Writable (r .inputs) (r .outputs) (r .divisors) (r .words) (r .counts) o
         unfolding bytesFrom
         ready s =
@@ -125,7 +125,7 @@ module _ (n : Network) (shape : Shaped n) (lawful : rules n ≡ true) (r : Netwo
             }
 
         -- the image at the front, the rest as it was
-        pub told-written : (o′ : List ℕ) (p : ℕ) → LaidBits o o′ 0 p (allBits (r .inputs) (r .outputs) (r .divisors) (r .words) (r .counts)) → Told (refusedBy n o) n o o′ (wrote.Bytes (bytesFor (headWidth + bits)))
+        pub told-written : (o′ : List ℕ) (p : ℕ) → LaidBits o o′ 0 p (allBits (r .inputs) (r .outputs) (r .divisors) (r .words) (r .counts)) → Told (refusedBy n o) n o o′ (wrote.Bytes (bytesFor (headSize + bits)))
         unfolding refusedBy bytesFrom imageOf netBytes
         told-written o′ p k =
             let w : o′ ≡ imageOf (netOf n) ++ drop (length (imageOf (netOf n))) o =

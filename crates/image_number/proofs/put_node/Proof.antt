@@ -15,10 +15,14 @@ copy-requires c κs = search needs
 number-requires : tie.Need-number-requires
 number-requires c κs = search needs
 
-add-sort-part : tie.Need-add-sort-part
-add-sort-part c =
-    let s = c .before .before .before .before .before .before .before .before .before in
-    omega (arith, s .pre .1, c .number .ensures, cubes-length (s .args .out .now))
+abbrev start : tie.After-copy → tie.Start
+start y = y .before .before .before .before .before
+
+abbrev copied : tie.After-number → tie.After-copy
+copied n = n .before .before .before
+
+add-e : tie.Need-add-e
+add-e c = let s = start (copied c) in omega (arith, s .pre .1, c .number .ensures, cubes-length (s .args .out .now))
 
 sort-part-requires : tie.Need-sort-part-requires
 sort-part-requires c κs = search needs
@@ -28,13 +32,12 @@ same-length c = search needs
 
 returns : tie.Need-returns
 returns c =
-    let t = c .before .before in
-    let y = t .before .before .before .before .before in
-    let s = y .before .before .before .before .before in
+    let n = c .before .before .before .before in
+    let s = start (copied n) in
     let e = length-map (cubesOf (s .args .f .now)) (cubeBy (s .args .places .now)) in
-    placed-sort (y .copy .ensures) (omega (arith, s .pre .1)) (omega (arith, e, t .before .number .ensures)) (t .sort-part .ensures)
+    placed-sort (copied n .copy .ensures) (omega (arith, s .pre .1)) (omega (arith, e, n .number .ensures)) (c .before .before .sort-part .ensures)
 
 pub put-node-spec : {M : Type 1} → statement M
 put-node-spec =
     tie.close
-    (tie.spec copy-requires number-requires add-sort-part sort-part-requires same-length returns)
+    (tie.spec copy-requires number-requires add-e sort-part-requires same-length returns)

@@ -4,7 +4,7 @@ use mathlib.Core.List.{List}
 use native.Mathlib.Omega.{arith}
 use lib.ListN.{drop}
 use Rattle.image_fields.specs.Fields.{bitsIn}
-use Rattle.image_laws.specs.Widths.{editionWidth, edition1}
+use Rattle.image_laws.specs.Widths.{editionField, edition1}
 use Rattle.image_read.specs.Parts.{FieldIs}
 use Rattle.image_read.specs.declared.fields.Field.the-variants.{Is}
 use Rattle.image_read.proofs.Heading.{inputsAt, outputsAt, divisorsAt, field-below, field-is, field-short, edition-cut, edition-bad, front-cut, sizes-are}
@@ -18,8 +18,8 @@ abbrev bits : tie.Start → List Bool
 bits s = bitsIn (s .args .bytes .now)
 
 -- the fields that were read
-edition : (v : tie.After-value-at) → FieldIs editionWidth (bits (start v)) (Is (v .value-at .result))
-edition v = field-is (start v .args .bytes .now) 0 editionWidth _ (omega (arith, v .before .if1 .left)) (v .value-at .ensures)
+edition : (v : tie.After-value-at) → FieldIs editionField (bits (start v)) (Is (v .value-at .result))
+edition v = field-is (start v .args .bytes .now) 0 editionField _ (omega (arith, v .before .if1 .left)) (v .value-at .ensures)
 
 abbrev first : tie.After-value-at2 → tie.After-value-at
 first v = v .before .before .before
@@ -34,7 +34,7 @@ divisors : (v : tie.After-value-at4) → FieldIs (edition1 .divisors) (drop divi
 divisors v = field-is (start (first (v .before .before)) .args .bytes .now) divisorsAt (edition1 .divisors) _ (omega (arith, v .before .before .before .if3 .left)) (v .value-at4 .ensures)
 
 returns : tie.Need-returns
-returns c = let s = c .before .before in edition-cut (bits s) (field-short (s .args .bytes .now) 0 editionWidth 0 (omega (arith, c .if1 .taken)) (omega arith))
+returns c = let s = c .before .before in edition-cut (bits s) (field-short (s .args .bytes .now) 0 editionField 0 (omega (arith, c .if1 .taken)) (omega arith))
 
 value-at-requires : tie.Need-value-at-requires
 value-at-requires c κs = (omega (arith, c .if1 .left), omega arith, omega arith)

@@ -5,7 +5,7 @@ use mathlib.Core.List.{List, [], _++_}
 use native.Mathlib.Omega.{arith}
 use borrow.Author.Needs.{needs}
 use Rattle.image_fields.specs.Fields.{bitsOf, fieldBits}
-use Rattle.image_laws.specs.Widths.{editionWidth, edition1}
+use Rattle.image_laws.specs.Widths.{editionField, edition1}
 use Rattle.image_laws.specs.Image.{headFields}
 use Rattle.image_laws.proofs.Fielding.{inputsBits, outputsBits, divisorsBits, headed}
 use Rattle.image_write.proofs.Laying.{Going, going-all, going-as, going-next, going-ready, going-done}
@@ -48,7 +48,7 @@ all-laid : (c : tie.After-put-field4) → let s = opened (edition (inputs (outpu
 all-laid c = going-next (divisors-due (outputs c)) (c .put-field4 .ensures) (c .put-field4 .kept .0)
 
 put-field-requires : tie.Need-put-field-requires
-put-field-requires c κs = let s = c .before .before in (omega arith, going-ready (bitsOf editionWidth _) _ (all-due s) (s .pre .2))
+put-field-requires c κs = let s = c .before .before in (omega arith, going-ready (bitsOf editionField _) _ (all-due s) (s .pre .2))
 
 sub-put-field : tie.Need-sub-put-field
 sub-put-field c = search needs
