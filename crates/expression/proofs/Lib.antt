@@ -3,3 +3,4 @@ pub mod Values
 pub mod Absorbing
 pub mod Sorting
 pub mod Members
+pub mod Placing

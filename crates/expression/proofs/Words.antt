@@ -2,7 +2,8 @@
 use Prim.Native.Nat.{ℕ, zero, suc, _+_, _-_, _*_, _/_, _^_, _<_, _≤_, min}
 use mathlib.Core.Path.{_≡_, refl, sym, _∙_, ap, ap₂, subst}
 use mathlib.Core.Bool.{Bool, true, false, _&&_}
-use mathlib.Core.List.{List, [], _∷_, _++_, append-assoc, nil≢cons, cons≢nil, head-eq-of-cons-eq, tail-eq-of-cons-eq}
+use mathlib.Core.Logic.{inl, inr}
+use mathlib.Core.List.{List, [], _∷_, _++_, append-assoc, nil≢cons, cons≢nil, head-eq-of-cons-eq, tail-eq-of-cons-eq, List·Memᴰ·not-nil, List·Memᴰ·cases-cons}
 use native.Mathlib.Omega.{arith}
 use lib.Dec.{ltb}
 use lib.ListN.{length, getD, set, take, drop, replicate, length-set, length-take, length-drop, take-append-drop, drop-of-length-le, List·getD-eq-default}
@@ -10,12 +11,16 @@ use lib.Seq.{set-out, take-nil, drop-nil, take-all, drop-drop, drop-append-le, l
 use borrow.Rule.Slice.PartMut.{putMid, postOf, post-is}
 use borrow.Author.Tests.{ltb-true}
 use Rattle.sets.specs.Lists.{all}
-use Rattle.sets.specs.Sets.{asc}
+use Rattle.sets.specs.Sets.{mem, asc}
 use Rattle.sets.specs.Masks.{literals}
 use Rattle.sets.proofs.Truth.{both, Stand, below, equal, beyond, stand}
-use Rattle.sets.proofs.Literals.{literals-asc, literals-none, plain-injective, negated-injective}
-use Rattle.cube.specs.Cube.{width}
-use Rattle.expression.specs.Words.{cubesOf, spareOf, Spans, Put, Written, Placed}
+use Rattle.sets.proofs.Lists.{_∈_}
+use Rattle.sets.proofs.Literals.{literals-none, plain-injective, negated-injective}
+use Rattle.cube.specs.Cube.{width, lits}
+use Rattle.cube.specs.declared.Cube.{Cube}
+use Rattle.cube.proofs.Lits.{lits-asc, lits-inside, lits-at-most}
+use Rattle.expression.specs.Words.{cubeWords, cubesOf, spareOf, Spans, Put, Written, Placed}
+use Rattle.expression.specs.Expression.{literalsOf}
 
 pub cubes-length : (ws : List ℕ) → length (cubesOf ws) ≡ length ws / 2
 unfolding cubesOf
@@ -110,7 +115,7 @@ part-held f a e = go (stand a (min e (length f))) (stand e (length f))
     go (beyond h _ _) s = gone (omega arith) s
 
 -- words of zeros are empty cubes
-pub zeros : (n : ℕ) → cubesOf (replicate (2 * n) 0) ≡ replicate n []
+pub zeros : (n : ℕ) → cubesOf (replicate (cubeWords * n) 0) ≡ replicate n []
 unfolding cubesOf
 zeros zero = refl
 zeros (suc n) = let e : 2 * suc n ≡ suc (suc (2 * n)) = omega arith in rw e (ap₂ _∷_ (literals-none width) (zeros n))
@@ -210,19 +215,58 @@ module _ (ws : List ℕ) (a e from to : ℕ) (s : Spans ws a e from to) where
       → Written (take (to - from) (drop from ws)) p (op (cubesOf (take (to - from) (drop from ws)))) → Placed ws (putMid from (to - from) ws p) a (op (take (e - a) (drop a (cubesOf ws))))
   placed-by op le p w = placed-part p _ (le _) (subst (λ f. Written (take (to - from) (drop from ws)) p (op f)) (part-of .0) w)
 
--- each cube is ascending
-pub cubes-asc : (ws : List ℕ) → all asc (cubesOf ws) ≡ true
+-- ---- each of the cubes is one that two masks hold
+
+-- what holds of every cube holds of those
+pub cubes-all : (p : List ℕ → Bool) → ((c : Cube) → p (lits c) ≡ true) → (ws : List ℕ) → all p (cubesOf ws) ≡ true
 unfolding cubesOf
-cubes-asc [] = refl
-cubes-asc (p ∷ []) = refl
-cubes-asc (p ∷ n ∷ ws) = rw (literals-asc width p n) (cubes-asc ws)
+cubes-all p h [] = refl
+cubes-all p h (x ∷ []) = refl
+cubes-all p h (x ∷ y ∷ ws) = rw (h (record { plain = x; negated = y })) (cubes-all p h ws)
+
+pub cubes-out : {c : List ℕ} (ws : List ℕ) → c ∈ cubesOf ws → (d : Cube) × (c ≡ lits d)
+unfolding cubesOf
+cubes-out [] m = absurd (List·Memᴰ·not-nil m)
+cubes-out (x ∷ []) m = absurd (List·Memᴰ·not-nil m)
+cubes-out (x ∷ y ∷ ws) m = elim (List·Memᴰ·cases-cons m) [ inl e ↦ (record { plain = x; negated = y }, e) | inr t ↦ cubes-out ws t ]
+
+pub cubes-asc : (ws : List ℕ) → all asc (cubesOf ws) ≡ true
+cubes-asc = cubes-all asc lits-asc
+
+pub cubes-inside : {c : List ℕ} (ws : List ℕ) → c ∈ cubesOf ws → (l : ℕ) → mem l c ≡ true → l < 2 * width
+cubes-inside ws m l i = let d = cubes-out ws m in lits-inside (d .0) l (subst (λ z. mem l z ≡ true) (d .1) i)
+
+pub literals-most : (ws : List ℕ) → literalsOf (cubesOf ws) ≤ 2 * width * length (cubesOf ws)
+unfolding cubesOf
+literals-most [] = omega arith
+literals-most (x ∷ []) = omega arith
+literals-most (x ∷ y ∷ ws) = omega (arith, lits-at-most (record { plain = x; negated = y }), literals-most ws)
+
+-- ---- how many words, and how many cubes
 
 -- a word is left over exactly where their number is odd
-pub spare-length : (ws : List ℕ) → length ws ≡ 2 * length (cubesOf ws) + length (spareOf ws)
+pub spare-length : (ws : List ℕ) → length ws ≡ cubeWords * length (cubesOf ws) + length (spareOf ws)
 unfolding cubesOf spareOf
 spare-length [] = refl
 spare-length (p ∷ []) = refl
 spare-length (p ∷ n ∷ ws) = omega (arith, spare-length ws)
+
+pub cubes-few : (ws : List ℕ) → length (cubesOf ws) ≤ length ws
+cubes-few ws = omega (arith, cubes-length ws)
+
+pub same-room : (a b : List ℕ) → length a ≡ length b → length (cubesOf a) ≡ length (cubesOf b)
+same-room a b e = omega (arith, cubes-length a, cubes-length b)
+
+-- words for n cubes hold n, and no word is left over
+module _ (ws : List ℕ) (n : ℕ) where
+  pub room-cubes : length ws ≡ cubeWords * n → length (cubesOf ws) ≡ n
+  room-cubes h = omega (arith, cubes-length ws)
+
+  pub room-spare : length ws ≡ cubeWords * n → spareOf ws ≡ []
+  room-spare h = nil-of (spareOf ws) (omega (arith, spare-length ws, cubes-length ws))
+
+  pub room-words : length (cubesOf ws) ≡ n → spareOf ws ≡ [] → length ws ≡ cubeWords * n
+  room-words h e = omega (arith, spare-length ws, ap length e)
 
 pub put-past : (ws : List ℕ) (i : ℕ) (c : List ℕ) → length ws / 2 ≤ i → Put ws ws i c
 put-past ws i c h = record { cubes = sym (set-out (cubesOf ws) i c (omega (arith, cubes-length ws))); spare = refl }

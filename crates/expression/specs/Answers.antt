@@ -6,7 +6,7 @@ use mathlib.Core.Option.{Option, none, some}
 use lib.Dec.{ltb}
 use lib.ListN.{length}
 use Rattle.sets.specs.Lists.{isNil}
-use Rattle.expression.specs.Words.{cubesOf, spareOf}
+use Rattle.expression.specs.Words.{cubeWords, cubesOf, spareOf}
 use Rattle.expression.specs.Expression.{expression}
 use Rattle.expression.specs.declared.Verdict.{Verdict}
 use Rattle.expression.specs.declared.Verdict.the-variants.{Accepted, Refused}
@@ -24,7 +24,7 @@ refusalOf (Refused n) = some n
 
 -- 6: over 1,024 cubes, whole or begun; else 7: a word is left over, or the cubes are no expression
 unfoldable pub refusal : List ℕ → Option ℕ
-refusal ws = cond (ltb (2 * mostHanded) (length ws)) (some 6) (cond (isNil (spareOf ws) && expression (cubesOf ws)) none (some 7))
+refusal ws = cond (ltb (cubeWords * mostHanded) (length ws)) (some 6) (cond (isNil (spareOf ws) && expression (cubesOf ws)) none (some 7))
 
 -- the place found, if any
 abbrev pub placeOf : Place → Option ℕ

@@ -1,0 +1,88 @@
+-- `expression::clear` meets its contract. The loop's invariant: the places from a up to i hold the empty cube. Assumes nothing.
+use Prim.Native.Nat.{ℕ, suc, _+_, _-_, _≤_, min}
+use mathlib.Core.Path.{_≡_, refl, _∙_, ap, subst}
+use mathlib.Core.List.{List, [], _∷_, _++_}
+use native.Mathlib.Omega.{arith}
+use lib.ListN.{length, replicate, length-replicate, replicate-append-replicate}
+use borrow.Author.Needs.{needs}
+use Rattle.expression.specs.Words.{cubesOf, Put, Placed}
+use Rattle.expression.proofs.Placing.{placed-none, placed-as, cleared-next}
+use Rattle.expression.proofs.clear.Statement.{statement}
+use Rattle.expression.proofs.clear.Tie as tie
+
+abbrev Inv-loop : tie.InvT-loop
+Inv-loop s₀ a e high i₀ s i = (a ≤ i) × (i - a ≤ high - a) × (length s ≡ length s₀) × Placed s₀ s a (replicate (i - a) [])
+
+abbrev μ-loop : tie.MeasureT-loop
+μ-loop s₀ a e high i₀ s i = high - i
+
+abbrev start : tie.At-loop Inv-loop μ-loop → tie.Start Inv-loop μ-loop
+start l = l .before .before .before .before .before
+
+-- the end of the places, held to what there is
+high : (l : tie.At-loop Inv-loop μ-loop) → l .before .least .result ≡ min (start l .args .e) (length (cubesOf (start l .args .s .now)))
+high l = l .before .least .ensures ∙ ap (min _) (l .before .before .number .ensures)
+
+number-requires : tie.Need-number-requires Inv-loop μ-loop
+number-requires c κs = search needs
+
+least-requires : tie.Need-least-requires Inv-loop μ-loop
+least-requires c κs = search needs
+
+loop-holds : tie.Need-loop-holds Inv-loop μ-loop
+loop-holds c =
+    let a = c .before .before .before .before .args .a in
+    let z : 0 ≡ a - a = omega arith in
+    (omega arith, omega arith, refl, placed-as (ap (λ n. replicate n []) z) (placed-none _ _))
+
+empty-requires : tie.Need-empty-requires Inv-loop μ-loop
+empty-requires c κs = search needs
+
+put-cube-requires : tie.Need-put-cube-requires Inv-loop μ-loop
+put-cube-requires c κs = search needs
+
+add-i : tie.Need-add-i Inv-loop μ-loop
+add-i c = search needs
+
+loop-less : tie.Need-loop-less Inv-loop μ-loop
+loop-less c = search needs
+
+loop-again : tie.Need-loop-again Inv-loop μ-loop
+loop-again c =
+    let p = c .before .before in
+    let l = p .before .before .before .before in
+    let s = start l in
+    let e = p .before .empty .ensures in
+    (
+      omega (arith, l .loop .inv .0),
+      omega (arith, l .loop .inv .0),
+      p .put-cube .kept .0 ∙ l .loop .inv .2,
+      cleared-next (l .loop .inv .0) (omega (arith, high l)) (l .loop .inv .3) (subst (Put _ _ _) e (p .put-cube .ensures)),
+    )
+
+same-length : tie.Need-same-length Inv-loop μ-loop
+same-length c = search needs
+
+returns : tie.Need-returns Inv-loop μ-loop
+returns c =
+    let l = c .before in
+    let a = start l .args .a in
+    let z : l .loop .i - a ≡ min (start l .args .e) (length (cubesOf (start l .args .s .now))) - a = omega (arith, high l, l .loop .inv .0, l .loop .inv .1) in
+    placed-as (ap (λ n. replicate n []) z) (l .loop .inv .3)
+
+pub clear-spec : {M : Type 1} → statement M
+clear-spec =
+    tie.close
+    (tie.spec
+    Inv-loop
+    μ-loop
+    number-requires
+    least-requires
+    loop-holds
+    empty-requires
+    put-cube-requires
+    add-i
+    loop-less
+    loop-again
+    same-length
+    returns)
