@@ -7,9 +7,11 @@ use cube::Variable;
 ghost use mathlib.Core.Path.{_≡_};
 ghost use Rattle.sets.specs.Lists.{isSome};
 ghost use Rattle.sets.specs.Literal.{plainOf};
-ghost use Rattle.sets.specs.Sets.{firstFrom};
+ghost use Rattle.sets.specs.Sets.{readsBelow, firstFrom};
 ghost use Rattle.sets.specs.Masks.{Lowest};
 ghost use Rattle.cube.specs.Cube.{lits, answer, orderOf};
+
+const VARIABLES: usize = cube::VARIABLES as usize;
 
 // The place of the lowest bit.
 fn lowest(m: u64) -> u32
@@ -91,4 +93,14 @@ pub fn compare(a: Cube, b: Cube) -> Order
             Order::Before
         }
     }
+}
+
+// Whether every literal is of a variable below v.
+pub fn is_below(c: Cube, v: usize) -> bool
+    ensures { λ r. ⌜ r ≡ readsBelow v (lits c) ⌝ }
+{
+    if v >= VARIABLES {
+        return true;
+    }
+    !goes_on(c, cube::plain(Variable(v as u32)))
 }

@@ -54,8 +54,13 @@ module _ {A : Type 0} where
     over-then : (k : List A) → over (over f a g) (a + length g) k ≡ over f a (g ++ k)
     over-then k =
         let rest = drop (length g) (drop a f) in
-        rw (← (append-assoc (take a f) g rest), take-at (take a f ++ g) rest (a + length g) front-length,
-        drop-at (take a f ++ g) rest (a + length g) front-length, drop-drop (length k) (length g) (drop a f), length-append g k)
+        rw (
+          ← (append-assoc (take a f) g rest),
+          take-at (take a f ++ g) rest (a + length g) front-length,
+          drop-at (take a f ++ g) rest (a + length g) front-length,
+          drop-drop (length k) (length g) (drop a f),
+          length-append g k,
+        )
         (simp append-assoc)
 
 -- ---- cubes placed

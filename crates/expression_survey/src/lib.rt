@@ -1,11 +1,11 @@
-// What is asked of lent cubes as a whole: how many literals, and where a cube stands.
+// What is asked of lent cubes as a whole: how many literals, of which variables, in which order, and where a cube stands.
 use cube::Cube;
 use cube::Order;
 use expression::Place;
 ghost use mathlib.Core.Path.{_≡_};
 ghost use Rattle.cube.specs.Cube.{lits};
 ghost use Rattle.expression.specs.Words.{cubesOf};
-ghost use Rattle.expression.specs.Expression.{literalsOf};
+ghost use Rattle.expression.specs.Expression.{literalsOf, reach, ordered};
 ghost use Rattle.expression.specs.Answers.{placeOf, capped};
 ghost use Rattle.expression_survey.specs.Search.{findIn};
 
@@ -50,4 +50,33 @@ pub fn find(s: &[u64], c: Cube) -> Place
         }
     }
     Place::Nothing
+}
+
+// Whether the cubes stand in cube order: each comes before the next.
+pub fn is_ordered(f: &[u64]) -> bool
+    ensures { λ r. ⌜ r ≡ ordered (cubesOf (now (f .entry))) ⌝ }
+{
+    let mut i = 1;
+    while i < expression::number(f) {
+        let o = cube_order::compare(expression::cube_at(f, i - 1), expression::cube_at(f, i));
+        let Order::Before = o else {
+            return false;
+        };
+        i += 1;
+    }
+    true
+}
+
+// Whether every literal is of a variable below v.
+pub fn reaches(f: &[u64], v: usize) -> bool
+    ensures { λ r. ⌜ r ≡ reach v (cubesOf (now (f .entry))) ⌝ }
+{
+    let mut i = 0;
+    while i < expression::number(f) {
+        if !cube_order::is_below(expression::cube_at(f, i), v) {
+            return false;
+        }
+        i += 1;
+    }
+    true
 }

@@ -10,4 +10,5 @@ pub mod Ordering
 pub mod Removal
 pub mod Halves
 pub mod Places
+pub mod Rows
 pub mod Packing

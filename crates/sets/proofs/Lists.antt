@@ -1,13 +1,14 @@
 -- Laws of tests and folds over lists: membership against `any`, `all`, `keep`, `map`, `total`, `pairwise`. Assumes nothing.
 use mathlib.Core.Path.{_≡_, refl, sym, ap, ap₂, _∙_, subst}
 use mathlib.Core.Logic.{_⊎_, inl, inr}
-use mathlib.Core.Bool.{Bool, true, false, cond, not, _&&_, _||_, false≢true, or-true}
+use mathlib.Core.Bool.{Bool, true, false, cond, not, _&&_, _||_, false≢true, or-true, and-assoc}
 use mathlib.Core.List.{List, [], _∷_, _++_, map, List·Memᴰ, List·Memᴰ·head as here, List·Memᴰ·tail as there, List·Memᴰ·not-nil, List·Memᴰ·cases-cons, List·Memᴰ·append-cases}
-use Prim.Native.Nat.{ℕ, _+_, _*_, _≤_, _<_}
+use Prim.Native.Nat.{ℕ, zero, suc, _+_, _*_, _≤_, _<_}
 use native.Mathlib.Omega.{arith}
-use lib.ListN.{length}
+use lib.ListN.{length, take, drop, take-append-drop}
+use lib.Seq.{take-take}
 use Rattle.sets.specs.Lists.{any, all, keep, total, pairwise}
-use Rattle.sets.proofs.Truth.{both, either, clash}
+use Rattle.sets.proofs.Truth.{both, either, neither, clash}
 
 module _ {A : Type 0} where
   infix 20 _∈_
@@ -41,6 +42,19 @@ module _ {A : Type 0} where
   any-cong f g [] k = refl
   any-cong f g (x ∷ l) k = ap₂ _||_ (k x (here refl)) (any-cong f g l (λ y m. k y (there m)))
 
+  pub all-append : (f : A → Bool) (l m : List A) → all f (l ++ m) ≡ (all f l && all f m)
+  all-append f [] m = refl
+  all-append f (x ∷ l) m = rw (all-append f l m) (sym (and-assoc (f x) (all f l) (all f m)))
+
+  -- some element fails a test that not all pass
+  pub all-fails : (f : A → Bool) (l : List A) → all f l ≡ false → (x : A) × (x ∈ l) × (f x ≡ false)
+  all-fails f [] h = clash refl h
+  all-fails f (x ∷ l) h = go (f x) refl h (all-fails f l)
+    where
+      go : (b : Bool) → f x ≡ b → (b && all f l) ≡ false → (all f l ≡ false → (y : A) × (y ∈ l) × (f y ≡ false)) → (y : A) × (y ∈ (x ∷ l)) × (f y ≡ false)
+      go true e k r = let q = r k in (q .0, there (q .1), q .2)
+      go false e k r = (x, here refl, e)
+
   -- ---- keep
 
   pub keep-in : {x : A} {l : List A} (f : A → Bool) → x ∈ l → f x ≡ true → x ∈ keep f l
@@ -71,6 +85,34 @@ module _ {A : Type 0} where
       go false true k r = omega arith
       go false false k r = r
 
+  pub keep-length : (p : A → Bool) (l : List A) → length (keep p l) ≤ length l
+  keep-length p l = rw (keep-all (λ x. true) l (all-in (λ x. true) l (λ x m. refl))) at (keep-le p (λ x. true) l (λ x m h. refl))
+
+  pub keep-cong : (p q : A → Bool) (l : List A) → ((x : A) → x ∈ l → p x ≡ q x) → keep p l ≡ keep q l
+  keep-cong p q [] k = refl
+  keep-cong p q (x ∷ l) k = rw (k x (here refl), keep-cong p q l (λ y m. k y (there m)))
+
+  pub keep-append : (p : A → Bool) (l m : List A) → keep p (l ++ m) ≡ keep p l ++ keep p m
+  keep-append p [] m = refl
+  keep-append p (x ∷ l) m =
+      elim (p x) as (λ b. cond b (x ∷ keep p (l ++ m)) (keep p (l ++ m)) ≡ cond b (x ∷ keep p l) (keep p l) ++ keep p m)
+      [ true ↦ ap (x ∷_) (keep-append p l m) | false ↦ keep-append p l m ]
+
+  pub keep-none : (p : A → Bool) (l : List A) → any p l ≡ false → keep p l ≡ []
+  keep-none p [] h = refl
+  keep-none p (x ∷ l) h = let q = neither (p x) (any p l) h in rw (q .0) (keep-none p l (q .1))
+
+  -- kept twice, by a stricter test
+  pub keep-keep : (p q : A → Bool) (l : List A) → ((x : A) → p x ≡ true → q x ≡ true) → keep p (keep q l) ≡ keep p l
+  keep-keep p q [] h = refl
+  keep-keep p q (x ∷ l) h = go (p x) (q x) refl refl (keep-keep p q l h)
+    where
+      go : (a b : Bool) → p x ≡ a → q x ≡ b → keep p (keep q l) ≡ keep p l → keep p (cond b (x ∷ keep q l) (keep q l)) ≡ cond a (x ∷ keep p l) (keep p l)
+      go true true e f r = rw e (ap (x ∷_) r)
+      go true false e f r = clash (h x e) f
+      go false true e f r = rw e r
+      go false false e f r = r
+
   -- one element more, and so a longer list
   pub keep-fewer : (p q : A → Bool) (l : List A) {y : A} → y ∈ l → ((x : A) → x ∈ l → p x ≡ true → q x ≡ true) → p y ≡ false → q y ≡ true → length (keep p l) < length (keep q l)
   keep-fewer p q [] m h b c = absurd (List·Memᴰ·not-nil m)
@@ -89,6 +131,39 @@ module _ {A : Type 0} where
   pub total-append : (f : A → ℕ) (l m : List A) → total f (l ++ m) ≡ total f l + total f m
   total-append f [] m = omega arith
   total-append f (x ∷ l) m = omega (arith, total-append f l m)
+
+  pub total-cong : (f g : A → ℕ) (l : List A) → ((x : A) → x ∈ l → f x ≡ g x) → total f l ≡ total g l
+  total-cong f g [] h = refl
+  total-cong f g (x ∷ l) h = ap₂ _+_ (h x (here refl)) (total-cong f g l (λ y m. h y (there m)))
+
+  pub total-le : (f g : A → ℕ) (l : List A) → ((x : A) → x ∈ l → f x ≤ g x) → total f l ≤ total g l
+  total-le f g [] h = omega arith
+  total-le f g (x ∷ l) h = omega (arith, h x (here refl), total-le f g l (λ y m. h y (there m)))
+
+  pub total-in : (f : A → ℕ) {x : A} {l : List A} → x ∈ l → f x ≤ total f l
+  total-in f (here {xs = l} e) = omega (arith, ap f e)
+  total-in f (there m) = omega (arith, total-in f m)
+
+  pub total-ones : (l : List A) → total (λ x. 1) l ≡ length l
+  total-ones [] = refl
+  total-ones (x ∷ l) = omega (arith, total-ones l)
+
+  -- the sum of a front part is no more than that of a longer one
+  pub total-take-le : (f : A → ℕ) (l : List A) (i j : ℕ) → i ≤ j → total f (take i l) ≤ total f (take j l)
+  total-take-le f l i j h =
+      omega (arith, ap (total f) (take-append-drop i (take j l)), total-append f (take i (take j l)) (drop i (take j l)), ap (total f) (take-take i j l h))
+
+  -- no more passes a stricter test
+  pub total-keep-le : (g : A → ℕ) (p q : A → Bool) (l : List A) → ((x : A) → p x ≡ true → q x ≡ true) → total g (keep p l) ≤ total g (keep q l)
+  total-keep-le g p q [] h = omega arith
+  total-keep-le g p q (x ∷ l) h = go (p x) (q x) (h x) (total-keep-le g p q l h)
+    where
+      go : (a b : Bool) → (a ≡ true → b ≡ true) → total g (keep p l) ≤ total g (keep q l)
+          → total g (cond a (x ∷ keep p l) (keep p l)) ≤ total g (cond b (x ∷ keep q l) (keep q l))
+      go true true k i = omega arith
+      go true false k i = clash (k refl) refl
+      go false true k i = omega arith
+      go false false k i = i
 
   -- g and a constant for f, where they agree on the list
   pub total-const : (f g : A → ℕ) (k : ℕ) (l : List A) → ((x : A) → x ∈ l → f x ≡ g x + k) → total f l ≡ total g l + length l * k
@@ -125,6 +200,11 @@ module _ {A : Type 0} where
 
   pub ahead : (r : A → A → Bool) (x : A) (l : List A) → pairwise r (x ∷ l) ≡ true → (all (r x) l ≡ true) × (pairwise r l ≡ true)
   ahead r x l h = both (all (r x) l) (pairwise r l) h
+
+  pub pairwise-drop : (r : A → A → Bool) (i : ℕ) (l : List A) → pairwise r l ≡ true → pairwise r (drop i l) ≡ true
+  pairwise-drop r zero l h = h
+  pairwise-drop r (suc i) [] h = h
+  pairwise-drop r (suc i) (x ∷ l) h = pairwise-drop r i l ((ahead r x l h) .1)
 
   pub pairwise-keep : (r : A → A → Bool) (p : A → Bool) (l : List A) → pairwise r l ≡ true → pairwise r (keep p l) ≡ true
   pairwise-keep r p [] h = refl

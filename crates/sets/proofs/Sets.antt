@@ -2,7 +2,7 @@
 use mathlib.Core.Path.{_≡_, refl, sym, ap, ap₂, _∙_, subst}
 use mathlib.Core.Logic.{_⊎_, inl, inr}
 use mathlib.Core.Bool.{Bool, true, false, cond, not, _&&_, _||_, false≢true, and-comm, and-assoc, or-comm, or-assoc, or-self-left}
-use mathlib.Core.List.{List, [], _∷_, List·Memᴰ·head as here, List·Memᴰ·tail as there, Memᴰ·cast}
+use mathlib.Core.List.{List, [], _∷_, _++_, List·Memᴰ·head as here, List·Memᴰ·tail as there, Memᴰ·cast}
 use Prim.Native.Nat.{ℕ, zero, suc, _+_, _<_, _≤_}
 use native.Mathlib.Omega.{arith}
 use lib.Dec.{leb, ltb, eqb}
@@ -78,6 +78,11 @@ from-mem k (suc m) z = let r = from-mem (suc k) m z in
         → (eqb z k || mem z (from (suc k) m)) ≡ true
     back r q (inl e) = rw e
     back r q (inr e) = rw e (r ∙ together (leb (suc k) z) (ltb z (suc k + m)) (omega (arith, leb-true k z (q .0), eqb-false z k e, le-leb)) (omega (arith, ltb-true z (k + suc m) (q .1), lt-ltb)))
+
+pub mem-append : (z : ℕ) (a b : List ℕ) → mem z (a ++ b) ≡ (mem z a || mem z b)
+unfolding mem
+mem-append z [] b = refl
+mem-append z (x ∷ a) b = rw (mem-append z a b) (sym (or-assoc (eqb z x) (mem z a) (mem z b)))
 
 pub all-mem : (v : ℕ → Bool) (c : List ℕ) → ((z : ℕ) → mem z c ≡ true → v z ≡ true) → all v c ≡ true
 all-mem v c k = all-in v c (λ z m. k z (mem-of m))

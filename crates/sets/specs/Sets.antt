@@ -5,7 +5,7 @@ use mathlib.Core.Option.{Option, none, some}
 use Prim.Native.Nat.{ℕ}
 use lib.Dec.{leb, ltb, eqb}
 use Rattle.sets.specs.Lists.{any, all, keep, pairwise}
-use Rattle.sets.specs.Literal.{oppositeOf}
+use Rattle.sets.specs.Literal.{variableOf, oppositeOf}
 
 unfoldable pub mem : ℕ → List ℕ → Bool
 mem l c = any (eqb l) c
@@ -25,6 +25,10 @@ asc c = pairwise ltb c
 -- no variable both ways
 unfoldable pub proper : List ℕ → Bool
 proper c = all (λ l. not (mem (oppositeOf l) c)) c
+
+-- every literal is of a variable below v
+abbrev pub readsBelow : ℕ → List ℕ → Bool
+readsBelow v c = all (λ l. ltb (variableOf l) v) c
 
 unfoldable pub insert : ℕ → List ℕ → List ℕ
 insert l [] = l ∷ []

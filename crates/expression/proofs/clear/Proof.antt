@@ -11,17 +11,17 @@ use Rattle.expression.proofs.clear.Statement.{statement}
 use Rattle.expression.proofs.clear.Tie as tie
 
 abbrev Inv-loop : tie.InvT-loop
-Inv-loop s₀ a e high i₀ s i = (a ≤ i) × (i - a ≤ high - a) × (length s ≡ length s₀) × Placed s₀ s a (replicate (i - a) [])
+Inv-loop s₀ a e stop i₀ s i = (a ≤ i) × (i - a ≤ stop - a) × (length s ≡ length s₀) × Placed s₀ s a (replicate (i - a) [])
 
 abbrev μ-loop : tie.MeasureT-loop
-μ-loop s₀ a e high i₀ s i = high - i
+μ-loop s₀ a e stop i₀ s i = stop - i
 
 abbrev start : tie.At-loop Inv-loop μ-loop → tie.Start Inv-loop μ-loop
 start l = l .before .before .before .before .before
 
 -- the end of the places, held to what there is
-high : (l : tie.At-loop Inv-loop μ-loop) → l .before .least .result ≡ min (start l .args .e) (length (cubesOf (start l .args .s .now)))
-high l = l .before .least .ensures ∙ ap (min _) (l .before .before .number .ensures)
+stop : (l : tie.At-loop Inv-loop μ-loop) → l .before .least .result ≡ min (start l .args .e) (length (cubesOf (start l .args .s .now)))
+stop l = l .before .least .ensures ∙ ap (min _) (l .before .before .number .ensures)
 
 number-requires : tie.Need-number-requires Inv-loop μ-loop
 number-requires c κs = search needs
@@ -52,12 +52,11 @@ loop-again c =
     let p = c .before .before in
     let l = p .before .before .before .before in
     let s = start l in
-    let e = p .before .empty .ensures in
-    (
+    let e = p .before .empty .ensures in (
       omega (arith, l .loop .inv .0),
       omega (arith, l .loop .inv .0),
       p .put-cube .kept .0 ∙ l .loop .inv .2,
-      cleared-next (l .loop .inv .0) (omega (arith, high l)) (l .loop .inv .3) (subst (Put _ _ _) e (p .put-cube .ensures)),
+      cleared-next (l .loop .inv .0) (omega (arith, stop l)) (l .loop .inv .3) (subst (Put _ _ _) e (p .put-cube .ensures)),
     )
 
 same-length : tie.Need-same-length Inv-loop μ-loop
@@ -67,7 +66,7 @@ returns : tie.Need-returns Inv-loop μ-loop
 returns c =
     let l = c .before in
     let a = start l .args .a in
-    let z : l .loop .i - a ≡ min (start l .args .e) (length (cubesOf (start l .args .s .now))) - a = omega (arith, high l, l .loop .inv .0, l .loop .inv .1) in
+    let z : l .loop .i - a ≡ min (start l .args .e) (length (cubesOf (start l .args .s .now))) - a = omega (arith, stop l, l .loop .inv .0, l .loop .inv .1) in
     placed-as (ap (λ n. replicate n []) z) (l .loop .inv .3)
 
 pub clear-spec : {M : Type 1} → statement M

@@ -71,8 +71,7 @@ loop-less c = search needs
 loop-again : tie.Need-loop-again Inv-loop μ-loop
 loop-again c =
     let p = c .before .before in
-    let l = p .before .before .before .before in
-    (
+    let l = p .before .before .before .before in (
       omega arith,
       p .put-cube .kept .0 ∙ l .loop .inv .1,
       copied-next (cubesOf (start l .args .s .now)) (omega (arith, number l)) (omega (arith, number l)) (l .loop .inv .2) (p .before .cube-at .ensures) (p .put-cube .ensures),

@@ -1,0 +1,92 @@
+-- `expression_survey::is_ordered` meets its contract. The loop's invariant: each cube passed comes before the next. Assumes nothing.
+use Prim.Native.Nat.{ℕ, _≤_, _-_}
+use mathlib.Core.Logic.{inl, inr}
+use mathlib.Core.Path.{sym, _∙_}
+use mathlib.Core.List.{List}
+use native.Mathlib.Omega.{arith}
+use borrow.Author.Needs.{needs}
+use lib.ListN.{length}
+use Rattle.cube.proofs.Verdict.{is-before, told}
+use Rattle.sets.proofs.Truth.{refuted}
+use Rattle.expression.specs.Words.{cubesOf}
+use Rattle.expression_survey.proofs.Neighbours.{Climbs, climbs-ordered, climbs-not, climbs-next}
+use Rattle.expression_survey.proofs.is_ordered.Statement.{statement}
+use Rattle.expression_survey.proofs.is_ordered.Tie as tie
+
+abbrev Inv-loop : tie.InvT-loop
+Inv-loop f i₀ i = (1 ≤ i) × Climbs i (cubesOf f)
+
+abbrev μ-loop : tie.MeasureT-loop
+μ-loop f i₀ i = length (cubesOf f) - i
+
+abbrev cubes : tie.At-loop Inv-loop μ-loop → List (List ℕ)
+cubes l = cubesOf (l .before .before .args .f .now)
+
+loop-holds : tie.Need-loop-holds Inv-loop μ-loop
+loop-holds c = (omega arith, λ k h. absurd (omega arith))
+
+number-requires : tie.Need-number-requires Inv-loop μ-loop
+number-requires c κs = search needs
+
+sub-cube-at : tie.Need-sub-cube-at Inv-loop μ-loop
+sub-cube-at c = search needs
+
+cube-at-requires : tie.Need-cube-at-requires Inv-loop μ-loop
+cube-at-requires c κs = search needs
+
+cube-at-requires-2 : tie.Need-cube-at-requires-2 Inv-loop μ-loop
+cube-at-requires-2 c κs = search needs
+
+compare-requires : tie.Need-compare-requires Inv-loop μ-loop
+compare-requires c κs = search needs
+
+enum-told : tie.Need-enum-told Inv-loop μ-loop
+enum-told c = search needs
+
+returns : tie.Need-returns Inv-loop μ-loop
+returns c =
+    let t = c .before in
+    let l = t .before .before .before .before .before in
+    let e = t .before .before .cube-at .ensures in
+    let g = t .before .cube-at2 .ensures in
+    let n = refuted (λ b. elim (rw (t .compare .ensures ∙ sym (is-before _ _ b)) at (c .match .keys2)) [ inl w ↦ omega arith | inr w ↦ omega arith ]) in
+    sym (climbs-not (cubes l) (l .loop .i) (omega arith) (omega arith) (rw (← e, ← g) n))
+
+add-i : tie.Need-add-i Inv-loop μ-loop
+add-i c = search needs
+
+loop-less : tie.Need-loop-less Inv-loop μ-loop
+loop-less c = search needs
+
+loop-again : tie.Need-loop-again Inv-loop μ-loop
+loop-again c =
+    let t = c .before .before in
+    let l = t .before .before .before .before .before in
+    let e = t .before .before .cube-at .ensures in
+    let g = t .before .cube-at2 .ensures in
+    let b = told _ _ .first (sym (t .compare .ensures) ∙ c .enum-told .given .1) in
+    (omega arith, climbs-next (cubes l) (l .loop .i) (omega arith) (rw (← e, ← g) b) (l .loop .inv .1))
+
+returns-2 : tie.Need-returns-2 Inv-loop μ-loop
+returns-2 c =
+    let l = c .before .before in
+    sym (climbs-ordered (cubes l) (λ k h. l .loop .inv .1 k (omega arith)))
+
+pub is-ordered-spec : {M : Type 1} → statement M
+is-ordered-spec =
+    tie.close
+    (tie.spec
+    Inv-loop
+    μ-loop
+    loop-holds
+    number-requires
+    sub-cube-at
+    cube-at-requires
+    cube-at-requires-2
+    compare-requires
+    enum-told
+    returns
+    add-i
+    loop-less
+    loop-again
+    returns-2)
