@@ -26,7 +26,7 @@ shorter-blank [] h = absurd (false≢true h)
 shorter-blank (b ∷ r) h = rw h (omega (arith, front-le r))
 
 -- what is trimmed is blanks
-trimmed : (r : List ℕ) → (b : List ℕ) × (all isBlank b ≡ true) × (r ≡ b ++ trimFront r)
+pub trimmed : (r : List ℕ) → (b : List ℕ) × (all isBlank b ≡ true) × (r ≡ b ++ trimFront r)
 unfolding trimFront
 trimmed [] = ([], refl, refl)
 trimmed (x ∷ r) = go (isBlank x) refl (trimmed r)

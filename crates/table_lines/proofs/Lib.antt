@@ -1,3 +1,4 @@
 pub mod Ends
 pub mod Lining
 pub mod Blanks
+pub mod Spans

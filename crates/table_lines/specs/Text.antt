@@ -1,11 +1,12 @@
 -- The text of a table as bytes: lines, comments, blanks.
-use Prim.Native.Nat.{ℕ, _≤_}
+use Prim.Native.Nat.{ℕ, _+_, _-_, _≤_}
 use mathlib.Core.Path.{_≡_}
 use mathlib.Core.Bool.{Bool, true, false, cond, _&&_, _||_}
 use mathlib.Core.List.{List, [], _∷_}
 use lib.Dec.{eqb}
 use lib.ListN.{length}
 use Rattle.sets.specs.Lists.{all, isNil}
+use Rattle.table_lines.specs.declared.Span.{Span}
 
 -- space, tab and CR
 abbrev pub isBlank : ℕ → Bool
@@ -54,3 +55,10 @@ trimEnd (b ∷ t) = cond (isBlank b && isNil (trimEnd t)) [] (b ∷ trimEnd t)
 -- what is left of a line: the comment and the blanks at both ends are removed
 abbrev pub content : List ℕ → List ℕ
 content l = trimEnd (trimFront (uncommented l))
+
+-- where in the line that stands
+abbrev pub contentSpan : List ℕ → Span
+contentSpan l =
+    let u = uncommented l in
+    let a = length u - length (trimFront u) in
+    record { start = a; end = a + length (content l) }

@@ -2,8 +2,14 @@
 ghost use mathlib.Core.Path.{_≡_};
 ghost use Prim.Native.Nat.{_+_};
 ghost use lib.ListN.{length, drop};
-ghost use Rattle.table_lines.specs.Text.{isBlank, lineOf, uncommented, trimFront, trimEnd, content};
+ghost use Rattle.table_lines.specs.Text.{isBlank, lineOf, uncommented, trimFront, trimEnd, contentSpan};
 ghost use Rattle.table_lines.specs.Parts.{untilByte};
+
+// A part of a line: from the byte at `start` up to the one at `end`.
+pub struct Span {
+    pub start: usize,
+    pub end: usize,
+}
 
 fn is_blank(b: u8) -> bool
     ensures { λ r. ⌜ r ≡ isBlank b ⌝ }
@@ -67,9 +73,16 @@ pub fn trim_end(l: &[u8]) -> &[u8]
     &l[..e]
 }
 
-// What is left of a line: the comment and the blanks at both ends are removed.
-pub fn content_of(l: &[u8]) -> &[u8]
-    ensures { λ r. ⌜ now r ≡ content (now (l .entry)) ⌝ }
+// Where in a line that stands which is left of it: the comment and the blanks at both ends are removed.
+pub fn content_of(l: &[u8]) -> Span
+    ensures { λ r. ⌜ r ≡ contentSpan (now (l .entry)) ⌝ }
 {
-    trim_end(trim_front(uncomment(l)))
+    let u = uncomment(l);
+    let f = trim_front(u);
+    let start = u.len() - f.len();
+    let c = trim_end(f);
+    Span {
+        start,
+        end: start + c.len(),
+    }
 }

@@ -1,6 +1,8 @@
 -- `table_lines::content_of` meets its contract: the comment and then the blanks at both ends go. Assumes nothing.
-use mathlib.Core.Path.{_∙_, ap}
-use Rattle.table_lines.specs.Text.{trimFront, trimEnd}
+use mathlib.Core.Path.{ap}
+use native.Mathlib.Omega.{arith}
+use lib.ListN.{length}
+use Rattle.table_lines.proofs.Ends.{front-le}
 use borrow.Author.Needs.{needs}
 use Rattle.table_lines.proofs.content_of.Statement.{statement}
 use Rattle.table_lines.proofs.content_of.Tie as tie
@@ -11,12 +13,19 @@ uncomment-requires c κs = search needs
 trim-front-requires : tie.Need-trim-front-requires
 trim-front-requires c κs = search needs
 
+sub-start : tie.Need-sub-start
+sub-start c = omega (arith, front-le (c .before .uncomment .result .now), ap length (c .trim-front .ensures))
+
 trim-end-requires : tie.Need-trim-end-requires
 trim-end-requires c κs = search needs
 
+add-t7 : tie.Need-add-t7
+add-t7 c = search needs
+
 returns : tie.Need-returns
-returns c = c .trim-end .ensures ∙ ap trimEnd (c .before .trim-front .ensures ∙ ap trimFront (c .before .before .uncomment .ensures))
+returns c = rw (c .trim-end .ensures, c .before .trim-front .ensures, c .before .before .uncomment .ensures)
 
 pub content-of-spec : {M : Type 1} → statement M
 content-of-spec =
-    tie.close (tie.spec uncomment-requires trim-front-requires trim-end-requires returns)
+    tie.close
+    (tie.spec uncomment-requires trim-front-requires sub-start trim-end-requires add-t7 returns)
