@@ -1,7 +1,6 @@
 -- One more cube line: what stands for it, and what the parts of its reading say. Assumes nothing.
 use Prim.Native.Nat.{ℕ, _+_, _-_, _<_, _≤_}
 use mathlib.Core.Path.{_≡_, refl, sym, ap, ap₂, _∙_}
-use mathlib.Core.Bool.{Bool, true, false, cond}
 use mathlib.Core.List.{List, [], _∷_, _++_, map, map-append, append-nil}
 use mathlib.Core.Option.{Option, none, some}
 use native.Mathlib.Numerals.{add-one}
@@ -12,7 +11,7 @@ use lib.Seq.{take-suc-set}
 use borrow.Author.Tests.{lt-ltb, le-ltb, le-leb, lt-leb}
 use Rattle.sets.specs.Lists.{keep, total}
 use Rattle.sets.specs.Masks.{packed}
-use Rattle.sets.proofs.Lists.{total-append}
+use Rattle.sets.proofs.Lists.{keep-append, total-append}
 use Rattle.expression.specs.Words.{cubesOf, Put}
 use Rattle.table_rows.specs.Lines.{CubeLine, cubeLineOf, cubeOf, rowsIn}
 use Rattle.table_rows.specs.Answers.{Entry, parsedOf, entryOf, parsing}
@@ -25,14 +24,6 @@ use Rattle.table.specs.Meaning.{Bounded}
 use Rattle.table.specs.Parts.{marked, Stands}
 use Rattle.table.specs.declared.State.{State}
 use Rattle.table.proofs.Standing.{wide-none, tall-none, wide-some, tall-some, wide-most, tall-most}
-
-keep-append : {A : Type 0} (p : A → Bool) (l m : List A) → keep p (l ++ m) ≡ keep p l ++ keep p m
-keep-append p [] m = refl
-keep-append p (x ∷ l) m = go (p x) (keep-append p l m)
-  where
-    go : (b : Bool) → keep p (l ++ m) ≡ keep p l ++ keep p m → cond b (x ∷ keep p (l ++ m)) (keep p (l ++ m)) ≡ cond b (x ∷ keep p l) (keep p l) ++ keep p m
-    go true e = ap (x ∷_) e
-    go false e = e
 
 -- ---- one more cube line
 
@@ -143,8 +134,8 @@ module _ {t : table.State} {s : State} {words marks : List ℕ} (g : Bounded t) 
       added : result ≡ table.addLine (some (b .line)) t
       added = cube-there ∙ ap (λ (x : Option CubeLine). table.addLine x t) (b .is)
 
-      pub cube-over : 1024 - s .rows < r → result ≡ table.refuse 6
-      cube-over l = added ∙ rw (lt-leb (total rowsIn (t .lines) + rowsIn (b .line)) 1024 (omega (arith, h .rows, b .rows)))
+      pub cube-over : table.mostRows - s .rows < r → result ≡ table.refuse 6
+      cube-over l = added ∙ rw (lt-leb (total rowsIn (t .lines) + rowsIn (b .line)) table.mostRows (omega (arith, h .rows, b .rows)))
 
-      pub cube-within : r ≤ 1024 - s .rows → s .rows ≤ 1024 → result ≡ table.next (table.withLine t (b .line))
-      cube-within l w = added ∙ rw (le-leb (total rowsIn (t .lines) + rowsIn (b .line)) 1024 (omega (arith, h .rows, b .rows)))
+      pub cube-within : r ≤ table.mostRows - s .rows → s .rows ≤ table.mostRows → result ≡ table.next (table.withLine t (b .line))
+      cube-within l w = added ∙ rw (le-leb (total rowsIn (t .lines) + rowsIn (b .line)) table.mostRows (omega (arith, h .rows, b .rows)))

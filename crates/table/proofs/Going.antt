@@ -11,7 +11,7 @@ use borrow.Author.Tests.{le-leb}
 use Rattle.sets.proofs.Lists.{_∈_, total-append}
 use Rattle.network.specs.Held.{mostInputs, mostOutputs, upTo}
 use Rattle.table_rows.specs.Lines.{CubeLine, rowsIn}
-use Rattle.table_rows.specs.Meaning.{Shaped}
+use Rattle.table_rows.specs.Meaning.{LineOf}
 use Rattle.table_rows.proofs.Writing.{line-shaped}
 use Rattle.table.specs.Table.{State, orZero, start}
 use Rattle.table.specs.Meaning.{Bounded, Timely, Goes, blank, inputs, outputs, products, cube, Read, nothing, line}
@@ -35,10 +35,10 @@ goes-bounded {s} {c = c} g (cube n m l k p q e h) = record {
   wide = g .wide;
   tall = g .tall;
   rows = omega (arith, total-append rowsIn (s .lines) (l ∷ []));
-  shaped = λ x i. ⊎-elim (λ a. g .shaped x a) (λ a. subst (Shaped _ _) (sym (List·Memᴰ·eq-of-singleton a)) this) (List·Memᴰ·append-cases (s .lines) i);
+  shaped = λ x i. ⊎-elim (λ a. g .shaped x a) (λ a. subst (LineOf _ _) (sym (List·Memᴰ·eq-of-singleton a)) this) (List·Memᴰ·append-cases (s .lines) i);
 }
   where
-    this : Shaped (orZero (s .wide)) (orZero (s .tall)) l
+    this : LineOf (orZero (s .wide)) (orZero (s .tall)) l
     this = rw (p, q) (line-shaped n m c l e)
 
 -- one cube line is added at most

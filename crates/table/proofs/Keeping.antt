@@ -9,14 +9,15 @@ use native.Mathlib.Omega.{arith}
 use lib.ListN.{length, length-map}
 use Rattle.sets.specs.Lists.{total, from}
 use Rattle.sets.specs.Masks.{bit}
-use Rattle.sets.proofs.Lists.{_∈_, total-map, total-times}
+use Rattle.sets.proofs.Rows.{from-length}
+use Rattle.sets.proofs.Lists.{_∈_, total-map, total-le, total-times}
 use Rattle.expression.specs.Expression.{literalsOf, ordered, absorbed}
 use Rattle.expression.proofs.Absorbing.{absorbed-length}
 use Rattle.expression.proofs.Sorting.{sort-length}
 use Rattle.network.specs.Net.{Node, Net, nodes, cubeCount, literalCount}
 use Rattle.network.specs.Evaluation.{evaluate}
 use Rattle.network.specs.Meaning.{Through, itself, others}
-use Rattle.network.specs.Held.{numbered, netOf, rules}
+use Rattle.network.specs.Held.{mostLiterals, numbered, netOf, rules}
 use Rattle.network.specs.Handed.{Holds}
 use Rattle.network.specs.Rules.{Lawful}
 use Rattle.network.specs.Answers.{evaluated}
@@ -26,24 +27,17 @@ use Rattle.network.proofs.Evaluating.{evaluate-past}
 use Rattle.network.proofs.Handing.{holds-net}
 use Rattle.network.proofs.Ruling.{holds-lawful}
 use Rattle.table_rows.specs.Lines.{CubeLine}
-use Rattle.table.specs.Table.{State, cubesFor, outputFor, tableNet, orZero, Outcome, accepted, readText}
+use Rattle.table.specs.Table.{mostRows, State, cubesFor, outputFor, tableNet, orZero, Outcome, accepted, readText}
 use Rattle.table.specs.Written.{inputsOf, outputsOf, cubeLinesOf, someCovers}
 use Rattle.table.specs.Answers.{Told}
 use Rattle.table.specs.Meaning.{Complete, Says}
 use Rattle.table.specs.declared.Answer.the-variants.{Read}
 use Rattle.table.specs.declared.Table.{Table}
-use Rattle.table.proofs.Building.{from-length}
 use Rattle.table.proofs.Marking.{rows-exchange}
 use Rattle.table.proofs.Refusals.{accepted-complete}
 use Rattle.table.proofs.Writing.{read-lines}
 use Rattle.table.proofs.Telling.{told-accepted}
 use Rattle.table.proofs.Outputs.{output-reads, output-literals, outputs-are, outputs-ordered, outputs-rows}
-
--- ---- sums over the outputs
-
-total-le : (f g : ℕ → ℕ) (l : List ℕ) → ((x : ℕ) → f x ≤ g x) → total f l ≤ total g l
-total-le f g [] h = omega arith
-total-le f g (x ∷ l) h = omega (arith, h x, total-le f g l h)
 
 module _ (s : State) (n m : ℕ) (c : Complete s n m) where
   tall : orZero (s .tall) ≡ m
@@ -60,28 +54,28 @@ module _ (s : State) (n m : ℕ) (c : Complete s n m) where
   outputs-number : length ((tableNet s) .outputs) ≡ m
   outputs-number = ap length outputs-list ∙ length-map (from 0 m) (outputFor (s .lines)) ∙ from-length 0 m
 
-  rows : total (λ j. length (cubesFor j (s .lines))) (from 0 m) ≤ 1024
+  rows : total (λ j. length (cubesFor j (s .lines))) (from 0 m) ≤ mostRows
   rows = omega (arith, rows-exchange m (s .lines) (λ l i. c .shaped l i .marks), c .rows)
 
   -- at most 1,024 cubes
-  pub table-cubes : cubeCount (tableNet s) ≤ 1024
+  pub table-cubes : cubeCount (tableNet s) ≤ mostRows
   table-cubes =
       omega (
         arith,
         ap (total length) nodes-list,
         total-map length (outputFor (s .lines)) (from 0 m),
-        total-le (λ j. length (outputFor (s .lines) j)) (λ j. length (cubesFor j (s .lines))) (from 0 m) (λ j. omega (arith, sort-length (absorbed (cubesFor j (s .lines))), absorbed-length (cubesFor j (s .lines)))),
+        total-le (λ j. length (outputFor (s .lines) j)) (λ j. length (cubesFor j (s .lines))) (from 0 m) (λ j i. omega (arith, sort-length (absorbed (cubesFor j (s .lines))), absorbed-length (cubesFor j (s .lines)))),
         rows,
       )
 
   -- at most 32,768 literals
-  pub table-literals : literalCount (tableNet s) ≤ 32768
+  pub table-literals : literalCount (tableNet s) ≤ mostLiterals
   table-literals =
       omega (
         arith,
         ap (total literalsOf) nodes-list,
         total-map literalsOf (outputFor (s .lines)) (from 0 m),
-        total-le (λ j. literalsOf (outputFor (s .lines) j)) (λ j. length (cubesFor j (s .lines)) * n) (from 0 m) (λ j. output-literals n (s .lines) j (λ l i. c .shaped l i .places)),
+        total-le (λ j. literalsOf (outputFor (s .lines) j)) (λ j. length (cubesFor j (s .lines)) * n) (from 0 m) (λ j i. output-literals n (s .lines) j (λ l i. c .shaped l i .places)),
         total-times (λ j. length (cubesFor j (s .lines))) n (from 0 m),
         mul-le-mul-left (total (λ j. length (cubesFor j (s .lines))) (from 0 m)) (c .inputs .1),
         rows,

@@ -1,4 +1,3 @@
-pub mod Placing
 pub mod Picking
 pub mod Building
 pub mod Reasons

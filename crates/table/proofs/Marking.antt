@@ -10,13 +10,13 @@ use borrow.Author.Tests.{lt-ltb, ltb-true}
 use Rattle.sets.specs.Lists.{keep, total, from}
 use Rattle.sets.specs.Masks.{bit, packed}
 use Rattle.sets.proofs.Truth.{clash}
-use Rattle.sets.proofs.Lists.{_∈_, total-sum, total-map, map-cong}
+use Rattle.sets.proofs.Lists.{_∈_, keep-keep, total-cong, total-sum, total-map, map-cong}
 use Rattle.expression.specs.Words.{cubesOf}
 use Rattle.expression.specs.Expression.{sort, absorbed}
 use Rattle.table_rows.specs.Lines.{CubeLine, rowsIn, cubeOf}
 use Rattle.sets.proofs.Packing.{packed-bit}
 use Rattle.table.specs.Table as table
-use Rattle.table.specs.Table.{cubesFor, outputFor, tableNet, orZero}
+use Rattle.table.specs.Table.{mostRows, cubesFor, outputFor, tableNet, orZero}
 use Rattle.table.specs.Meaning.{Complete}
 use Rattle.table.specs.Parts.{picked, pick, marked, Stands, formed, Buildable, netFrom}
 use Rattle.table.specs.declared.State.{State}
@@ -24,23 +24,6 @@ use Rattle.table.specs.declared.State.{State}
 -- the line has a `1` at output j
 abbrev has : ℕ → CubeLine → Bool
 has j l = getD (l .marks) j false
-
--- ---- keeping twice, and by another test
-
-module _ {A : Type 0} where
-  keep-same : (p q : A → Bool) (l : List A) → ((x : A) → p x ≡ q x) → keep p l ≡ keep q l
-  keep-same p q [] h = refl
-  keep-same p q (x ∷ l) h = ap₂ (λ (b : Bool) (m : List A). cond b (x ∷ m) m) (h x) (keep-same p q l h)
-
-  keep-keep : (p q : A → Bool) (l : List A) → ((x : A) → p x ≡ true → q x ≡ true) → keep p (keep q l) ≡ keep p l
-  keep-keep p q [] h = refl
-  keep-keep p q (x ∷ l) h = go (p x) (q x) refl refl (keep-keep p q l h)
-    where
-      go : (a b : Bool) → p x ≡ a → q x ≡ b → keep p (keep q l) ≡ keep p l → keep p (cond b (x ∷ keep q l) (keep q l)) ≡ cond a (x ∷ keep p l) (keep p l)
-      go true true e f r = rw e (ap (x ∷_) r)
-      go true false e f r = clash (h x e) f
-      go false true e f r = rw e r
-      go false false e f r = r
 
 -- ---- the cubes kept
 
@@ -57,7 +40,8 @@ picked-lines j [] = refl
 picked-lines j (c ∷ l) = go (bit (packed (c .marks)) j) (has j c) (packed-bit (c .marks) j) (picked-lines j l)
   where
     go : (a b : Bool) → a ≡ b → picked j (map cubeOf l) (map (λ (d : CubeLine). packed (d .marks)) l) ≡ cubesFor j l
-        → cond a (cubeOf c ∷ picked j (map cubeOf l) (map (λ (d : CubeLine). packed (d .marks)) l)) (picked j (map cubeOf l) (map (λ (d : CubeLine). packed (d .marks)) l)) ≡ map cubeOf (cond b (c ∷ keep (has j) l) (keep (has j) l))
+        → cond a (cubeOf c ∷ picked j (map cubeOf l) (map (λ (d : CubeLine). packed (d .marks)) l))
+        (picked j (map cubeOf l) (map (λ (d : CubeLine). packed (d .marks)) l)) ≡ map cubeOf (cond b (c ∷ keep (has j) l) (keep (has j) l))
     go true true e r = ap (cubeOf c ∷_) r
     go true false e r = clash refl e
     go false true e r = clash refl (sym e)
@@ -127,8 +111,8 @@ marked-few (c ∷ l) = go (ltb 0 (rowsIn c)) refl (marked-few l)
     go false e h = omega arith
 
 -- the cubes kept of a table that is accepted can be built from
-pub buildable : {t : table.State} {n m : ℕ} {s : State} {words marks : List ℕ} → Complete t n m → Stands t s words marks → length (cubesOf words) ≡ 1024 → length marks ≡ 1024
-    → Buildable words marks (s .kept) (s .outputs)
+pub buildable : {t : table.State} {n m : ℕ} {s : State} {words marks : List ℕ} → Complete t n m → Stands t s words marks 
+    → length (cubesOf words) ≡ mostRows → length marks ≡ mostRows → Buildable words marks (s .kept) (s .outputs)
 buildable {t} {n} {m} {s} {words} {marks} c h p q =
     let k : s .kept ≤ s .rows = omega (arith, h .kept, h .rows, marked-few (t .lines)) in
     let e : s .outputs ≡ m = h .tall ∙ ap orZero (c .tall) in
@@ -140,10 +124,6 @@ buildable {t} {n} {m} {s} {words} {marks} c h p q =
         c .rows,
         rows-exchange m (t .lines) (λ l i. c .shaped l i .marks),
         ap (λ (z : ℕ). total (λ j. length (cubesFor j (t .lines))) (from 0 z)) e,
-        total-same-by (λ j. length (pick j words marks (s .kept))) (λ j. length (cubesFor j (t .lines))) (from 0 (s .outputs)) (λ j. ap length (pick-cubes h j)),
+        total-cong (λ j. length (pick j words marks (s .kept))) (λ j. length (cubesFor j (t .lines))) (from 0 (s .outputs)) (λ j i. ap length (pick-cubes h j)),
       );
     }
-  where
-    total-same-by : (f g : ℕ → ℕ) (l : List ℕ) → ((x : ℕ) → f x ≡ g x) → total f l ≡ total g l
-    total-same-by f g [] r = refl
-    total-same-by f g (x ∷ l) r = ap₂ _+_ (r x) (total-same-by f g l r)

@@ -11,6 +11,7 @@ use Rattle.sets.specs.Lists.{any, all, keep, total, from}
 use Rattle.sets.specs.Sets.{asc, proper}
 use Rattle.sets.specs.Masks.{bit}
 use Rattle.sets.proofs.Truth.{together}
+use Rattle.sets.proofs.Rows.{getD-from}
 use Rattle.sets.proofs.Lists.{_∈_, all-in, any-cong, keep-out, map-out}
 use Rattle.expression.specs.Expression.{isCube, expression, literalsOf, ordered, absorbed}
 use Rattle.expression.specs.Value.{lit, value}
@@ -22,7 +23,7 @@ use Rattle.network.proofs.Evaluating.{evaluate-bit}
 use Rattle.table_rows.specs.Lines.{CubeLine, cubeFrom, cubeOf, covers}
 use Rattle.table_rows.proofs.Covering.{covers-value, from-bounds, from-asc, from-proper}
 use Rattle.table.specs.Table.{State, cubesFor, outputFor, tableNet, orZero}
-use Rattle.table_rows.specs.Meaning.{Shaped}
+use Rattle.table_rows.specs.Meaning.{LineOf}
 use Rattle.table.specs.Written.{someCovers}
 use Rattle.table.specs.Meaning.{Complete}
 
@@ -90,7 +91,7 @@ any-kept g p q (x ∷ l) = go (p x) (any-kept g p q l)
     go false e = e
 
 -- on where some row covers the setting: dropping and ordering change no answer
-pub output-value : (n m : ℕ) (lines : List CubeLine) (j : ℕ) → ((l : CubeLine) → l ∈ lines → Shaped n m l) → (a : ℕ → Bool)
+pub output-value : (n m : ℕ) (lines : List CubeLine) (j : ℕ) → ((l : CubeLine) → l ∈ lines → LineOf n m l) → (a : ℕ → Bool)
     → value (lit a) (outputFor lines j) ≡ any (λ (l : CubeLine). getD (l .marks) j false && covers a 0 (l .places)) lines
 output-value n m lines j h a =
     value-sort (lit a) (absorbed (cubesFor j lines))
@@ -100,15 +101,9 @@ output-value n m lines j h a =
 
 -- ---- the network
 
-at-from : {A : Type 0} (f : ℕ → A) (d : A) (k m j : ℕ) → j < m → getD (map f (from k m)) j d ≡ f (k + j)
-unfolding from
-at-from f d k zero j h = absurd (omega arith)
-at-from f d k (suc m) zero h = let e : k + 0 ≡ k = omega arith in ap f (sym e)
-at-from f d k (suc m) (suc j) h = let e : suc k + j ≡ k + suc j = omega arith in at-from f d (suc k) m j (omega arith) ∙ ap f e
-
 pub net-output : (s : State) (j : ℕ) → j < orZero (s .tall) → getD ((tableNet s) .outputs) j [] ≡ outputFor (s .lines) j
 unfolding tableNet
-net-output s j h = let e : 0 + j ≡ j = omega arith in at-from (outputFor (s .lines)) [] 0 (orZero (s .tall)) j h ∙ ap (outputFor (s .lines)) e
+net-output s j h = let e : 0 + j ≡ j = omega arith in getD-from (outputFor (s .lines)) [] 0 (orZero (s .tall)) j h ∙ ap (outputFor (s .lines)) e
 
 settled : (s : State) (a : ℕ → Bool) → settle (tableNet s) (listing (tableNet s)) a ≡ a
 unfolding tableNet listing listMore settle

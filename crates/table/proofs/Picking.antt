@@ -1,15 +1,15 @@
 -- The cubes picked by a bit of their masks: one more place, and how many. Assumes nothing.
 use Prim.Native.Nat.{ℕ, zero, suc, _+_, _<_, _≤_}
-use mathlib.Core.Path.{_≡_, refl, ap, sym, _∙_, subst}
+use mathlib.Core.Path.{_≡_, refl, ap, sym, _∙_}
 use mathlib.Core.Bool.{Bool, true, false, cond}
 use mathlib.Core.List.{List, [], _∷_, _++_, append-nil}
 use native.Mathlib.Numerals.{add-one}
 use native.Mathlib.Omega.{arith}
 use lib.ListN.{length, getD, take, length-append}
 use Rattle.sets.specs.Masks.{bit}
-use Rattle.expression.specs.Words.{cubesOf, Put}
-use Rattle.table.specs.Parts.{picked, pick, Source, Taken}
-use Rattle.table.proofs.Placing.{placed-none, placed-put}
+use Rattle.expression.specs.Words.{cubesOf, Put, Appends}
+use Rattle.expression.proofs.Placing.{appends-none, appends-as, appends-put}
+use Rattle.table.specs.Parts.{picked, pick, Source}
 
 onto : (b : Bool) (c : List ℕ) (f g : List (List ℕ)) → cond b (c ∷ (f ++ g)) (f ++ g) ≡ cond b (c ∷ f) f ++ g
 onto true c f g = refl
@@ -46,34 +46,30 @@ module _ (j : ℕ) where
 -- ---- the cubes picked, put one after the other
 
 module _ (j : ℕ) {words marks : List ℕ} {kept : ℕ} (o : Source words marks kept) where
-  pub taken-none : (ws : List ℕ) (a : ℕ) → Taken (pick j words marks 0) ws ws a 0
+  pub pick-none : (ws : List ℕ) (a : ℕ) → Appends ws ws a (pick j words marks 0) a
   unfolding picked
-  taken-none ws a = record { number = refl; placed = placed-none ws a }
+  pick-none ws a = appends-none ws a
 
-  module _ (i : ℕ) {old mid : List ℕ} {a n : ℕ} (h : i < kept) (t : Taken (pick j words marks i) old mid a n) where
+  module _ (i : ℕ) {old mid : List ℕ} {a to : ℕ} (h : i < kept) (t : Appends old mid a (pick j words marks i) to) where
     more : {b : Bool} → bit (getD marks i 0) j ≡ b → pick j words marks (i + 1) ≡ pick j words marks i ++ cond b (getD (cubesOf words) i [] ∷ []) []
-    more e = picked-next j (cubesOf words) marks i (omega (arith, o .cubes)) (omega (arith, o .masks)) ∙ ap (λ (b : Bool). pick j words marks i ++ cond b (getD (cubesOf words) i [] ∷ []) []) e
+    more e =
+        picked-next j (cubesOf words) marks i (omega (arith, o .cubes)) (omega (arith, o .masks))
+        ∙ ap (λ (b : Bool). pick j words marks i ++ cond b (getD (cubesOf words) i [] ∷ []) []) e
 
-    pub taken-skip : bit (getD marks i 0) j ≡ false → Taken (pick j words marks (i + 1)) old mid a n
-    taken-skip e = subst (λ (f : List (List ℕ)). Taken f old mid a n) (sym (more e ∙ append-nil (pick j words marks i))) t
-
-    pub taken-put : {new : List ℕ} {c : List ℕ} → bit (getD marks i 0) j ≡ true → a + length (pick j words marks kept) ≤ length (cubesOf old) → c ≡ getD (cubesOf words) i []
-        → Put mid new (a + n) c → Taken (pick j words marks (i + 1)) old new a (n + 1)
-    taken-put {new} {c} e l k q =
-        let m : pick j words marks (i + 1) ≡ pick j words marks i ++ (c ∷ []) = more e ∙ ap (λ (z : List ℕ). pick j words marks i ++ (z ∷ [])) (sym k) in
-        let w : length (pick j words marks (i + 1)) ≡ n + 1 = ap length m ∙ length-append (pick j words marks i) (c ∷ []) ∙ ap (_+ 1) (sym (t .number)) in
-        record {
-          number = sym w;
-          placed = placed-put m (ap (a +_) (t .number)) (omega (arith, w, picked-fewer j (cubesOf words) marks (i + 1) kept (omega arith))) (t .placed) q;
-        }
+    pub pick-skip : bit (getD marks i 0) j ≡ false → Appends old mid a (pick j words marks (i + 1)) to
+    pick-skip e = appends-as (sym (more e ∙ append-nil (pick j words marks i))) t
 
     -- there is room for one more
-    pub taken-room : {z : ℕ} → bit (getD marks i 0) j ≡ true → a + length (pick j words marks kept) ≤ z → a + n < z
-    taken-room e l =
+    pub pick-room : {z : ℕ} → bit (getD marks i 0) j ≡ true → a + length (pick j words marks kept) ≤ z → to < z
+    pick-room e l =
         omega (
           arith,
-          t .number,
+          t .next,
           ap length (more e),
           length-append (pick j words marks i) (getD (cubesOf words) i [] ∷ []),
           picked-fewer j (cubesOf words) marks (i + 1) kept (omega arith),
         )
+
+    pub pick-put : {new : List ℕ} {c : List ℕ} → bit (getD marks i 0) j ≡ true → a + length (pick j words marks kept) ≤ length (cubesOf old)
+        → c ≡ getD (cubesOf words) i [] → Put mid new to c → Appends old new a (pick j words marks (i + 1)) (to + 1)
+    pick-put e l k q = appends-as (sym (more e ∙ ap (λ (z : List ℕ). pick j words marks i ++ (z ∷ [])) (sym k))) (appends-put t (pick-room e l) q)

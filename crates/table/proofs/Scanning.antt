@@ -5,17 +5,19 @@ use mathlib.Core.Bool.{Bool, cond}
 use mathlib.Core.List.{List, [], _∷_}
 use native.Mathlib.Numerals.{add-one}
 use native.Mathlib.Omega.{arith}
-use lib.ListN.{length, take, drop, length-drop}
+use lib.ListN.{length, take, drop, length-drop, take-append-drop}
 use lib.Seq.{drop-drop, take-length}
 use borrow.Author.Tests.{le-leb, lt-leb}
 use Rattle.sets.proofs.Truth.{Stand, below, equal, beyond, stand}
-use Rattle.expression.proofs.Words.{cubes-length}
+use Rattle.expression.specs.Words.{cubesOf}
 use Rattle.network.specs.Handed.{Blank}
-use Rattle.table_lines.specs.Text.{lineOf, linesOf, content}
+use Rattle.table_lines.specs.Text.{lineOf, linesOf, content, contentSpan}
+use Rattle.table_lines.specs.declared.Span.{Span}
 use Rattle.table_kinds.specs.Kinds.{kindOf}
 use Rattle.table_lines.proofs.Lining.{line-take, line-le, lines-next, lines-last}
+use Rattle.table_lines.proofs.Spans.{part-front, span-inside, span-content}
 use Rattle.table.specs.Table as table
-use Rattle.table.specs.Table.{start, byKind, readLine, readLines, readText}
+use Rattle.table.specs.Table.{mostBytes, mostRows, start, byKind, readLine, readLines, readText}
 use Rattle.table.specs.Meaning.{Bounded}
 use Rattle.table.specs.Parts.{Stands, LineTurned, Leaves, Roomy, linesFrom, stoppedAt, Scans}
 use Rattle.table.specs.declared.State.{State}
@@ -50,6 +52,28 @@ module _ (text : List ℕ) (at : ℕ) where
 
     pub line-part : (e : ℕ) → e ≡ stop → take (e - at) rest ≡ lineOf rest
     line-part e q = let n : e - at ≡ length (lineOf rest) = omega arith in ap (λ (k : ℕ). take k rest) n ∙ sym (line-take rest)
+
+  -- what is left of the line stands at its span in the text too
+  module _ (h : at ≤ length text) {e : ℕ} (q : e ≡ stop) {z : Span} (w : z ≡ contentSpan (take (e - at) rest)) where
+    span-ends : z .end ≤ e - at
+    span-ends =
+        let k : length (take (e - at) rest) ≡ e - at = ap length (line-part h e q) ∙ omega arith in
+        omega (arith, ap (λ (s : Span). s .end) w, span-inside (take (e - at) rest), k)
+
+    pub span-within : at + z .end ≤ length text
+    span-within = omega (arith, span-ends, stop-le h)
+
+    pub span-ordered : z .start ≤ z .end
+    span-ordered = omega (arith, ap (λ (s : Span). s .start) w, ap (λ (s : Span). s .end) w)
+
+    pub span-part : take ((at + z .end) - (at + z .start)) (drop (at + z .start) text) ≡ content (take (e - at) rest)
+    span-part =
+        let p = take (e - at) rest in
+        let s = contentSpan p in
+        let k : (at + z .end) - (at + z .start) ≡ s .end - s .start = omega (arith, ap (λ (x : Span). x .start) w, ap (λ (x : Span). x .end) w) in
+        ap₂ take k (ap (λ (x : Span). drop (at + x .start) text) w ∙ sym (drop-drop (s .start) at text) ∙ ap (drop (s .start)) (sym (take-append-drop (e - at) rest)))
+        ∙ part-front p (drop (e - at) rest) (s .start) (s .end) (omega arith) (span-inside p)
+        ∙ span-content p
 
   from-next : (e : ℕ) → e ≡ stop → at ≤ length text → linesFrom text at ≡ lineOf rest ∷ linesFrom text (e + 1)
   from-next e q h = ap (λ (b : Bool). cond b (linesOf rest) []) (le-leb at (length text) h) ∙ go (stand e (length text))
@@ -89,12 +113,12 @@ reading-first text words marks = record {
 }
 
 module _ {text words marks : List ℕ} {s : State} {line at : ℕ} (r : Reading text words marks s line at) where
-  pub reading-roomy : at ≤ 65536 → length words ≡ 2048 → length marks ≡ 1024 → Roomy s words marks
+  pub reading-roomy : at ≤ mostBytes → length (cubesOf words) ≡ mostRows → length marks ≡ mostRows → Roomy s words marks
   reading-roomy h p q = record {
     kept = omega (arith, r .stands .kept, r .stands .rows, marked-few (r .now .lines));
     rows = omega (arith, r .stands .rows, r .good .rows);
     lines = omega (arith, r .stands .lines, r .few);
-    places = omega (arith, cubes-length words);
+    places = p;
     masks = q;
   }
 
@@ -177,7 +201,7 @@ module _ (words marks : List ℕ) where
   scans-refused (table.refused p) x r h q e b = (b .0 ∙ h, b .1)
 
   -- a text that is not too long
-  module _ (text : List ℕ) (short : length text ≤ 65536) (x : Scanned) (h : Scans (readLines 1 (linesOf text) start) x words marks) where
+  module _ (text : List ℕ) (short : length text ≤ mostBytes) (x : Scanned) (h : Scans (readLines 1 (linesOf text) start) x words marks) where
     pub text-read : x .answer ≡ answer.Read → (t : table.State) × (readText text ≡ table.accepted t) × Stands t (x .state) words marks
     text-read e = let r = scans-read (readLines 1 (linesOf text) start) x h e in (r .0, text-lines text short ∙ r .1, r .2)
 

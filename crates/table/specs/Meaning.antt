@@ -12,7 +12,7 @@ use Rattle.network.specs.Held.{mostInputs, mostOutputs, upTo}
 use Rattle.table_lines.specs.Text.{content}
 use Rattle.table_kinds.specs.Kinds.{kindOf}
 use Rattle.table_rows.specs.Lines.{CubeLine, cubeLineOf, rowsIn}
-use Rattle.table_rows.specs.Meaning.{Shaped}
+use Rattle.table_rows.specs.Meaning.{LineOf}
 use Rattle.table_kinds.specs.declared.Kind.the-variants.{Empty, Inputs, Outputs, Products, End, Other}
 use Rattle.table.specs.Written.{listed, inputsIn, outputsIn, productsIn, inputsOf, outputsOf, cubeLinesOf}
 use Rattle.table.specs.Table.{State, Turn, next, done, refuse, missing, rightCount, Outcome, accepted, refusedAt, orZero}
@@ -28,7 +28,7 @@ pub record Bounded (s : State) : Type 0 where
   pub wide : within mostInputs (s .wide) ≡ true
   pub tall : within mostOutputs (s .tall) ≡ true
   pub rows : total rowsIn (s .lines) ≤ mostRows
-  pub shaped : (l : CubeLine) → List·Memᴰ l (s .lines) → Shaped (orZero (s .wide)) (orZero (s .tall)) l
+  pub shaped : (l : CubeLine) → List·Memᴰ l (s .lines) → LineOf (orZero (s .wide)) (orZero (s .tall)) l
 
 -- a table that is accepted: n inputs, m outputs, at most 1,024 rows, every cube line of n places and m marks, and `.p`, if it is there,
 -- says how many
@@ -39,7 +39,7 @@ pub record Complete (s : State) (n m : ℕ) : Type 0 where
   pub outputs : (1 ≤ m) × (m ≤ mostOutputs)
   pub stated : rightCount (s .stated) (s .lines) ≡ true
   pub rows : total rowsIn (s .lines) ≤ mostRows
-  pub shaped : (l : CubeLine) → List·Memᴰ l (s .lines) → Shaped n m l
+  pub shaped : (l : CubeLine) → List·Memᴰ l (s .lines) → LineOf n m l
 
 -- ---- when a line goes on, ends the table or is refused
 

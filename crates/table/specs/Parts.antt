@@ -4,16 +4,19 @@ use mathlib.Core.Option.{Option, none, some}
 use lib.Dec.{leb, ltb, eqb}
 use mathlib.Core.Path.{_≡_}
 use mathlib.Core.Bool.{Bool, cond}
-use mathlib.Core.List.{List, [], _∷_, _++_, map}
+use mathlib.Core.List.{List, [], _∷_, map}
 use lib.ListN.{length, take, drop, replicate}
 use Rattle.sets.specs.Lists.{keep, total, from}
 use Rattle.sets.specs.Masks.{bit, packed}
-use Rattle.expression.specs.Words.{cubesOf, Placed}
+use Rattle.expression.specs.Words.{cubesOf}
 use Rattle.expression.specs.Expression.{sort, absorbed}
 use Rattle.network.specs.Net.{Net}
+use Rattle.network.specs.Held.{mostOutputs}
 use Rattle.table_lines.specs.Text.{linesOf}
+use Rattle.table_kinds.specs.Kinds.{kindOf}
 use Rattle.table_rows.specs.Lines.{CubeLine, rowsIn, cubeOf}
 use Rattle.table.specs.Table as table
+use Rattle.table.specs.Table.{mostBytes, mostRows}
 use Rattle.table.specs.Meaning.{Bounded}
 use Rattle.table.specs.declared.Answer.the-variants as Answer
 use Rattle.table.specs.declared.Scanned.{Scanned}
@@ -61,24 +64,33 @@ Answers f s r = (t : table.State) (words marks : List ℕ) → Bounded t → Sta
 
 -- of a number that is missing while 0 is held: the answer is what its line does, s being what stands with the number
 abbrev pub Numbers : ℕ → Bool → State → Turn → Type 0
-Numbers held fits s r = (o : Option ℕ) (t : table.State) (words marks : List ℕ) → table.missing o ≡ eqb held 0 → Stands t s words marks → LineTurned (table.numberLine (table.inTime o (t .lines)) fits t) r words marks
+Numbers held fits s r = (o : Option ℕ) (t : table.State) (words marks : List ℕ) → table.missing o ≡ eqb held 0 → Stands t s words marks
+    → LineTurned (table.numberLine (table.inTime o (t .lines)) fits t) r words marks
 
 -- there are 1,024 places for cubes and for masks, and the numbers leave room in them
 pub record Roomy (s : State) (words marks : List ℕ) : Type 0 where
   pub kept : s .kept ≤ s .rows
-  pub rows : s .rows ≤ 1024
-  pub lines : s .lines ≤ 65536
-  pub places : length (cubesOf words) ≡ 1024
-  pub masks : length marks ≡ 1024
+  pub rows : s .rows ≤ mostRows
+  pub lines : s .lines ≤ mostBytes
+  pub places : length (cubesOf words) ≡ mostRows
+  pub masks : length marks ≡ mostRows
 
 -- the same where the words and marks may have changed
 abbrev pub Leaves : (table.State → table.Turn) → State → Turn → List ℕ → List ℕ → List ℕ → List ℕ → Type 0
 Leaves f s r words marks words' marks' = (t : table.State) → Bounded t → Stands t s words marks → LineTurned (f t) r words' marks'
 
+-- what a line does by its kind, c being left of it, and what a cube line does
+abbrev pub byLine : List ℕ → table.State → table.Turn
+byLine c t = table.byKind (kindOf c) c t
+
+abbrev pub byCube : List ℕ → table.State → table.Turn
+byCube c t = table.cubeLine (t .wide) (t .tall) c t
+
 -- of a cube line with this cube, mask and number of rows the answer stands for one more
 abbrev pub Keeps : State → List ℕ → ℕ → ℕ → State → List ℕ → List ℕ → List ℕ → List ℕ → Type 0
 Keeps s cube mask rows r words marks words' marks' =
-    (t : table.State) (l : CubeLine) → Stands t s words marks → cube ≡ cubeOf l → mask ≡ packed (l .marks) → rows ≡ rowsIn l → Stands (table.withLine t l) r words' marks'
+    (t : table.State) (l : CubeLine) → Stands t s words marks → cube ≡ cubeOf l → mask ≡ packed (l .marks) → rows ≡ rowsIn l
+    → Stands (table.withLine t l) r words' marks'
 
 -- the lines from a byte on; none past the end
 abbrev pub linesFrom : List ℕ → ℕ → List (List ℕ)
@@ -86,9 +98,9 @@ linesFrom text at = cond (leb at (length text)) (linesOf (drop at text)) []
 
 -- a text that is not too long, and places for its cubes and masks
 pub record Ready (text words marks : List ℕ) : Type 0 where
-  pub short : length text ≤ 65536
-  pub places : length words ≡ 2048
-  pub masks : length marks ≡ 1024
+  pub short : length text ≤ mostBytes
+  pub places : length (cubesOf words) ≡ mostRows
+  pub masks : length marks ≡ mostRows
 
 -- the answer to a line that is the last to be read: what was read, or the refusal
 abbrev pub stoppedAt : Turn → ℕ → State → Scanned
@@ -118,25 +130,12 @@ pub record Source (words marks : List ℕ) (kept : ℕ) : Type 0 where
   pub cubes : kept ≤ length (cubesOf words)
   pub masks : kept ≤ length marks
 
--- there is room for the cubes of output j from place a on
+-- there is room for the cubes of output j from place a on, where all cubes are empty
 pub record Room (words marks : List ℕ) (kept j a : ℕ) (out : List ℕ) : Type 0 where
   pub source : Source words marks kept
-  pub mark : j < 64
+  pub mark : j < mostOutputs
   pub fits : a + length (pick j words marks kept) ≤ length (cubesOf out)
-
--- the cubes of an output stand from place a on, and their number is n
-pub record Taken (f : List (List ℕ)) (old new : List ℕ) (a n : ℕ) : Type 0 where
-  pub number : n ≡ length f
-  pub placed : Placed old new a f
-
--- from place a on all cubes are empty
-abbrev pub Vacant : List ℕ → ℕ → Type 0
-Vacant out a = drop a (cubesOf out) ≡ replicate (length (cubesOf out) - a) []
-
--- from place a on stand these cubes, n of them, and then empty ones
-pub record Filled (f : List (List ℕ)) (old new : List ℕ) (a n : ℕ) : Type 0 where
-  pub number : n ≡ length f
-  pub cubes : cubesOf new ≡ take a (cubesOf old) ++ (f ++ replicate (length (cubesOf old) - (a + n)) [])
+  pub empty : drop a (cubesOf out) ≡ replicate (length (cubesOf out) - a) []
 
 -- an output's expression of the cubes picked
 abbrev pub formed : List ℕ → List ℕ → ℕ → ℕ → List (List ℕ)
@@ -145,8 +144,8 @@ formed words marks kept j = sort (absorbed (pick j words marks kept))
 -- there are cubes and masks, few enough outputs, and few enough cubes for them all
 pub record Buildable (words marks : List ℕ) (kept m : ℕ) : Type 0 where
   pub source : Source words marks kept
-  pub outputs : m ≤ 32
-  pub few : total (λ j. length (pick j words marks kept)) (from 0 m) ≤ 1088
+  pub outputs : m ≤ mostOutputs
+  pub few : total (λ j. length (pick j words marks kept)) (from 0 m) ≤ mostRows
 
 -- the network of n inputs and m outputs of the cubes and masks
 abbrev pub netFrom : ℕ → ℕ → List ℕ → List ℕ → ℕ → Net

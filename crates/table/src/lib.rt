@@ -5,20 +5,18 @@ use table_kinds::Kind;
 use table_rows::Parsed;
 ghost use mathlib.Core.Path.{_≡_};
 ghost use mathlib.Core.Bool.{_&&_};
-ghost use mathlib.Core.List.{[]};
-ghost use Prim.Native.Nat.{_+_, _-_, _<_, _≤_};
+ghost use Prim.Native.Nat.{_+_, _<_, _≤_};
 ghost use lib.Dec.{leb};
-ghost use lib.ListN.{length, replicate};
 ghost use Rattle.sets.specs.Masks.{bit};
 ghost use Rattle.cube.specs.Cube.{lits};
-ghost use Rattle.expression.specs.Words.{cubesOf, Placed};
+ghost use Rattle.expression.specs.Words.{Appends};
+ghost use Rattle.network.specs.Held.{mostOutputs};
 ghost use Rattle.network.specs.Handed.{Holds, Blank};
 ghost use Rattle.table_lines.specs.Text.{linesOf};
-ghost use Rattle.table_kinds.specs.Kinds.{kindOf};
-ghost use Rattle.table.specs.Table as table;
-ghost use Rattle.table.specs.Table.{start, readLines, readText, cubeLine, byKind, setWide, setTall, setStated, finish};
+ghost use Rattle.table.specs.Table.{mostRows, start, readLines, readText, setWide, setTall, setStated, finish};
 ghost use Rattle.table.specs.Answers.{Told};
-ghost use Rattle.table.specs.Parts.{Numbers, Answers, Roomy, Keeps, Leaves, Ready, stoppedAt, Scans, pick, Room, Taken, Vacant, Filled, formed, Buildable, netFrom};
+ghost use Rattle.table.specs.Parts.{Numbers, Answers, Roomy, Keeps, Leaves, byLine, byCube, Ready, stoppedAt, Scans};
+ghost use Rattle.table.specs.Parts.{pick, Room, formed, Buildable, netFrom};
 
 // The limits of a table.
 const BYTES: usize = 65536;
@@ -142,7 +140,7 @@ fn keep_line(
     marks: &mut [u64],
 ) -> State
     requires { ⌜ Roomy s (now words) (now marks) ⌝ }
-    requires { ⌜ s .rows + rows ≤ 1024 ⌝ }
+    requires { ⌜ s .rows + rows ≤ mostRows ⌝ }
     ensures { λ r. ⌜ Keeps s (lits cube) mask rows r (now (words .entry)) (now (marks .entry)) (now (words .exit)) (now (marks .exit)) ⌝ }
 {
     let mut t = s;
@@ -161,7 +159,7 @@ fn keep_line(
 // A cube line: 2 while `.i` or `.o` is missing, or where it is none; 6 where its rows pass the limit.
 fn add_line(c: &[u8], s: State, words: &mut [u64], marks: &mut [u64]) -> Turn
     requires { ⌜ Roomy s (now words) (now marks) ⌝ }
-    ensures { λ r. ⌜ Leaves (λ (t : table.State). cubeLine (t .wide) (t .tall) (now (c .entry)) t) s r (now (words .entry)) (now (marks .entry)) (now (words .exit)) (now (marks .exit)) ⌝ }
+    ensures { λ r. ⌜ Leaves (byCube (now (c .entry))) s r (now (words .entry)) (now (marks .entry)) (now (words .exit)) (now (marks .exit)) ⌝ }
 {
     if s.inputs == 0 {
         return Turn::Refused(2);
@@ -181,7 +179,7 @@ fn add_line(c: &[u8], s: State, words: &mut [u64], marks: &mut [u64]) -> Turn
 // What is left of a line, by its kind.
 fn take_line(c: &[u8], s: State, words: &mut [u64], marks: &mut [u64]) -> Turn
     requires { ⌜ Roomy s (now words) (now marks) ⌝ }
-    ensures { λ r. ⌜ Leaves (byKind (kindOf (now (c .entry))) (now (c .entry))) s r (now (words .entry)) (now (marks .entry)) (now (words .exit)) (now (marks .exit)) ⌝ }
+    ensures { λ r. ⌜ Leaves (byLine (now (c .entry))) s r (now (words .entry)) (now (marks .entry)) (now (words .exit)) (now (marks .exit)) ⌝ }
 {
     let kind = table_kinds::kind_of(c);
     match kind {
@@ -237,7 +235,10 @@ fn scan(text: &[u8], words: &mut [u64], marks: &mut [u64]) -> Scanned
     let mut at = 0;
     while at <= text.len() {
         let e = table_lines::line_end(text, at);
-        let turn = take_line(table_lines::content_of(&text[at..e]), s, words, marks);
+        let span = table_lines::content_of(&text[at..e]);
+        let from = at + span.start;
+        let to = at + span.end;
+        let turn = take_line(&text[from..to], s, words, marks);
         let Turn::Next(t) = turn else {
             return stopped(turn, line, s);
         };
@@ -253,42 +254,30 @@ fn scan(text: &[u8], words: &mut [u64], marks: &mut [u64]) -> Scanned
 
 // Whether output j is marked.
 fn is_marked(mask: u64, j: usize) -> bool
-    requires { ⌜ j < 64 ⌝ }
+    requires { ⌜ j < mostOutputs ⌝ }
     ensures { λ r. ⌜ r ≡ bit mask j ⌝ }
 {
     (mask >> j) & 1 == 1
 }
 
-// The kept cubes of output j are put from place `at` on, and their number is returned.
+// The kept cubes of output j are put from place `at` on; the place after them is returned.
 fn collect(words: &[u64], marks: &[u64], kept: usize, j: usize, out: &mut [u64], at: usize) -> usize
     requires { ⌜ Room (now words) (now marks) kept j at (now out) ⌝ }
-    ensures { λ r. ⌜ Taken (pick j (now (words .entry)) (now (marks .entry)) kept) (now (out .entry)) (now (out .exit)) at r ⌝ }
+    ensures { λ r. ⌜ Appends (now (out .entry)) (now (out .exit)) at (pick j (now (words .entry)) (now (marks .entry)) kept) r ⌝ }
 {
-    let mut n = 0;
+    let mut to = at;
     let mut i = 0;
     while i < kept {
         if is_marked(marks[i], j) {
-            expression::put_cube(out, at + n, expression::cube_at(words, i));
-            n += 1;
+            expression::put_cube(out, to, expression::cube_at(words, i));
+            to += 1;
         }
         i += 1;
     }
-    n
+    to
 }
 
-// Places a up to e become the empty cube.
-fn clear(out: &mut [u64], a: usize, e: usize)
-    requires { ⌜ (a ≤ e) × (e ≤ length (cubesOf (now out))) ⌝ }
-    ensures { λ r. ⌜ Placed (now (out .entry)) (now (out .exit)) a (replicate (e - a) []) ⌝ }
-{
-    let mut i = a;
-    while i < e {
-        expression::put_cube(out, i, cube::empty());
-        i += 1;
-    }
-}
-
-// Output j's expression is put from place `at` on: cubes dropped, the rest in cube order; their number is returned.
+// Output j's expression is put from place `at` on: cubes dropped, the rest in cube order; the place after it is returned.
 fn fill_output(
     words: &[u64],
     marks: &[u64],
@@ -298,14 +287,13 @@ fn fill_output(
     at: usize,
 ) -> usize
     requires { ⌜ Room (now words) (now marks) kept j at (now out) ⌝ }
-    requires { ⌜ Vacant (now out) at ⌝ }
-    ensures { λ r. ⌜ Filled (formed (now (words .entry)) (now (marks .entry)) kept j) (now (out .entry)) (now (out .exit)) at r ⌝ }
+    ensures { λ r. ⌜ Appends (now (out .entry)) (now (out .exit)) at (formed (now (words .entry)) (now (marks .entry)) kept j) r ⌝ }
 {
-    let n = collect(words, marks, kept, j, out, at);
-    let k = expression_absorb::absorb_part(out, at, at + n);
-    expression_sort::sort_part(out, at, at + k);
-    clear(out, at + k, at + n);
-    k
+    let e = collect(words, marks, kept, j, out, at);
+    let to = at + expression_absorb::absorb_part(out, at, e);
+    expression_sort::sort_part(out, at, to);
+    expression::clear(out, to, e);
+    to
 }
 
 // The network of the kept cubes.
@@ -318,9 +306,9 @@ fn build(inputs: usize, outputs: usize, words: &[u64], marks: &[u64], kept: usiz
     let mut at = 0;
     let mut j = 0;
     while j < outputs {
-        let k = fill_output(words, marks, kept, j, &mut out, at);
-        counts[j] = k;
-        at += k;
+        let to = fill_output(words, marks, kept, j, &mut out, at);
+        counts[j] = to - at;
+        at = to;
         j += 1;
     }
     Network {
@@ -349,7 +337,7 @@ pub fn read(text: &[u8]) -> Table
     if text.len() > BYTES {
         return refused(Answer::Refused(Refusal { number: 1, line: 0 }));
     }
-    let mut words = [0u64; 2 * ROWS as usize];
+    let mut words = [0u64; expression::WORDS * ROWS as usize];
     let mut marks = [0u64; ROWS as usize];
     let scanned = scan(text, &mut words, &mut marks);
     let answer = scanned.answer;

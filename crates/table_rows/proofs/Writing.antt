@@ -15,7 +15,7 @@ use Rattle.sets.proofs.Truth.{both, either}
 use Rattle.table_lines.specs.Text.{isBlank, startsBlank, trimFront}
 use Rattle.table_lines.proofs.Blanks.{gap-out, gap-in}
 use Rattle.table_rows.specs.Lines.{isPlace, isMark, CubeLine, cubeLineOf}
-use Rattle.table_rows.specs.Meaning.{Shaped, Writes}
+use Rattle.table_rows.specs.Meaning.{LineOf, Writes}
 
 -- no mark is a blank
 mark-solid : (x : ℕ) → isMark x ≡ true → isBlank x ≡ false
@@ -69,7 +69,7 @@ pub cube-line-iff : (n m : ℕ) (c : List ℕ) (l : CubeLine) → (cubeLineOf n 
 cube-line-iff n m c l = (line-out n m c l, line-in)
 
 -- a cube line of n inputs and m outputs has n places and m marks
-pub line-shaped : (n m : ℕ) (c : List ℕ) (l : CubeLine) → cubeLineOf n m c ≡ some l → Shaped n m l
+pub line-shaped : (n m : ℕ) (c : List ℕ) (l : CubeLine) → cubeLineOf n m c ≡ some l → LineOf n m l
 line-shaped n m c l e = let w = line-out n m c l e in
     record { places = w .number; bytes = w .places; marks = ap length (w .marks) ∙ length-map (w .signs) (eqb 49) ∙ w .count }
 

@@ -10,7 +10,7 @@ use Rattle.table_lines.specs.Text.{Blanks}
 use Rattle.table_rows.specs.Lines.{isPlace, isMark, CubeLine}
 
 -- n places, each one of `0 1 -`, and m marks
-pub record Shaped (n m : ℕ) (l : CubeLine) : Type 0 where
+pub record LineOf (n m : ℕ) (l : CubeLine) : Type 0 where
   pub places : length (l .places) ≡ n
   pub bytes : all isPlace (l .places) ≡ true
   pub marks : length (l .marks) ≡ m

@@ -1,24 +1,36 @@
--- `table::build` meets its contract. The loop's invariant: the outputs passed stand one after the other, their counts beside them. Assumes nothing.
-use Prim.Native.Nat.{ℕ, _-_, _≤_}
+-- `table::build` meets its contract. The loop's invariant: the outputs passed are laid one after the other. Assumes nothing.
+use mathlib.Core.List.{map}
+use Prim.Native.Nat.{_-_, _≤_}
+use mathlib.Core.Path.{_≡_}
 use native.Mathlib.Omega.{arith}
-use lib.ListN.{length}
-use Rattle.expression.specs.Expression.{absorbed}
-use Rattle.expression.proofs.Absorbing.{absorbed-length}
-use Rattle.expression.proofs.Sorting.{sort-length}
-use Rattle.table.specs.Parts.{pick, formed}
-use Rattle.table.proofs.Building.{Built, built-none, built-next, built-places, built-vacant, built-holds, total-front}
+use lib.ListN.{length, length-replicate}
+use Rattle.sets.specs.Lists.{from}
+use Rattle.expression.proofs.Words.{room-cubes}
+use Rattle.network.specs.Handed.{cubeSlots, wordSlots, LaidNodes}
+use Rattle.network.proofs.Laying.{laid-none}
+use Rattle.table.specs.Parts.{formed}
+use Rattle.table.proofs.Building.{laid-room, laid-output, laid-outputs}
 use borrow.Author.Needs.{needs}
 use Rattle.table.proofs.build.Statement.{statement}
 use Rattle.table.proofs.build.Tie as tie
 
 abbrev Inv-loop : tie.InvT-loop
-Inv-loop inputs outputs words marks kept counts₀ out₀ at₀ j₀ counts out at j = (j ≤ outputs) × Built (formed words marks kept) (λ i. length (pick i words marks kept)) counts out at j
+Inv-loop inputs outputs words marks kept counts₀ out₀ at₀ j₀ counts out at j =
+    (j ≤ outputs) × (length out ≡ wordSlots) × LaidNodes out counts at (map (formed words marks kept) (from 0 j))
 
 abbrev μ-loop : tie.MeasureT-loop
 μ-loop inputs outputs words marks kept counts₀ out₀ at₀ j₀ counts out at j = outputs - j
 
+-- the states of the walk
+abbrev start : tie.At-loop Inv-loop μ-loop → tie.Start Inv-loop μ-loop
+start h = h .before .before .before
+
+abbrev turn : tie.After-fill-output Inv-loop μ-loop → tie.At-loop Inv-loop μ-loop
+turn f = f .before .before .before
+
 loop-holds : tie.Need-loop-holds Inv-loop μ-loop
-loop-holds c = (omega arith, built-none _ _)
+unfolding from
+loop-holds c = (omega arith, length-replicate wordSlots 0, laid-none)
 
 slice-aggregate-fill-output : tie.Need-slice-aggregate-fill-output Inv-loop μ-loop
 slice-aggregate-fill-output c = search needs
@@ -26,42 +38,16 @@ slice-aggregate-fill-output c = search needs
 fill-output-requires : tie.Need-fill-output-requires Inv-loop μ-loop
 fill-output-requires c κs =
     let h = c .before .before in
-    let s = h .before .before .before in
-    let b = h .loop .inv .1 in
-    let g : ℕ → ℕ = λ i. length (pick i (s .args .words .now) (s .args .marks .now) (s .args .kept)) in (
-      record {
-        source = s .pre .source;
-        mark = omega (arith, s .pre .outputs);
-        fits = omega (arith, b .few, s .pre .few, total-front g (h .loop .j) (s .args .outputs) (omega arith), built-places _ _ b);
-      },
-      built-vacant _ _ b,
-    )
+    laid-room (start h .pre) (c .before .loop-test .taken) (h .loop .inv .2) (room-cubes _ cubeSlots (h .loop .inv .1))
+
+sub-counts : tie.Need-sub-counts Inv-loop μ-loop
+sub-counts c = omega (arith, c .before .fill-output .ensures .next)
 
 mul-counts : tie.Need-mul-counts Inv-loop μ-loop
 mul-counts c = search needs
 
 array-write-counts : tie.Need-array-write-counts Inv-loop μ-loop
 array-write-counts c = search needs
-
-add-at : tie.Need-add-at Inv-loop μ-loop
-add-at c =
-    let f = c .before in
-    let h = f .before .before .before in
-    let s = h .before .before .before in
-    let b = h .loop .inv .1 in
-    let g : ℕ → ℕ = λ i. length (pick i (s .args .words .now) (s .args .marks .now) (s .args .kept)) in
-    let p = pick (h .loop .j) (s .args .words .now) (s .args .marks .now) (s .args .kept) in
-    record {
-      fits = omega (
-        arith,
-        f .fill-output .ensures .number,
-        sort-length (absorbed p),
-        absorbed-length p,
-        b .few,
-        s .pre .few,
-        total-front g (h .loop .j) (s .args .outputs) (omega arith),
-      );
-    }
 
 add-j : tie.Need-add-j Inv-loop μ-loop
 add-j c = search needs
@@ -72,14 +58,11 @@ loop-less c = search needs
 loop-again : tie.Need-loop-again Inv-loop μ-loop
 loop-again c =
     let f = c .before in
-    let h = f .before .before .before in
-    let s = h .before .before .before in
-    let p = pick (h .loop .j) (s .args .words .now) (s .args .marks .now) (s .args .kept) in
-    (omega arith, built-next _ _ (h .loop .inv .1) (omega (arith, s .pre .outputs)) (omega (arith, sort-length (absorbed p), absorbed-length p)) (search needs) (f .fill-output .ensures))
+    let h = turn f in
+    (omega arith, search needs, laid-output (start h .pre) (f .before .before .loop-test .taken) (h .loop .inv .2) (f .fill-output .ensures))
 
 returns : tie.Need-returns Inv-loop μ-loop
-returns c =
-    built-holds _ _ (c .before .loop .inv .1) _ _ (omega arith)
+returns c = laid-outputs (start (c .before) .pre) _ (omega arith) (c .before .loop .inv .2)
 
 pub build-spec : {M : Type 1} → statement M
 build-spec =
@@ -90,9 +73,9 @@ build-spec =
     loop-holds
     slice-aggregate-fill-output
     fill-output-requires
+    sub-counts
     mul-counts
     array-write-counts
-    add-at
     add-j
     loop-less
     loop-again

@@ -4,21 +4,29 @@ use mathlib.Core.Logic.{inl, inr}
 use Prim.Native.Nat.{ℕ, _-_, _≤_}
 use native.Mathlib.Omega.{arith}
 use lib.ListN.{length}
-use Rattle.table.specs.Parts.{pick, Taken}
-use Rattle.expression.proofs.Words.{cubes-length}
-use Rattle.table.proofs.Picking.{taken-none, taken-skip, taken-put, taken-room}
+use Rattle.expression.specs.Words.{Appends}
+use Rattle.expression.proofs.Words.{spare-length}
+use Rattle.table.specs.Parts.{pick}
+use Rattle.table.proofs.Picking.{pick-none, pick-skip, pick-put, pick-room}
 use borrow.Author.Needs.{needs}
 use Rattle.table.proofs.collect.Statement.{statement}
 use Rattle.table.proofs.collect.Tie as tie
 
 abbrev Inv-loop : tie.InvT-loop
-Inv-loop words marks kept j out₀ at n₀ i₀ out n i = (i ≤ kept) × Taken (pick j words marks i) out₀ out at n × (length out ≡ length out₀)
+Inv-loop words marks kept j out₀ at to₀ i₀ out to i = (i ≤ kept) × Appends out₀ out at (pick j words marks i) to × (length out ≡ length out₀)
 
 abbrev μ-loop : tie.MeasureT-loop
-μ-loop words marks kept j out₀ at n₀ i₀ out n i = kept - i
+μ-loop words marks kept j out₀ at to₀ i₀ out to i = kept - i
+
+-- the states of the walk
+abbrev start : tie.At-loop Inv-loop μ-loop → tie.Start Inv-loop μ-loop
+start h = h .before .before .before .before
+
+abbrev turn : tie.After-is-marked Inv-loop μ-loop → tie.At-loop Inv-loop μ-loop
+turn m = m .before .before .before
 
 loop-holds : tie.Need-loop-holds Inv-loop μ-loop
-loop-holds c = (omega arith, taken-none _ (c .before .before .before .pre .source) _ _, refl)
+loop-holds c = (omega arith, pick-none _ (c .before .before .before .pre .source) _ _, refl)
 
 mul-is-marked : tie.Need-mul-is-marked Inv-loop μ-loop
 mul-is-marked c = search needs
@@ -29,27 +37,20 @@ shared-slice-read-is-marked c = search needs
 is-marked-requires : tie.Need-is-marked-requires Inv-loop μ-loop
 is-marked-requires c κs = search needs
 
-add-put-cube : tie.Need-add-put-cube Inv-loop μ-loop
-add-put-cube c =
-    let m = c .before .before in
-    let h = m .before .before .before in
-    let s = h .before .before .before .before in
-    let r = taken-room _ (s .pre .source) (h .loop .i) (omega arith) (h .loop .inv .1) (sym (m .is-marked .ensures) ∙ c .before .if1 .taken) (s .pre .fits) in
-    record { fits = omega (arith, cubes-length (s .args .out .now)) }
-
 cube-at-requires : tie.Need-cube-at-requires Inv-loop μ-loop
 cube-at-requires c κs = search needs
 
 put-cube-requires : tie.Need-put-cube-requires Inv-loop μ-loop
 put-cube-requires c κs = search needs
 
-add-n : tie.Need-add-n Inv-loop μ-loop
-add-n c =
-    let m = c .before .before .before .before .before .before in
-    let h = m .before .before .before in
-    let s = h .before .before .before .before in
-    let r = taken-room _ (s .pre .source) (h .loop .i) (omega arith) (h .loop .inv .1) (sym (m .is-marked .ensures) ∙ c .before .before .before .before .before .if1 .taken) (s .pre .fits) in
-    record { fits = omega (arith, cubes-length (s .args .out .now)) }
+add-to : tie.Need-add-to Inv-loop μ-loop
+add-to c =
+    let w = c .before .before .before .before .before in
+    let m = w .before in
+    let h = turn m in
+    let s = start h in
+    let r = pick-room _ (s .pre .source) (h .loop .i) (omega arith) (h .loop .inv .1) (sym (m .is-marked .ensures) ∙ w .if1 .taken) (s .pre .fits) in
+    record { fits = omega (arith, spare-length (s .args .out .now)) }
 
 add-i : tie.Need-add-i Inv-loop μ-loop
 add-i c = search needs
@@ -60,17 +61,17 @@ loop-less c = search needs
 loop-again : tie.Need-loop-again Inv-loop μ-loop
 loop-again c =
     let m = c .before in
-    let h = m .before .before .before in
-    let s = h .before .before .before .before in
+    let h = turn m in
+    let s = start h in
     elim (c .if1 .came) [
       | inl (w, p, q, r, o, k, e, n) ↦ rw (e, n) (
         omega arith,
-        taken-put _ (s .pre .source) (h .loop .i) (omega arith) (h .loop .inv .1) (sym (m .is-marked .ensures) ∙ w .taken) (s .pre .fits) (q .ensures) (r .ensures),
+        pick-put _ (s .pre .source) (h .loop .i) (omega arith) (h .loop .inv .1) (sym (m .is-marked .ensures) ∙ w .taken) (s .pre .fits) (q .ensures) (r .ensures),
         search needs,
       )
       | inr (w, e, n) ↦ rw (e, n) (
         omega arith,
-        taken-skip _ (s .pre .source) (h .loop .i) (omega arith) (h .loop .inv .1) (sym (m .is-marked .ensures) ∙ w .left),
+        pick-skip _ (s .pre .source) (h .loop .i) (omega arith) (h .loop .inv .1) (sym (m .is-marked .ensures) ∙ w .left),
         h .loop .inv .2,
       )
     ]
@@ -81,9 +82,9 @@ same-length c = search needs
 returns : tie.Need-returns Inv-loop μ-loop
 returns c =
     let h = c .before in
-    let s = h .before .before .before .before in
-    let e : h .loop .i ≡ s .args .kept = omega arith in
-    subst (λ (k : ℕ). Taken (pick (s .args .j) (s .args .words .now) (s .args .marks .now) k) (s .args .out .now) (h .loop .out) (s .args .at) (h .loop .n)) e (h .loop .inv .1)
+    let a = start h .args in
+    let e : h .loop .i ≡ a .kept = omega arith in
+    subst (λ (k : ℕ). Appends (a .out .now) (h .loop .out) (a .at) (pick (a .j) (a .words .now) (a .marks .now) k) (h .loop .to)) e (h .loop .inv .1)
 
 pub collect-spec : {M : Type 1} → statement M
 collect-spec =
@@ -95,10 +96,9 @@ collect-spec =
     mul-is-marked
     shared-slice-read-is-marked
     is-marked-requires
-    add-put-cube
     cube-at-requires
     put-cube-requires
-    add-n
+    add-to
     add-i
     loop-less
     loop-again

@@ -2,9 +2,9 @@
 use mathlib.Core.Path.{_≡_, sym, subst}
 use native.Mathlib.Omega.{arith}
 use lib.ListN.{length}
-use Rattle.expression.proofs.Words.{cubes-length}
+use Rattle.expression.proofs.Words.{room-cubes}
 use Rattle.network.specs.Handed.{Holds}
-use Rattle.table.specs.Table.{Outcome}
+use Rattle.table.specs.Table.{mostRows, Outcome}
 use Rattle.table.specs.Answers.{Told}
 use Rattle.table.proofs.Refusals.{text-long, accepted-complete}
 use Rattle.table.proofs.Marking.{buildable, net-same}
@@ -26,7 +26,7 @@ slice-aggregate-scan-2 : tie.Need-slice-aggregate-scan-2
 slice-aggregate-scan-2 c = search needs
 
 scan-requires : tie.Need-scan-requires
-scan-requires c κs = search needs
+scan-requires c κs = record { short = search needs; places = room-cubes _ mostRows (search needs); masks = search needs }
 
 enum-told : tie.Need-enum-told
 enum-told c = search needs
@@ -56,9 +56,7 @@ build-requires c κs =
     let t = n .before .before .before .before .before .args .text .now in
     let q = c .before .before .before .enum-told .given in
     let r = text-read _ _ t (n .before .before .before .if1 .left) (n .scan .result) (n .scan .ensures) (q .1) in
-    let w : length (n .scan .last .1 .0) ≡ 2048 = search needs in
-    let m : length (n .scan .last .1 .1 .0) ≡ 1024 = search needs in
-    buildable (accepted-complete t (r .0) (r .1) .2) (r .2) (omega (arith, cubes-length (n .scan .last .1 .0))) m
+    buildable (accepted-complete t (r .0) (r .1) .2) (r .2) (room-cubes (n .scan .last .1 .0) mostRows (search needs)) (search needs)
 
 returns-3 : tie.Need-returns-3
 returns-3 c =

@@ -1,43 +1,64 @@
 -- `table::scan` meets its contract. The loop's invariant: what was read stands, and with what is left gives the outcome of all lines. Assumes nothing.
-use Prim.Native.Nat.{_+_, _-_, _≤_}
-use mathlib.Core.Path.{_≡_, sym, ap, subst}
+use Prim.Native.Nat.{ℕ, _+_, _-_, _≤_}
+use mathlib.Core.List.{List}
+use mathlib.Core.Path.{_≡_, refl, sym, _∙_, ap, subst}
 use mathlib.Core.Logic.{_⊎_, inl, inr}
 use native.Mathlib.Omega.{arith}
-use lib.ListN.{length}
+use lib.ListN.{length, take, drop}
 use denote.Enum.Declared.{tagOf}
-use Rattle.table_lines.specs.Text.{linesOf}
-use Rattle.table.specs.Table.{start, readLines}
+use Rattle.expression.proofs.Words.{same-room}
+use Rattle.table_lines.specs.Text.{linesOf, content}
+use Rattle.table.specs.Table as table
+use Rattle.table.specs.Table.{readLines}
 use Rattle.table.specs.Parts.{Scans}
 use Rattle.table.specs.declared.State.{State}
 use Rattle.table.specs.declared.Scanned.{Scanned}
 use Rattle.table.specs.declared.Turn.{Turn}
 use Rattle.table.specs.declared.Turn.the-variants.{Next}
 use Rattle.table.proofs.Turn.{the-type}
-use Rattle.table.proofs.Scanning.{stop-le, Reading, reading-first, reading-roomy, reading-over, reading-next, reading-stop}
+use Rattle.table.proofs.Scanning.{stop-le, span-within, span-ordered, span-part}
+use Rattle.table.proofs.Scanning.{Reading, reading-first, reading-roomy, reading-over, reading-next, reading-stop}
 use borrow.Author.Needs.{needs}
 use Rattle.table.proofs.scan.Statement.{statement}
 use Rattle.table.proofs.scan.Tie as tie
 
 abbrev Inv-loop : tie.InvT-loop
 Inv-loop text words₀ marks₀ s₀ line₀ at₀ words marks s line at =
-    (at ≤ length text + 1) × (line ≤ at + 1) × (length words ≡ 2048) × (length marks ≡ 1024) × Reading text words marks s line at
+    (at ≤ length text + 1) × (line ≤ at + 1) × (length words ≡ length words₀) × (length marks ≡ length marks₀) × Reading text words marks s line at
 
 abbrev μ-loop : tie.MeasureT-loop
 μ-loop text words₀ marks₀ s₀ line₀ at₀ words marks s line at = length text + 1 - at
 
+-- the states of the walk, each after one of its calls
+abbrev start : tie.At-loop Inv-loop μ-loop → tie.Start Inv-loop μ-loop
+start h = h .before .before .before .before
+
+abbrev turn : tie.After-line-end Inv-loop μ-loop → tie.At-loop Inv-loop μ-loop
+turn e = e .before .before
+
+abbrev ended : tie.After-content-of Inv-loop μ-loop → tie.After-line-end Inv-loop μ-loop
+ended p = p .before .before
+
+abbrev spanned : tie.After-take-line Inv-loop μ-loop → tie.After-content-of Inv-loop μ-loop
+spanned t = t .before .before .before .before .before .before
+
+abbrev last : tie.After-stopped Inv-loop μ-loop → tie.After-take-line Inv-loop μ-loop
+last c = c .before .before .before .before .before .before
+
+abbrev gone : tie.After-known-told Inv-loop μ-loop → tie.After-take-line Inv-loop μ-loop
+gone c = c .before .before .before .before .before .before .before
+
 loop-holds : tie.Need-loop-holds Inv-loop μ-loop
-loop-holds c =
-    let s = c .before .before .before in
-    (omega arith, omega arith, s .pre .places, s .pre .masks, reading-first _ _ _)
+loop-holds c = (omega arith, omega arith, refl, refl, reading-first _ _ _)
 
 line-end-requires : tie.Need-line-end-requires Inv-loop μ-loop
 line-end-requires c κs = search needs
 
 -- a line ends no sooner than it begins, and within the text
-ends : (c : tie.After-line-end Inv-loop μ-loop) → let h = c .before .before in (h .loop .at ≤ c .line-end .result) × (c .line-end .result ≤ length (h .before .before .before .before .args .text .now))
+ends : (c : tie.After-line-end Inv-loop μ-loop)
+    → (turn c .loop .at ≤ c .line-end .result) × (c .line-end .result ≤ length (start (turn c) .args .text .now))
 ends c =
-    let h = c .before .before in
-    let e = stop-le (h .before .before .before .before .args .text .now) (h .loop .at) (c .before .loop-test .taken) in
+    let e = stop-le (start (turn c) .args .text .now) (turn c .loop .at) (c .before .loop-test .taken) in
     (omega (arith, c .line-end .ensures), omega (arith, c .line-end .ensures))
 
 sub-content-of : tie.Need-sub-content-of Inv-loop μ-loop
@@ -52,11 +73,46 @@ part-content-of-end c = ends c .1
 content-of-requires : tie.Need-content-of-requires Inv-loop μ-loop
 content-of-requires c κs = search needs
 
+-- what is left of a line stands within the text
+module _ (c : tie.After-content-of Inv-loop μ-loop) where
+  abbrev text : List ℕ
+  text = start (turn (ended c)) .args .text .now
+
+  abbrev at : ℕ
+  at = turn (ended c) .loop .at
+
+  left-ordered : c .content-of .result .start ≤ c .content-of .result .end
+  left-ordered = span-ordered text at (ended c .before .loop-test .taken) (ended c .line-end .ensures) (c .content-of .ensures)
+
+  left-within : at + c .content-of .result .end ≤ length text
+  left-within = span-within text at (ended c .before .loop-test .taken) (ended c .line-end .ensures) (c .content-of .ensures)
+
+  left : take ((at + c .content-of .result .end) - (at + c .content-of .result .start)) (drop (at + c .content-of .result .start) text)
+      ≡ content (take (ended c .line-end .result - at) (drop at text))
+  left = span-part text at (ended c .before .loop-test .taken) (ended c .line-end .ensures) (c .content-of .ensures)
+
+add-from : tie.Need-add-from Inv-loop μ-loop
+add-from c = record { fits = omega (arith, left-within (c .before), left-ordered (c .before)) }
+
+add-to : tie.Need-add-to Inv-loop μ-loop
+add-to c = record { fits = omega (arith, left-within (c .before .before)) }
+
+sub-take-line : tie.Need-sub-take-line Inv-loop μ-loop
+sub-take-line c = omega (arith, left-ordered (c .before .before))
+
+part-take-line-start : tie.Need-part-take-line-start Inv-loop μ-loop
+part-take-line-start c = omega (arith, left-within (c .before .before), left-ordered (c .before .before))
+
+part-take-line-end : tie.Need-part-take-line-end Inv-loop μ-loop
+part-take-line-end c = left-within (c .before .before)
+
 take-line-requires : tie.Need-take-line-requires Inv-loop μ-loop
 take-line-requires c κs =
-    let h = c .before .before .before .before .before .before in
-    let s = h .before .before .before .before in
-    reading-roomy (h .loop .inv .4) (omega (arith, s .pre .short, c .before .before .before .before .before .loop-test .taken)) (h .loop .inv .2) (h .loop .inv .3)
+    let e = ended (c .before .before .before .before .before) in
+    let h = turn e in
+    let s = start h in
+    reading-roomy (h .loop .inv .4) (omega (arith, s .pre .short, e .before .loop-test .taken))
+    (same-room (h .loop .words) (s .args .words .now) (h .loop .inv .2) ∙ s .pre .places) (h .loop .inv .3 ∙ s .pre .masks)
 
 enum-known-turn : tie.Need-enum-known-turn Inv-loop μ-loop
 enum-known-turn c = search needs
@@ -77,39 +133,36 @@ not-next p (inr k) s i = omega (arith, ap (tagOf the-type) i)
 
 returns : tie.Need-returns Inv-loop μ-loop
 returns c =
-    let t = c .before .before .before .before .before .before in
-    let e = t .before .before .before .before .before in
-    let h = e .before .before in
-    subst (λ (x : Scanned). Scans (readLines 1 (linesOf (h .before .before .before .before .args .text .now)) start) x (t .take-line .last .1 .1 .0) (t .take-line .last .1 .1 .1 .0))
+    let t = last c in
+    let p = spanned t in
+    let e = ended p in
+    let h = turn e in
+    subst (λ (x : Scanned). Scans (readLines 1 (linesOf (start h .args .text .now)) table.start) x (t .take-line .last .1 .1 .0) (t .take-line .last .1 .1 .1 .0))
     (sym (c .stopped .ensures))
-    (reading-stop (h .loop .inv .4) _ _ (t .take-line .result) (e .before .loop-test .taken) (e .line-end .ensures) (t .before .before .before .content-of .ensures) (t .take-line .ensures) (not-next (t .take-line .result) (c .before .match .keys2)))
+    (reading-stop (h .loop .inv .4) _ _ (t .take-line .result) (e .before .loop-test .taken) (e .line-end .ensures) (left p) (t .take-line .ensures)
+    (not-next (t .take-line .result) (c .before .match .keys2)))
 
 add-at : tie.Need-add-at Inv-loop μ-loop
-add-at c =
-    let e = c .before .before .before .before .before .before .before .before .before .before .before .before in
-    record { fits = omega (arith, ends e .1, e .before .before .before .before .before .before .pre .short) }
+add-at c = let e = ended (spanned (gone c)) in record { fits = omega (arith, ends e .1, start (turn e) .pre .short) }
 
 add-line : tie.Need-add-line Inv-loop μ-loop
-add-line c =
-    let e = c .before .before .before .before .before .before .before .before .before .before .before .before in
-    let h = e .before .before in
-    record { fits = omega (arith, ends e, h .before .before .before .before .pre .short, h .loop .inv .1) }
+add-line c = let e = ended (spanned (gone c)) in record { fits = omega (arith, ends e, start (turn e) .pre .short, turn e .loop .inv .1) }
 
 loop-less : tie.Need-loop-less Inv-loop μ-loop
-loop-less c =
-    let e = c .before .before .before .before .before .before .before .before .before .before .before .before in
-    omega (arith, ends e)
+loop-less c = omega (arith, ends (ended (spanned (gone c))))
 
 loop-again : tie.Need-loop-again Inv-loop μ-loop
 loop-again c =
-    let t = c .before .before .before .before .before .before .before in
-    let e = t .before .before .before .before .before in
-    let h = e .before .before in (
+    let t = gone c in
+    let p = spanned t in
+    let e = ended p in
+    let h = turn e in (
       omega (arith, ends e),
       omega (arith, ends e, h .loop .inv .1),
       search needs,
       search needs,
-      reading-next (h .loop .inv .4) _ _ (t .take-line .result) (e .before .loop-test .taken) (e .line-end .ensures) (t .before .before .before .content-of .ensures) (t .take-line .ensures) _ (c .before .turn .given .1),
+      reading-next (h .loop .inv .4) _ _ (t .take-line .result) (e .before .loop-test .taken) (e .line-end .ensures) (left p) (t .take-line .ensures) _
+      (c .before .turn .given .1),
     )
 
 same-length-3 : tie.Need-same-length-3 Inv-loop μ-loop
@@ -133,6 +186,11 @@ scan-spec =
     part-content-of-start
     part-content-of-end
     content-of-requires
+    add-from
+    add-to
+    sub-take-line
+    part-take-line-start
+    part-take-line-end
     take-line-requires
     enum-known-turn
     stopped-requires
