@@ -9,11 +9,11 @@ use lib.Dec.{ltb}
 use lib.ListN.{length, take, set, length-append}
 use lib.Seq.{take-suc-set}
 use borrow.Author.Tests.{lt-ltb, le-ltb, le-leb, lt-leb}
-use Rattle.sets.specs.Lists.{keep, total}
+use Rattle.sets.specs.Lists.{total}
 use Rattle.sets.specs.Masks.{packed}
 use Rattle.sets.proofs.Lists.{keep-append, total-append}
 use Rattle.expression.specs.Words.{cubesOf, Put}
-use Rattle.table_rows.specs.Lines.{CubeLine, cubeLineOf, cubeOf, rowsIn}
+use Rattle.table_rows.specs.Lines.{mostPlaces, CubeLine, cubeLineOf, cubeOf, rowsIn}
 use Rattle.table_rows.specs.Answers.{Entry, parsedOf, entryOf, parsing}
 use Rattle.table_rows.specs.declared.Parsed.{Parsed}
 use Rattle.table_rows.specs.declared.Parsed.the-variants.{Line, Nothing}
@@ -42,7 +42,14 @@ module _ {t : table.State} {s : State} {words marks : List ℕ} (h : Stands t s 
 
   -- a line that makes no row
   pub stands-plain : (rows : ℕ) → rows ≡ rowsIn l → rows ≡ 0
-      → Stands (table.withLine t l) (record { inputs = s .inputs; outputs = s .outputs; stated = s .stated; lines = s .lines + 1; rows = s .rows + rows; kept = s .kept }) words marks
+      → Stands (table.withLine t l) (record {
+        inputs = s .inputs;
+        outputs = s .outputs;
+        stated = s .stated;
+        lines = s .lines + 1;
+        rows = s .rows + rows;
+        kept = s .kept;
+      }) words marks
   stands-plain rows e z =
       let m = plain (sym e ∙ z) in
       record {
@@ -57,9 +64,17 @@ module _ {t : table.State} {s : State} {words marks : List ℕ} (h : Stands t s 
       }
 
   -- one that makes some
-  pub stands-kept : {words' : List ℕ} {cube : List ℕ} (rows mask : ℕ) → rows ≡ rowsIn l → (rows ≡ 0 → ⊥) → s .kept < length (cubesOf words) → s .kept < length marks
+  pub stands-kept : {words' : List ℕ} {cube : List ℕ} (rows mask : ℕ) → rows ≡ rowsIn l → (rows ≡ 0 → ⊥) → s .kept < length (cubesOf words)
+      → s .kept < length marks
       → cube ≡ cubeOf l → mask ≡ packed (l .marks) → Put words words' (s .kept) cube
-      → Stands (table.withLine t l) (record { inputs = s .inputs; outputs = s .outputs; stated = s .stated; lines = s .lines + 1; rows = s .rows + rows; kept = s .kept + 1 }) words' (set marks (s .kept) mask)
+      → Stands (table.withLine t l) (record {
+        inputs = s .inputs;
+        outputs = s .outputs;
+        stated = s .stated;
+        lines = s .lines + 1;
+        rows = s .rows + rows;
+        kept = s .kept + 1;
+      }) words' (set marks (s .kept) mask)
   stands-kept {words'} {cube} rows mask e f a b c k p =
       let m = more (λ z. f (e ∙ z)) in
       record {
@@ -121,11 +136,12 @@ module _ {t : table.State} {s : State} {words marks : List ℕ} (g : Bounded t) 
 
     parsing-there : parsing (s .inputs) (s .outputs) c ≡ entryOf (cubeLineOf (s .inputs) (s .outputs) c)
     unfolding parsing
-    parsing-there = rw (le-leb (s .inputs) 32 (wide-most g h), le-leb (s .outputs) 32 (tall-most g h))
+    parsing-there = rw (le-leb (s .inputs) mostPlaces (wide-most g h), le-leb (s .outputs) mostPlaces (tall-most g h))
 
     module _ {p : Parsed} (e : parsedOf p ≡ parsing (s .inputs) (s .outputs) c) where
       pub cube-other : p ≡ Nothing → result ≡ table.refuse 2
-      cube-other q = cube-there ∙ ap (λ (x : Option CubeLine). table.addLine x t) (told-none (cubeLineOf (s .inputs) (s .outputs) c) (ap parsedOf (sym q) ∙ e ∙ parsing-there))
+      cube-other q = cube-there ∙ ap (λ (x : Option CubeLine). table.addLine x t)
+          (told-none (cubeLineOf (s .inputs) (s .outputs) c) (ap parsedOf (sym q) ∙ e ∙ parsing-there))
 
       pub cube-behind : (k : Cube) (m r : ℕ) → p ≡ Line k m r → Behind (cubeLineOf (s .inputs) (s .outputs) c) (lits k) m r
       cube-behind k m r q = told-some (cubeLineOf (s .inputs) (s .outputs) c) (lits k) m r (ap parsedOf (sym q) ∙ e ∙ parsing-there)

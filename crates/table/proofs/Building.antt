@@ -1,7 +1,8 @@
--- A network built output by output: the cubes of each put, absorbed and sorted in their places, those left over emptied, one expression after the other. Assumes nothing.
+-- A network built output by output: the cubes of each put, absorbed and sorted in their places, those left over emptied, one expression
+-- after the other. Assumes nothing.
 use Prim.Native.Nat.{ℕ, zero, suc, _+_, _-_, _<_, _≤_}
 use mathlib.Core.Path.{_≡_, refl, sym, ap, ap₂, _∙_, subst}
-use mathlib.Core.List.{List, [], _∷_, _++_, map, append-assoc, append-nil}
+use mathlib.Core.List.{List, [], _++_, map, append-assoc, append-nil}
 use native.Mathlib.Omega.{arith}
 use lib.ListN.{length, take, drop, set, replicate, length-append, length-map, length-replicate, replicate-append-replicate}
 use Rattle.sets.specs.Lists.{total, from}
@@ -12,10 +13,8 @@ use Rattle.expression.specs.Expression.{sort, absorbed}
 use Rattle.expression.proofs.Absorbing.{absorbed-length}
 use Rattle.expression.proofs.Sorting.{sort-length}
 use Rattle.expression.proofs.Placing.{placed-as, placed-span, placed-over, placed-sort, placed-length, placed-then, placed-blanks}
-use Rattle.network.specs.Held.{mostOutputs}
-use Rattle.network.specs.Handed.{nodeSlots, cubeSlots, LaidNodes, Holds}
+use Rattle.network.specs.Handed.{cubeSlots, LaidNodes, Holds}
 use Rattle.network.proofs.Laying.{laid-next, laid-rest, laid-holds}
-use Rattle.table.specs.Table.{mostRows}
 use Rattle.table.specs.Parts.{pick, Room, formed, Buildable, netFrom}
 
 -- empty cubes put where empty ones stand change nothing
@@ -40,7 +39,8 @@ placed-empty {old} {new} {a} f m c e h p = record {
 
 -- ---- an output filled in
 
-module _ {words marks : List ℕ} {kept j a : ℕ} {old one : List ℕ} {e : ℕ} (r : Room words marks kept j a old) (t : Appends old one a (pick j words marks kept) e) where
+module _ {words marks : List ℕ} {kept j a : ℕ} {old one : List ℕ} {e : ℕ} (r : Room words marks kept j a old)
+    (t : Appends old one a (pick j words marks kept) e) where
   abbrev p : List (List ℕ)
   p = pick j words marks kept
 
@@ -53,7 +53,8 @@ module _ {words marks : List ℕ} {kept j a : ℕ} {old one : List ℕ} {e : ℕ
   one-length : length (cubesOf one) ≡ length (cubesOf old)
   one-length = placed-length (t .placed) (r .fits)
 
-  module _ {two : List ℕ} {k : ℕ} (n : k ≡ length (absorbed (take (e - a) (drop a (cubesOf one))))) (q : Placed one two a (absorbed (take (e - a) (drop a (cubesOf one))))) where
+  module _ {two : List ℕ} {k : ℕ} (n : k ≡ length (absorbed (take (e - a) (drop a (cubesOf one)))))
+      (q : Placed one two a (absorbed (take (e - a) (drop a (cubesOf one))))) where
     part : take (e - a) (drop a (cubesOf one)) ≡ p
     part = placed-span (t .placed) begins (t .next)
 
@@ -80,7 +81,8 @@ module _ {words marks : List ℕ} {kept j a : ℕ} {old one : List ℕ} {e : ℕ
       }
         where
           cleared : Placed three four (a + length (sort (absorbed p))) (replicate (e - (a + k)) [])
-          cleared = subst (λ (z : ℕ). Placed three four (a + z) (replicate (e - (a + k)) [])) (sym size) (placed-blanks (omega (arith, three-length, end-inside)) c)
+          cleared = subst (λ (z : ℕ). Placed three four (a + z) (replicate (e - (a + k)) [])) (sym size)
+              (placed-blanks (omega (arith, three-length, end-inside)) c)
 
           long : length (sort (absorbed p) ++ replicate {A = List ℕ} (e - (a + k)) []) ≡ length p
           long =

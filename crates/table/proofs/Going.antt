@@ -14,7 +14,7 @@ use Rattle.table_rows.specs.Lines.{CubeLine, rowsIn}
 use Rattle.table_rows.specs.Meaning.{LineOf}
 use Rattle.table_rows.proofs.Writing.{line-shaped}
 use Rattle.table.specs.Table.{State, orZero, start}
-use Rattle.table.specs.Meaning.{Bounded, Timely, Goes, blank, inputs, outputs, products, cube, Read, nothing, line}
+use Rattle.table.specs.Meaning.{Bounded, Timely, Goes, blank, inputs, outputs, products, cube, Reads, nothing, line}
 
 pub start-bounded : Bounded start
 start-bounded = record { wide = refl; tall = refl; rows = omega arith; shaped = λ l m. absurd (List·Memᴰ·not-nil m) }
@@ -50,6 +50,6 @@ goes-more (products n k h b) = omega arith
 goes-more {s} (cube n m l k p q e h) = omega (arith, length-append (s .lines) (l ∷ []))
 
 -- what holds after each line holds after them all
-pub read-bounded : {s t : State} {ls : List (List ℕ)} → Read s ls t → Bounded s → Bounded t
+pub read-bounded : {s t : State} {ls : List (List ℕ)} → Reads s ls t → Bounded s → Bounded t
 read-bounded nothing g = g
 read-bounded (line e r) g = read-bounded r (goes-bounded g e)

@@ -3,7 +3,7 @@ use Prim.Native.Nat.{ℕ, _*_, _/_, _<_, _≤_}
 use mathlib.Core.Path.{_≡_, refl, sym, ap, _∙_, subst}
 use mathlib.Core.Bool.{true, false}
 use mathlib.Core.Option.{Option, some}
-use mathlib.Core.List.{List, [], _∷_, map, append-nil, List·Memᴰ·not-nil}
+use mathlib.Core.List.{List, [], map, append-nil, List·Memᴰ·not-nil}
 use native.Mathlib.Nat.{mul-le-mul-left}
 use native.Mathlib.Omega.{arith}
 use lib.ListN.{length, length-map}
@@ -64,7 +64,8 @@ module _ (s : State) (n m : ℕ) (c : Complete s n m) where
         arith,
         ap (total length) nodes-list,
         total-map length (outputFor (s .lines)) (from 0 m),
-        total-le (λ j. length (outputFor (s .lines) j)) (λ j. length (cubesFor j (s .lines))) (from 0 m) (λ j i. omega (arith, sort-length (absorbed (cubesFor j (s .lines))), absorbed-length (cubesFor j (s .lines)))),
+        total-le (λ j. length (outputFor (s .lines) j)) (λ j. length (cubesFor j (s .lines))) (from 0 m)
+            (λ j i. omega (arith, sort-length (absorbed (cubesFor j (s .lines))), absorbed-length (cubesFor j (s .lines)))),
         rows,
       )
 
@@ -75,7 +76,8 @@ module _ (s : State) (n m : ℕ) (c : Complete s n m) where
         arith,
         ap (total literalsOf) nodes-list,
         total-map literalsOf (outputFor (s .lines)) (from 0 m),
-        total-le (λ j. literalsOf (outputFor (s .lines) j)) (λ j. length (cubesFor j (s .lines)) * n) (from 0 m) (λ j i. output-literals n (s .lines) j (λ l i. c .shaped l i .places)),
+        total-le (λ j. literalsOf (outputFor (s .lines) j)) (λ j. length (cubesFor j (s .lines)) * n) (from 0 m)
+            (λ j i. output-literals n (s .lines) j (λ l i. c .shaped l i .places)),
         total-times (λ j. length (cubesFor j (s .lines))) n (from 0 m),
         mul-le-mul-left (total (λ j. length (cubesFor j (s .lines))) (from 0 m)) (c .inputs .1),
         rows,
@@ -98,7 +100,8 @@ module _ (s : State) (n m : ℕ) (c : Complete s n m) where
   through-none (others {e = e} i j d t) = List·Memᴰ·not-nil (subst (λ (l : List Node). e ∈ l) no-divisors i)
 
   reads : (f : List (List ℕ)) → f ∈ (tableNet s) .outputs → (k : List ℕ) → k ∈ f → (x : ℕ) → x ∈ k → x / 2 < n
-  reads f i k j x d = let o = outputs-are s f i in output-reads n (s .lines) (o .0) (λ l e. c .shaped l e .places) k (subst (λ (g : List (List ℕ)). k ∈ g) (o .1) j) x d
+  reads f i k j x d = let o = outputs-are s f i in
+      output-reads n (s .lines) (o .0) (λ l e. c .shaped l e .places) k (subst (λ (g : List (List ℕ)). k ∈ g) (o .1) j) x d
 
   -- the network of an accepted table is by the rules
   pub table-lawful : Lawful (tableNet s)

@@ -61,7 +61,8 @@ module _ {t : table.State} {s : State} {words marks : List ℕ} (h : Stands t s 
   net-same = λ i. record {
     inputs = h .wide i;
     outputs = (ap (λ (m : ℕ). map (formed words marks (s .kept)) (from 0 m)) (h .tall)
-        ∙ map-cong (formed words marks (s .kept)) (outputFor (t .lines)) (from 0 (orZero (t .tall))) (λ j m. ap (λ (f : List (List ℕ)). sort (absorbed f)) (pick-cubes j))) i;
+        ∙ map-cong (formed words marks (s .kept)) (outputFor (t .lines)) (from 0 (orZero (t .tall)))
+        (λ j m. ap (λ (f : List (List ℕ)). sort (absorbed f)) (pick-cubes j))) i;
     divisors = [];
   }
 
@@ -91,11 +92,13 @@ nothing : (l : List ℕ) → total (λ j. 0) l ≡ 0
 nothing [] = refl
 nothing (x ∷ l) = omega (arith, nothing l)
 
-pub rows-exchange : (m : ℕ) (l : List CubeLine) → ((c : CubeLine) → c ∈ l → length (c .marks) ≡ m) → total (λ j. length (cubesFor j l)) (from 0 m) ≡ total rowsIn l
+pub rows-exchange : (m : ℕ) (l : List CubeLine) → ((c : CubeLine) → c ∈ l → length (c .marks) ≡ m)
+    → total (λ j. length (cubesFor j l)) (from 0 m) ≡ total rowsIn l
 rows-exchange m [] h = nothing (from 0 m)
 rows-exchange m (c ∷ l) h =
     total-sum (λ j. length (cubesFor j (c ∷ l))) (λ j. one (has j c)) (λ j. length (cubesFor j l)) (from 0 m) (λ j i. go j (has j c))
-    ∙ ap₂ _+_ (ap (λ (k : ℕ). total (λ j. one (has j c)) (from 0 k)) (sym (h c (here refl))) ∙ marks-total (c .marks)) (rows-exchange m l (λ d i. h d (there i)))
+    ∙ ap₂ _+_ (ap (λ (k : ℕ). total (λ j. one (has j c)) (from 0 k)) (sym (h c (here refl))) ∙ marks-total (c .marks))
+    (rows-exchange m l (λ d i. h d (there i)))
   where
     go : (j : ℕ) (b : Bool) → length (map cubeOf (cond b (c ∷ keep (has j) l) (keep (has j) l))) ≡ one b + length (cubesFor j l)
     go j true = omega arith
@@ -111,7 +114,7 @@ marked-few (c ∷ l) = go (ltb 0 (rowsIn c)) refl (marked-few l)
     go false e h = omega arith
 
 -- the cubes kept of a table that is accepted can be built from
-pub buildable : {t : table.State} {n m : ℕ} {s : State} {words marks : List ℕ} → Complete t n m → Stands t s words marks 
+pub buildable : {t : table.State} {n m : ℕ} {s : State} {words marks : List ℕ} → Complete t n m → Stands t s words marks
     → length (cubesOf words) ≡ mostRows → length marks ≡ mostRows → Buildable words marks (s .kept) (s .outputs)
 buildable {t} {n} {m} {s} {words} {marks} c h p q =
     let k : s .kept ≤ s .rows = omega (arith, h .kept, h .rows, marked-few (t .lines)) in

@@ -1,5 +1,5 @@
 -- The outputs of a table: expressions in cube order over its inputs, on exactly where some row, as written, covers the setting. Assumes nothing.
-use Prim.Native.Nat.{ℕ, zero, suc, _+_, _*_, _/_, _<_, _≤_}
+use Prim.Native.Nat.{ℕ, suc, _+_, _*_, _/_, _<_, _≤_}
 use mathlib.Core.Path.{_≡_, refl, sym, ap, ap₂, _∙_, subst}
 use mathlib.Core.Bool.{Bool, true, false, cond, _&&_, _||_}
 use mathlib.Core.List.{List, [], _∷_, map, List·Memᴰ·head as here, List·Memᴰ·tail as there}
@@ -31,13 +31,17 @@ use Rattle.table.specs.Meaning.{Complete}
 
 -- each is that of a row
 pub cube-row : (j : ℕ) (lines : List CubeLine) (c : List ℕ) → c ∈ cubesFor j lines → (l : CubeLine) × (l ∈ lines) × (c ≡ cubeOf l)
-cube-row j lines c m = let x = map-out cubeOf (keep (λ (l : CubeLine). getD (l .marks) j false) lines) m in (x .0, keep-out (λ (l : CubeLine). getD (l .marks) j false) lines (x .1) .0, x .2)
+cube-row j lines c m = let x = map-out cubeOf (keep (λ (l : CubeLine). getD (l .marks) j false) lines) m in
+    (x .0, keep-out (λ (l : CubeLine). getD (l .marks) j false) lines (x .1) .0, x .2)
 
 pub cubes-are : (j : ℕ) (lines : List CubeLine) → all isCube (cubesFor j lines) ≡ true
-cubes-are j lines = all-in isCube (cubesFor j lines) (λ c m. let r = cube-row j lines c m in subst (λ (z : List ℕ). isCube z ≡ true) (sym (r .2)) (together (asc (cubeOf (r .0))) (proper (cubeOf (r .0))) (from-asc 0 (r .0 .places)) (from-proper 0 (r .0 .places))))
+cubes-are j lines = all-in isCube (cubesFor j lines)
+    (λ c m. let r = cube-row j lines c m in subst (λ (z : List ℕ). isCube z ≡ true) (sym (r .2))
+    (together (asc (cubeOf (r .0))) (proper (cubeOf (r .0))) (from-asc 0 (r .0 .places)) (from-proper 0 (r .0 .places))))
 
 cubes-asc : (j : ℕ) (lines : List CubeLine) → all asc (cubesFor j lines) ≡ true
-cubes-asc j lines = all-in asc (cubesFor j lines) (λ c m. let r = cube-row j lines c m in subst (λ (z : List ℕ). asc z ≡ true) (sym (r .2)) (from-asc 0 (r .0 .places)))
+cubes-asc j lines = all-in asc (cubesFor j lines) (λ c m. let r = cube-row j lines c m in
+    subst (λ (z : List ℕ). asc z ≡ true) (sym (r .2)) (from-asc 0 (r .0 .places)))
 
 -- an output has an expression, its cubes in cube order
 pub output-form : (lines : List CubeLine) (j : ℕ) → (expression (outputFor lines j) ≡ true) × (ordered (outputFor lines j) ≡ true)
@@ -48,7 +52,8 @@ pub output-row : (lines : List CubeLine) (j : ℕ) (c : List ℕ) → c ∈ outp
 output-row lines j c m = cube-row j lines c (absorbed-sub (cubesFor j lines) c (sort-out (absorbed (cubesFor j lines)) m))
 
 -- it reads the inputs only
-pub output-reads : (n : ℕ) (lines : List CubeLine) (j : ℕ) → ((l : CubeLine) → l ∈ lines → length (l .places) ≡ n) → (c : List ℕ) → c ∈ outputFor lines j → (x : ℕ) → x ∈ c → x / 2 < n
+pub output-reads : (n : ℕ) (lines : List CubeLine) (j : ℕ) → ((l : CubeLine) → l ∈ lines → length (l .places) ≡ n) → (c : List ℕ) → c ∈ outputFor lines j
+    → (x : ℕ) → x ∈ c → x / 2 < n
 output-reads n lines j h c m x i =
     let r = output-row lines j c m in
     let b = from-bounds 0 (r .0 .places) (subst (λ (z : List ℕ). x ∈ z) (r .2) i) in
@@ -71,7 +76,8 @@ total-most [] k h = omega arith
 total-most (c ∷ f) k h = omega (arith, h c (here refl), total-most f k (λ d m. h d (there m)), suc-mul (length f) k)
 
 -- the literals of an output
-pub output-literals : (n : ℕ) (lines : List CubeLine) (j : ℕ) → ((l : CubeLine) → l ∈ lines → length (l .places) ≡ n) → literalsOf (outputFor lines j) ≤ length (cubesFor j lines) * n
+pub output-literals : (n : ℕ) (lines : List CubeLine) (j : ℕ) → ((l : CubeLine) → l ∈ lines → length (l .places) ≡ n)
+    → literalsOf (outputFor lines j) ≤ length (cubesFor j lines) * n
 output-literals n lines j h =
     omega (
       arith,
@@ -86,7 +92,8 @@ any-kept : {A B : Type 0} (g : A → B) (p : A → Bool) (q : B → Bool) (l : L
 any-kept g p q [] = refl
 any-kept g p q (x ∷ l) = go (p x) (any-kept g p q l)
   where
-    go : (b : Bool) → any q (map g (keep p l)) ≡ any (λ y. p y && q (g y)) l → any q (map g (cond b (x ∷ keep p l) (keep p l))) ≡ ((b && q (g x)) || any (λ y. p y && q (g y)) l)
+    go : (b : Bool) → any q (map g (keep p l)) ≡ any (λ y. p y && q (g y)) l
+        → any q (map g (cond b (x ∷ keep p l) (keep p l))) ≡ ((b && q (g x)) || any (λ y. p y && q (g y)) l)
     go true e = ap (q (g x) ||_) e
     go false e = e
 
@@ -97,7 +104,9 @@ output-value n m lines j h a =
     value-sort (lit a) (absorbed (cubesFor j lines))
     ∙ absorbed-value (lit a) (cubesFor j lines) (cubes-asc j lines)
     ∙ any-kept cubeOf (λ (l : CubeLine). getD (l .marks) j false) (all (lit a)) lines
-    ∙ any-cong (λ (l : CubeLine). getD (l .marks) j false && all (lit a) (cubeOf l)) (λ (l : CubeLine). getD (l .marks) j false && covers a 0 (l .places)) lines (λ l i. ap (getD (l .marks) j false &&_) (covers-value a 0 (l .places) (h l i .bytes)))
+    ∙ any-cong (λ (l : CubeLine). getD (l .marks) j false && all (lit a) (cubeOf l))
+    (λ (l : CubeLine). getD (l .marks) j false && covers a 0 (l .places)) lines
+    (λ l i. ap (getD (l .marks) j false &&_) (covers-value a 0 (l .places) (h l i .bytes)))
 
 -- ---- the network
 
@@ -124,4 +133,5 @@ outputs-are s f m = let x = map-out (outputFor (s .lines)) (from 0 (orZero (s .t
 
 -- they stand in cube order
 pub outputs-ordered : (s : State) (f : List (List ℕ)) → f ∈ (tableNet s) .outputs → (expression f ≡ true) × (ordered f ≡ true)
-outputs-ordered s f m = let x = outputs-are s f m in subst (λ (g : List (List ℕ)). (expression g ≡ true) × (ordered g ≡ true)) (sym (x .1)) (output-form (s .lines) (x .0))
+outputs-ordered s f m = let x = outputs-are s f m in
+    subst (λ (g : List (List ℕ)). (expression g ≡ true) × (ordered g ≡ true)) (sym (x .1)) (output-form (s .lines) (x .0))

@@ -9,7 +9,7 @@ use lib.ListN.{length, getD, take, length-append}
 use Rattle.sets.specs.Masks.{bit}
 use Rattle.expression.specs.Words.{cubesOf, Put, Appends}
 use Rattle.expression.proofs.Placing.{appends-none, appends-as, appends-put}
-use Rattle.table.specs.Parts.{picked, pick, Source}
+use Rattle.table.specs.Parts.{picked, pick, Stock}
 
 onto : (b : Bool) (c : List ℕ) (f g : List (List ℕ)) → cond b (c ∷ (f ++ g)) (f ++ g) ≡ cond b (c ∷ f) f ++ g
 onto true c f g = refl
@@ -22,10 +22,11 @@ module _ (j : ℕ) where
   next [] ms i h k = absurd (omega arith)
   next (c ∷ f) [] i h k = absurd (omega arith)
   next (c ∷ f) (m ∷ ms) zero h k = refl
-  next (c ∷ f) (m ∷ ms) (suc i) h k = rw (next f ms i (omega arith) (omega arith)) (onto (bit m j) c (picked j (take i f) (take i ms)) (cond (bit (getD ms i 0) j) (getD f i [] ∷ []) []))
+  next (c ∷ f) (m ∷ ms) (suc i) h k = rw (next f ms i (omega arith) (omega arith))
+      (onto (bit m j) c (picked j (take i f) (take i ms)) (cond (bit (getD ms i 0) j) (getD f i [] ∷ []) []))
 
   -- one more place
-  pub picked-next : (f : List (List ℕ)) (ms : List ℕ) (i : ℕ) → i < length f → i < length ms
+  picked-next : (f : List (List ℕ)) (ms : List ℕ) (i : ℕ) → i < length f → i < length ms
       → picked j (take (i + 1) f) (take (i + 1) ms) ≡ picked j (take i f) (take i ms) ++ cond (bit (getD ms i 0) j) (getD f i [] ∷ []) []
   picked-next f ms i h k = rw add-one (next f ms i h k)
 
@@ -39,13 +40,14 @@ module _ (j : ℕ) where
   picked-fewer (c ∷ f) (m ∷ ms) (suc i) (suc k) h = go (bit m j) (picked-fewer f ms i k (omega arith))
     where
       go : (b : Bool) → length (picked j (take i f) (take i ms)) ≤ length (picked j (take k f) (take k ms))
-          → length (cond b (c ∷ picked j (take i f) (take i ms)) (picked j (take i f) (take i ms))) ≤ length (cond b (c ∷ picked j (take k f) (take k ms)) (picked j (take k f) (take k ms)))
+          → length (cond b (c ∷ picked j (take i f) (take i ms)) (picked j (take i f) (take i ms))) ≤ length
+          (cond b (c ∷ picked j (take k f) (take k ms)) (picked j (take k f) (take k ms)))
       go true e = omega arith
       go false e = e
 
 -- ---- the cubes picked, put one after the other
 
-module _ (j : ℕ) {words marks : List ℕ} {kept : ℕ} (o : Source words marks kept) where
+module _ (j : ℕ) {words marks : List ℕ} {kept : ℕ} (o : Stock words marks kept) where
   pub pick-none : (ws : List ℕ) (a : ℕ) → Appends ws ws a (pick j words marks 0) a
   unfolding picked
   pick-none ws a = appends-none ws a

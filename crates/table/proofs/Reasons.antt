@@ -21,7 +21,8 @@ use Rattle.table_kinds.specs.declared.Kind.the-variants.{Empty, Inputs, Outputs
 use Rattle.table.specs.Table.{State, Turn, next, done, refuse, inTime, missing, rightCount, numberLine, setWide, setTall, setStated}
 use Rattle.table.specs.Table.{withLine, finish, addLine, cubeLine, byKind, readLine, mostProducts, mostRows}
 use Rattle.table.specs.Meaning.{Timely, Goes, blank, inputs, outputs, products, cube, Late, Early, Closes, isLine, Does, goes, closes, refuses}
-use Rattle.table.specs.Meaning.{Refuses, lateInputs, lateOutputs, lateProducts, earlyEnd, earlyCube, noKind, outInputs, outOutputs, outProducts, differs, over}
+use Rattle.table.specs.Meaning.{Refuses, lateInputs, lateOutputs, lateProducts, earlyEnd, earlyCube, noKind, outInputs, outOutputs, outProducts}
+use Rattle.table.specs.Meaning.{differs, over}
 
 -- ---- in time or late, in range or out of it
 

@@ -14,9 +14,9 @@ use Rattle.sets.proofs.Truth.{both, clash}
 use Rattle.network.specs.Held.{mostInputs, mostOutputs}
 use Rattle.table_lines.specs.Text.{linesOf, content}
 use Rattle.table.specs.Table.{State, start, Turn, next, done, refuse, missing, readLine, Outcome, accepted, refused, refusedAt}
-use Rattle.table.specs.Table.{readLines, readText, orZero, mostBytes}
+use Rattle.table.specs.Table.{readLines, readText, mostBytes}
 use Rattle.table.specs.Meaning.{within, Bounded, isLine, Complete, Goes, Closes, Does, goes, closes, refuses}
-use Rattle.table.specs.Meaning.{Read, nothing, line, Ended, whole, stopped, short}
+use Rattle.table.specs.Meaning.{Reads, nothing, line, Ended, whole, stopped, short}
 use Rattle.table.specs.declared.Refusal.{Refusal}
 use Rattle.table.proofs.Going.{start-bounded, read-bounded}
 use Rattle.table.proofs.Reasons.{line-does, next-iff, done-iff, refuse-iff, refuses-line}
@@ -65,7 +65,7 @@ lines-ended k (l ∷ ls) s = go (readLine l s) refl (line-does l s) (λ t. lines
         (subst (λ (z : ℕ). Ended k s (l ∷ ls) (refusedAt r z)) c (stopped [] l ls nothing d))
 
 -- and there is no other outcome
-reads-on : (k : ℕ) {s t : State} (ls ms : List (List ℕ)) → Read s ls t → readLines k (ls ++ ms) s ≡ readLines (k + length ls) ms t
+reads-on : (k : ℕ) {s t : State} (ls ms : List (List ℕ)) → Reads s ls t → readLines k (ls ++ ms) s ≡ readLines (k + length ls) ms t
 reads-on k ls ms nothing = let e : k + 0 ≡ k = omega arith in rw e
 reads-on k (l ∷ ls) ms (line {s = s} {t = t} {u = u} g r) = let c : suc k + length ls ≡ k + length (l ∷ ls) = omega arith in
     lines-on k l (ls ++ ms) s ((next-iff l s t) .1 g) ∙ reads-on (suc k) ls ms r ∙ ap (λ (z : ℕ). readLines z ms u) c
@@ -167,7 +167,8 @@ known-refused : {k : ℕ} {ls : List (List ℕ)} {o : Outcome} → Known k ls o 
     → ((q .number ≡ 5) × (q .line ≡ 0)) ⊎ ((isLine (q .number) ≡ true) × (k ≤ q .line) × (q .line < k + length ls))
 known-refused (good s) q e = let z : _≡_ {A = ℕ} 0 1 = cc in absurd (omega arith)
 known-refused {k} {ls} (bad r n i a b) q e =
-    subst (λ (z : Refusal). ((z .number ≡ 5) × (z .line ≡ 0)) ⊎ ((isLine (z .number) ≡ true) × (k ≤ z .line) × (z .line < k + length ls))) (refused-inj e) (inr (i, a, b))
+    subst (λ (z : Refusal). ((z .number ≡ 5) × (z .line ≡ 0)) ⊎ ((isLine (z .number) ≡ true) × (k ≤ z .line) × (z .line < k + length ls))) (refused-inj e)
+    (inr (i, a, b))
 known-refused five q e = let w = refused-inj e in inl (sym (ap (λ (z : Refusal). z .number) w), sym (ap (λ (z : Refusal). z .line) w))
 
 -- 1 and 5 report line 0, the others their line, from 1 to the last of a text that is not too long

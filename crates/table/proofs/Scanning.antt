@@ -71,7 +71,8 @@ module _ (text : List ℕ) (at : ℕ) where
         let p = take (e - at) rest in
         let s = contentSpan p in
         let k : (at + z .end) - (at + z .start) ≡ s .end - s .start = omega (arith, ap (λ (x : Span). x .start) w, ap (λ (x : Span). x .end) w) in
-        ap₂ take k (ap (λ (x : Span). drop (at + x .start) text) w ∙ sym (drop-drop (s .start) at text) ∙ ap (drop (s .start)) (sym (take-append-drop (e - at) rest)))
+        ap₂ take k (ap (λ (x : Span). drop (at + x .start) text) w ∙ sym (drop-drop (s .start) at text)
+        ∙ ap (drop (s .start)) (sym (take-append-drop (e - at) rest)))
         ∙ part-front p (drop (e - at) rest) (s .start) (s .end) (omega arith) (span-inside p)
         ∙ span-content p
 
@@ -88,7 +89,8 @@ module _ (text : List ℕ) (at : ℕ) where
       go (equal l _ _) =
           let n : length (lineOf rest) ≡ length rest = omega (arith, length-drop at text) in
           let w : lineOf rest ≡ rest = line-take rest ∙ ap (λ (k : ℕ). take k rest) n ∙ take-length rest in
-          lines-last rest n ∙ ap₂ (λ (x : List ℕ) (z : List (List ℕ)). x ∷ z) (sym w) (sym (ap (λ (b : Bool). cond b (linesOf (drop (e + 1) text)) []) (lt-leb (e + 1) (length text) (omega arith))))
+          lines-last rest n ∙ ap₂ (λ (x : List ℕ) (z : List (List ℕ)). x ∷ z) (sym w)
+          (sym (ap (λ (b : Bool). cond b (linesOf (drop (e + 1) text)) []) (lt-leb (e + 1) (length text) (omega arith))))
       go (beyond l _ _) = absurd (omega (arith, stop-le h))
 
 from-first : (text : List ℕ) → linesFrom text 0 ≡ linesOf text
@@ -123,20 +125,24 @@ module _ {text words marks : List ℕ} {s : State} {line at : ℕ} (r : Reading 
   }
 
   -- no line is left
-  pub reading-over : length text < at → Scans (readLines 1 (linesOf text) start) (record { answer = answer.Refused (record { number = 5; line = 0 }); state = s }) words marks
+  pub reading-over : length text < at → Scans (readLines 1 (linesOf text) start)
+      (record { answer = answer.Refused (record { number = 5; line = 0 }); state = s }) words marks
   reading-over h =
-      let e : readLines 1 (linesOf text) start ≡ table.refusedAt 5 0 = sym (r .left) ∙ ap (λ (l : List (List ℕ)). readLines line l (r .now)) (from-over text at h) ∙ lines-end line (r .now) in
+      let e : readLines 1 (linesOf text) start ≡ table.refusedAt 5 0 =
+      sym (r .left) ∙ ap (λ (l : List (List ℕ)). readLines line l (r .now)) (from-over text at h) ∙ lines-end line (r .now) in
       subst (λ (o : table.Outcome). Scans o (record { answer = answer.Refused (record { number = 5; line = 0 }); state = s }) words marks) (sym e) refl
 
   abbrev here : List ℕ
   here = lineOf (drop at text)
 
   -- the next line
-  module _ {c : List ℕ} (words' marks' : List ℕ) {e : ℕ} (p : Turn) (h : at ≤ length text) (q : e ≡ at + length (lineOf (drop at text))) (k : c ≡ content (take (e - at) (drop at text)))
+  module _ {c : List ℕ} (words' marks' : List ℕ) {e : ℕ} (p : Turn) (h : at ≤ length text) (q : e ≡ at + length (lineOf (drop at text)))
+      (k : c ≡ content (take (e - at) (drop at text)))
       (f : Leaves (byKind (kindOf c) c) s p words marks words' marks') where
     turned : LineTurned (readLine here (r .now)) p words' marks'
     unfolding readLine
-    turned = subst (λ (l : List ℕ). LineTurned (byKind (kindOf l) l (r .now)) p words' marks') (k ∙ ap content (line-part text at h e q)) (f (r .now) (r .good) (r .stands))
+    turned = subst (λ (l : List ℕ). LineTurned (byKind (kindOf l) l (r .now)) p words' marks') (k ∙ ap content (line-part text at h e q))
+        (f (r .now) (r .good) (r .stands))
 
     turned-as : {z : Turn} → p ≡ z → LineTurned (readLine here (r .now)) z words' marks'
     turned-as i = subst (λ (z : Turn). LineTurned (readLine here (r .now)) z words' marks') i turned
@@ -161,20 +167,26 @@ module _ {text words marks : List ℕ} {s : State} {line at : ℕ} (r : Reading 
     reading-done : (s' : State) → p ≡ Done s' → Scans (readLines 1 (linesOf text) start) (record { answer = answer.Read; state = s' }) words' marks'
     reading-done s' i = go (readLine here (r .now)) refl (turned-as i)
       where
-        go : (x : table.Turn) → readLine here (r .now) ≡ x → LineTurned x (Done s') words' marks' → Scans (readLines 1 (linesOf text) start) (record { answer = answer.Read; state = s' }) words' marks'
+        go : (x : table.Turn) → readLine here (r .now) ≡ x → LineTurned x (Done s') words' marks'
+            → Scans (readLines 1 (linesOf text) start) (record { answer = answer.Read; state = s' }) words' marks'
         go (table.next t) y z = absurd z
         go (table.done t) y z =
-            subst (λ (o : table.Outcome). Scans o (record { answer = answer.Read; state = s' }) words' marks') (sym (lines-done line here (linesFrom text (e + 1)) (r .now) y) ∙ whole) (refl, z)
+            subst (λ (o : table.Outcome). Scans o (record { answer = answer.Read; state = s' }) words' marks')
+            (sym (lines-done line here (linesFrom text (e + 1)) (r .now) y) ∙ whole) (refl, z)
         go (table.refuse n) y z = absurd z
 
-    reading-refuse : (n : ℕ) → p ≡ Refused n → Scans (readLines 1 (linesOf text) start) (record { answer = answer.Refused (record { number = n; line = line }); state = s }) words' marks'
+    reading-refuse : (n : ℕ) → p ≡ Refused n → Scans (readLines 1 (linesOf text) start)
+        (record { answer = answer.Refused (record { number = n; line = line }); state = s }) words' marks'
     reading-refuse n i = go (readLine here (r .now)) refl (turned-as i)
       where
-        go : (x : table.Turn) → readLine here (r .now) ≡ x → LineTurned x (Refused n) words' marks' → Scans (readLines 1 (linesOf text) start) (record { answer = answer.Refused (record { number = n; line = line }); state = s }) words' marks'
+        go : (x : table.Turn) → readLine here (r .now) ≡ x → LineTurned x (Refused n) words' marks'
+            → Scans (readLines 1 (linesOf text) start) (record { answer = answer.Refused (record { number = n; line = line }); state = s }) words' marks'
         go (table.next t) y z = absurd z
         go (table.done t) y z = absurd z
         go (table.refuse m) y z =
-            subst (λ (o : table.Outcome). Scans o (record { answer = answer.Refused (record { number = n; line = line }); state = s }) words' marks') (sym (lines-refuse line here (linesFrom text (e + 1)) (r .now) y) ∙ whole) (ap (λ (v : ℕ). answer.Refused (record { number = v; line = line })) z)
+            subst (λ (o : table.Outcome). Scans o (record { answer = answer.Refused (record { number = n; line = line }); state = s }) words' marks')
+            (sym (lines-refuse line here (linesFrom text (e + 1)) (r .now) y) ∙ whole)
+            (ap (λ (v : ℕ). answer.Refused (record { number = v; line = line })) z)
 
     -- a line that does not go on gives the outcome
     pub reading-stop : ((s' : State) → p ≡ Next s' → ⊥) → Scans (readLines 1 (linesOf text) start) (stoppedAt p line s) words' marks'

@@ -1,25 +1,25 @@
 -- What was read of an accepted text is what is written in it: each line adds what it says, and what all say is found in their order. Assumes nothing.
-use Prim.Native.Nat.{ℕ, _<_, _≤_}
+use Prim.Native.Nat.{ℕ, _≤_}
 use mathlib.Core.Path.{_≡_, refl, sym, ap, _∙_, subst}
-use mathlib.Core.Bool.{Bool, true, false, cond}
+use mathlib.Core.Bool.{Bool, true, false}
 use mathlib.Core.List.{List, [], _∷_, _++_, append-nil, append-assoc}
 use mathlib.Core.Option.{Option, none, some}
 use native.Mathlib.Omega.{arith}
 use lib.Dec.{ltb}
 use lib.ListN.{length, getD}
 use borrow.Author.Tests.{ltb-true, ltb-false}
-use Rattle.table_lines.specs.Text.{linesOf, content}
+use Rattle.table_lines.specs.Text.{content}
 use Rattle.table_kinds.specs.Kinds.{kindOf}
 use Rattle.table_kinds.specs.Meaning.{Known, empty, inputs, outputs, products, shortEnd, longEnd, OfKind, known, other}
 use Rattle.table_kinds.specs.declared.Kind.{Kind}
-use Rattle.table_kinds.specs.declared.Kind.the-variants.{Empty, Inputs, Outputs, Products, End, Other}
+use Rattle.table_kinds.specs.declared.Kind.the-variants.{End, Other}
 use Rattle.table_kinds.proofs.Kinding.{kind-iff}
-use Rattle.table_rows.specs.Lines.{CubeLine, isPlace, cubeLineOf}
+use Rattle.table_rows.specs.Lines.{isPlace, cubeLineOf}
 use Rattle.table_rows.proofs.Writing.{line-none}
-use Rattle.table.specs.Table.{State, start, Outcome, accepted, refusedAt, readText, mostBytes}
+use Rattle.table.specs.Table.{State, start, Outcome, accepted, readText, mostBytes}
 use Rattle.table.specs.Written.{isEnd, beforeEnd, linesRead, listed, found, inputsNumber, outputsNumber, productsNumber}
-use Rattle.table.specs.Written.{inputsIn, outputsIn, productsIn, inputsOf, outputsOf, cubeLinesOf}
-use Rattle.table.specs.Meaning.{Complete, Goes, blank, Read, nothing, line, Closes, Ended, whole, stopped, short, Says}
+use Rattle.table.specs.Written.{inputsIn, outputsIn, inputsOf, outputsOf}
+use Rattle.table.specs.Meaning.{Goes, blank, Reads, nothing, line, Ended, whole, stopped, short, Says}
 use Rattle.table.specs.Meaning as goes
 use Rattle.table.proofs.Refusals.{text-long, text-ended, accepted-complete}
 
@@ -50,8 +50,8 @@ no-line n m c {k} e f h = go ((kind-iff c k) .0 e) f
 
 -- where each line adds what f finds in it, all add what f finds in them
 module _ {A : Type 0} (view : State → List A) (f : List ℕ → Option A) where
-  read-found : {s t : State} {ls : List (List ℕ)} → Read s ls t
-      → ((u v : State) (c : List ℕ) (ms : List (List ℕ)) → Goes u c v → Read v ms t → view v ≡ view u ++ listed (f c)) → view t ≡ view s ++ found f ls
+  read-found : {s t : State} {ls : List (List ℕ)} → Reads s ls t
+      → ((u v : State) (c : List ℕ) (ms : List (List ℕ)) → Goes u c v → Reads v ms t → view v ≡ view u ++ listed (f c)) → view t ≡ view s ++ found f ls
   unfolding found
   read-found {s} nothing one = sym (append-nil (view s))
   read-found {s} (line {t = v} {l = l} {ls = ls} g r) one =
@@ -89,7 +89,7 @@ module _ {s : State} {c : List ℕ} where
   goes-on (goes.products n k h b) = rw k
   goes-on (goes.cube n m l k p q e h) = rw k
 
-module _ {s t : State} {ls : List (List ℕ)} (r : Read s ls t) where
+module _ {s t : State} {ls : List (List ℕ)} (r : Reads s ls t) where
   read-wide : listed (t .wide) ≡ listed (s .wide) ++ found (λ c. inputsNumber (kindOf c)) ls
   read-wide = read-found (λ (u : State). listed (u .wide)) (λ c. inputsNumber (kindOf c)) r (λ u v c ms g m. goes-wide g)
 
@@ -104,13 +104,13 @@ stays : {o p : Option ℕ} {n k : ℕ} (l : List ℕ) → listed o ≡ listed p 
 stays {n = n} {k = k} l e p q = let w : n ∷ [] ≡ k ∷ l = ap listed (sym q) ∙ e ∙ ap (λ (x : Option ℕ). listed x ++ l) p in cc
 
 module _ (n m : ℕ) (t : State) (wide : t .wide ≡ some n) (tall : t .tall ≡ some m) (one : 1 ≤ n) where
-  goes-lines : {s u : State} {c : List ℕ} {ls : List (List ℕ)} → Goes s c u → Read u ls t → u .lines ≡ s .lines ++ listed (cubeLineOf n m c)
+  goes-lines : {s u : State} {c : List ℕ} {ls : List (List ℕ)} → Goes s c u → Reads u ls t → u .lines ≡ s .lines ++ listed (cubeLineOf n m c)
   goes-lines {s} {c = c} g r = go g r
     where
       unchanged : {k : Kind} → kindOf c ≡ k → (k ≡ Other → ⊥) → s .lines ≡ s .lines ++ listed (cubeLineOf n m c)
       unchanged e f = rw (no-line n m c e f one) (sym (append-nil (s .lines)))
 
-      go : {u : State} {ls : List (List ℕ)} → Goes s c u → Read u ls t → u .lines ≡ s .lines ++ listed (cubeLineOf n m c)
+      go : {u : State} {ls : List (List ℕ)} → Goes s c u → Reads u ls t → u .lines ≡ s .lines ++ listed (cubeLineOf n m c)
       go (blank k) r = unchanged k (λ e. let z : _≡_ {A = ℕ} 0 1 = cc in omega arith)
       go (goes.inputs j k h a b) r = unchanged k (λ e. let z : _≡_ {A = ℕ} 0 1 = cc in omega arith)
       go (goes.outputs j k h a b) r = unchanged k (λ e. let z : _≡_ {A = ℕ} 0 1 = cc in omega arith)
@@ -121,11 +121,12 @@ module _ (n m : ℕ) (t : State) (wide : t .wide ≡ some n) (tall : t .tall ≡
           let z : cubeLineOf n m c ≡ some l = subst (λ (d : ℕ). cubeLineOf n d c ≡ some l) y (subst (λ (d : ℕ). cubeLineOf d j c ≡ some l) x e) in
           rw z
 
-  read-lines-in : {s : State} {ls : List (List ℕ)} → Read s ls t → t .lines ≡ s .lines ++ found (cubeLineOf n m) ls
+  read-lines-in : {s : State} {ls : List (List ℕ)} → Reads s ls t → t .lines ≡ s .lines ++ found (cubeLineOf n m) ls
   read-lines-in r = read-found (λ (u : State). u .lines) (cubeLineOf n m) r (λ u v c ms g w. goes-lines g w)
 
 -- the lines read are those before `.e`
-read-before : {s t : State} {ls : List (List ℕ)} (l : List ℕ) (rest : List (List ℕ)) → Read s ls t → kindOf (content l) ≡ End → beforeEnd (ls ++ (l ∷ rest)) ≡ ls
+read-before : {s t : State} {ls : List (List ℕ)} (l : List ℕ) (rest : List (List ℕ)) → Reads s ls t → kindOf (content l) ≡ End
+    → beforeEnd (ls ++ (l ∷ rest)) ≡ ls
 unfolding beforeEnd
 read-before l rest nothing e = rw e
 read-before l rest (line {l = x} g r) e = rw (goes-on g) (ap (λ (z : List (List ℕ)). x ∷ z) (read-before l rest r e))
@@ -133,16 +134,17 @@ read-before l rest (line {l = x} g r) e = rw (goes-on g) (ap (λ (z : List (List
 -- ---- a whole text
 
 -- of an accepted text the lines before `.e` were read, from nothing on
-ended-accepted : {ls : List (List ℕ)} {o : Outcome} → Ended 1 start ls o → (s : State) → o ≡ accepted s → Read start (beforeEnd ls) s
+ended-accepted : {ls : List (List ℕ)} {o : Outcome} → Ended 1 start ls o → (s : State) → o ≡ accepted s → Reads start (beforeEnd ls) s
 ended-accepted (whole a l b {t = u} r d) s e =
-    let q : u ≡ s = cc in subst (Read start (beforeEnd (a ++ (l ∷ b)))) q (subst (λ (z : List (List ℕ)). Read start z u) (sym (read-before l b r (d .kind))) r)
+    let q : u ≡ s = cc in subst (Reads start (beforeEnd (a ++ (l ∷ b)))) q
+    (subst (λ (z : List (List ℕ)). Reads start z u) (sym (read-before l b r (d .kind))) r)
 ended-accepted (stopped a l b r d) s e = let z : _≡_ {A = ℕ} 0 1 = cc in absurd (omega arith)
 ended-accepted (short a r) s e = let z : _≡_ {A = ℕ} 0 1 = cc in absurd (omega arith)
 
-accepted-read : (t : List ℕ) (s : State) → readText t ≡ accepted s → Read start (linesRead t) s
+accepted-read : (t : List ℕ) (s : State) → readText t ≡ accepted s → Reads start (linesRead t) s
 accepted-read t s e = go (ltb mostBytes (length t)) refl
   where
-    go : (b : Bool) → ltb mostBytes (length t) ≡ b → Read start (linesRead t) s
+    go : (b : Bool) → ltb mostBytes (length t) ≡ b → Reads start (linesRead t) s
     go true h = let q = text-long t (ltb-true mostBytes (length t) h) in let z : _≡_ {A = ℕ} 0 1 = cc in absurd (omega arith)
     go false h = ended-accepted (text-ended t (ltb-false mostBytes (length t) h)) s e
 

@@ -110,18 +110,18 @@ pub data Does (s : State) (c : List ℕ) : Turn → Type 0 where
   refuses : {r : ℕ} → Refuses s c r → Does s c (refuse r)
 
 -- lines read in turn from s to t, none of which is the last or refused
-pub data Read : State → List (List ℕ) → State → Type 0 where
-  nothing : {s : State} → Read s [] s
-  line : {s t u : State} {l : List ℕ} {ls : List (List ℕ)} → Goes s (content l) t → Read t ls u → Read s (l ∷ ls) u
+pub data Reads : State → List (List ℕ) → State → Type 0 where
+  nothing : {s : State} → Reads s [] s
+  line : {s t u : State} {l : List ℕ} {ls : List (List ℕ)} → Goes s (content l) t → Reads t ls u → Reads s (l ∷ ls) u
 
 -- ---- the outcome of lines from number k on: accepted at the line that ends the table, refused at a line, or by 5 where none is left
 
 pub data Ended (k : ℕ) (s : State) : List (List ℕ) → Outcome → Type 0 where
   whole : (ls : List (List ℕ)) (l : List ℕ) (rest : List (List ℕ)) {t : State}
-      → Read s ls t → Closes t (content l) → Ended k s (ls ++ (l ∷ rest)) (accepted t)
+      → Reads s ls t → Closes t (content l) → Ended k s (ls ++ (l ∷ rest)) (accepted t)
   stopped : (ls : List (List ℕ)) (l : List ℕ) (rest : List (List ℕ)) {t : State} {r : ℕ}
-      → Read s ls t → Refuses t (content l) r → Ended k s (ls ++ (l ∷ rest)) (refusedAt r (k + length ls))
-  short : (ls : List (List ℕ)) {t : State} → Read s ls t → Ended k s ls (refusedAt 5 0)
+      → Reads s ls t → Refuses t (content l) r → Ended k s (ls ++ (l ∷ rest)) (refusedAt r (k + length ls))
+  short : (ls : List (List ℕ)) {t : State} → Reads s ls t → Ended k s ls (refusedAt 5 0)
 
 -- ---- what was read is what is written: `.i` and `.o` once each, `.p` at most once, and the cube lines in their order
 

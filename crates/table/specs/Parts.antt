@@ -126,13 +126,13 @@ abbrev pub pick : ℕ → List ℕ → List ℕ → ℕ → List (List ℕ)
 pick j words marks kept = picked j (take kept (cubesOf words)) (take kept marks)
 
 -- there are so many cubes and masks
-pub record Source (words marks : List ℕ) (kept : ℕ) : Type 0 where
+pub record Stock (words marks : List ℕ) (kept : ℕ) : Type 0 where
   pub cubes : kept ≤ length (cubesOf words)
   pub masks : kept ≤ length marks
 
 -- there is room for the cubes of output j from place a on, where all cubes are empty
 pub record Room (words marks : List ℕ) (kept j a : ℕ) (out : List ℕ) : Type 0 where
-  pub source : Source words marks kept
+  pub source : Stock words marks kept
   pub mark : j < mostOutputs
   pub fits : a + length (pick j words marks kept) ≤ length (cubesOf out)
   pub empty : drop a (cubesOf out) ≡ replicate (length (cubesOf out) - a) []
@@ -143,7 +143,7 @@ formed words marks kept j = sort (absorbed (pick j words marks kept))
 
 -- there are cubes and masks, few enough outputs, and few enough cubes for them all
 pub record Buildable (words marks : List ℕ) (kept m : ℕ) : Type 0 where
-  pub source : Source words marks kept
+  pub source : Stock words marks kept
   pub outputs : m ≤ mostOutputs
   pub few : total (λ j. length (pick j words marks kept)) (from 0 m) ≤ mostRows
 

@@ -14,27 +14,27 @@ use Rattle.sets.specs.Sets.{same}
 use Rattle.sets.proofs.Truth.{both}
 use Rattle.sets.proofs.Sets.{same-eq}
 use Rattle.letters.specs.Meaning.{readBack, isDigit}
-use Rattle.table_lines.specs.Text.{isBlank, startsBlank, Blanks, trimFront}
+use Rattle.table_lines.specs.Text.{isBlank, startsBlank, trimFront}
 use Rattle.table_lines.proofs.Blanks.{gap-out, gap-in}
 use Rattle.table_kinds.specs.Kinds.{mostDigits, numberOf, argument, withNumber, named, kindOf}
-use Rattle.table_kinds.specs.Meaning.{Digits, Names, Known, empty, inputs, outputs, products, shortEnd, longEnd, OfKind, known, other}
+use Rattle.table_kinds.specs.Meaning.{Numeral, Names, Known, empty, inputs, outputs, products, shortEnd, longEnd, OfKind, known, other}
 use Rattle.table_kinds.specs.declared.Kind.{Kind}
-use Rattle.table_kinds.specs.declared.Kind.the-variants.{Empty, Inputs, Outputs, Products, End, Other}
+use Rattle.table_kinds.specs.declared.Kind.the-variants.{Inputs, Outputs, Products, End, Other}
 
 -- ---- a number
 
-number-out : (d : List ℕ) (n : ℕ) → numberOf d ≡ some n → Digits d n
+number-out : (d : List ℕ) (n : ℕ) → numberOf d ≡ some n → Numeral d n
 unfolding numberOf
 number-out d n e = go (leb 1 (length d) && (leb (length d) mostDigits && all isDigit d)) refl e
   where
-    go : (b : Bool) → (leb 1 (length d) && (leb (length d) mostDigits && all isDigit d)) ≡ b → cond b (some (readBack 0 d)) none ≡ some n → Digits d n
+    go : (b : Bool) → (leb 1 (length d) && (leb (length d) mostDigits && all isDigit d)) ≡ b → cond b (some (readBack 0 d)) none ≡ some n → Numeral d n
     go true h q =
         let x = both (leb 1 (length d)) (leb (length d) mostDigits && all isDigit d) h in
         let y = both (leb (length d) mostDigits) (all isDigit d) (x .1) in
         record { one = leb-true 1 (length d) (x .0); few = leb-true (length d) mostDigits (y .0); each = y .1; value = cc }
     go false h q = let z : _≡_ {A = ℕ} 0 1 = cc in absurd (omega arith)
 
-number-in : {d : List ℕ} {n : ℕ} → Digits d n → numberOf d ≡ some n
+number-in : {d : List ℕ} {n : ℕ} → Numeral d n → numberOf d ≡ some n
 unfolding numberOf
 number-in {d} h = rw (le-leb 1 (length d) (h .one), le-leb (length d) mostDigits (h .few), h .each) (ap some (h .value))
 

@@ -30,7 +30,8 @@ withNumber k (some n) = k n
 -- `.i`, `.o` or `.p` and a number
 unfoldable pub named : List ℕ → Kind
 named c = let f = take 2 c in let a = argument (drop 2 c) in
-    cond (same f (46 ∷ 105 ∷ [])) (withNumber Inputs a) (cond (same f (46 ∷ 111 ∷ [])) (withNumber Outputs a) (cond (same f (46 ∷ 112 ∷ [])) (withNumber Products a) Other))
+    cond (same f (46 ∷ 105 ∷ [])) (withNumber Inputs a)
+    (cond (same f (46 ∷ 111 ∷ [])) (withNumber Outputs a) (cond (same f (46 ∷ 112 ∷ [])) (withNumber Products a) Other))
 
 -- empty; `.e` or `.end`; a named number; or another
 unfoldable pub kindOf : List ℕ → Kind

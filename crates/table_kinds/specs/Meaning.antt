@@ -12,7 +12,7 @@ use Rattle.table_kinds.specs.declared.Kind.{Kind}
 use Rattle.table_kinds.specs.declared.Kind.the-variants.{Empty, Inputs, Outputs, Products, End, Other}
 
 -- d is one to five digits, which write n
-pub record Digits (d : List ℕ) (n : ℕ) : Type 0 where
+pub record Numeral (d : List ℕ) (n : ℕ) : Type 0 where
   pub one : 1 ≤ length d
   pub few : length d ≤ mostDigits
   pub each : all isDigit d ≡ true
@@ -24,7 +24,7 @@ pub record Names (x : ℕ) (c : List ℕ) (n : ℕ) : Type 0 where
   pub digits : List ℕ
   pub text : c ≡ 46 ∷ x ∷ (blanks ++ digits)
   pub between : Blanks blanks
-  pub number : Digits digits n
+  pub number : Numeral digits n
 
 -- empty; `.i N` or `.o N`; `.p N`; `.e` or `.end`
 pub data Known (c : List ℕ) : Kind → Type 0 where

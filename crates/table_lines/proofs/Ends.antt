@@ -1,14 +1,14 @@
 -- Where a part of a text ends: up to the first b, without the blanks at either end, as the turns of a loop. Assumes nothing.
 use Prim.Native.Nat.{ℕ, zero, suc, _+_, _-_, _<_, _≤_}
 use mathlib.Core.Path.{_≡_, refl, sym, _∙_, ap}
-use mathlib.Core.Bool.{Bool, true, false, cond, not, and-false}
+use mathlib.Core.Bool.{true, false, cond, and-false}
 use mathlib.Core.List.{List, [], _∷_, _++_}
 use native.Mathlib.Omega.{arith}
 use lib.Dec.{eqb}
 use lib.ListN.{length, getD, take, drop, length-drop, drop-of-length-le}
 use lib.Seq.{take-suc, take-all}
-use borrow.Author.Tests.{eqb-true, eq-eqb, ne-eqb}
-use Rattle.sets.specs.Lists.{all, isNil}
+use borrow.Author.Tests.{eq-eqb, ne-eqb}
+use Rattle.sets.specs.Lists.{isNil}
 use Rattle.sets.proofs.Places.{drop-next}
 use Rattle.table_lines.specs.Text.{isBlank, lineOf, uncommented, trimFront, trimEnd}
 use Rattle.table_lines.specs.Parts.{untilByte}
@@ -40,27 +40,6 @@ pub upto-le : (b : ℕ) (t : List ℕ) → length (untilByte b t) ≤ length t
 unfolding untilByte
 upto-le b [] = omega arith
 upto-le b (x ∷ t) = elim (eqb x b) as (λ e. length (cond e [] (x ∷ untilByte b t)) ≤ suc (length t)) [ true ↦ omega arith | false ↦ omega (arith, upto-le b t) ]
-
--- b is not in it
-pub upto-clear : (b : ℕ) (t : List ℕ) → all (λ x. not (eqb x b)) (untilByte b t) ≡ true
-unfolding untilByte
-upto-clear b [] = refl
-upto-clear b (x ∷ t) = go (eqb x b) refl (upto-clear b t)
-  where
-    go : (e : Bool) → eqb x b ≡ e → all (λ y. not (eqb y b)) (untilByte b t) ≡ true → all (λ y. not (eqb y b)) (cond e [] (x ∷ untilByte b t)) ≡ true
-    go true q k = refl
-    go false q k = rw (q, k)
-
--- b stands where it ends before the list does
-pub upto-ended : (b : ℕ) (t : List ℕ) → length (untilByte b t) < length t → getD t (length (untilByte b t)) 0 ≡ b
-unfolding untilByte
-upto-ended b [] h = absurd (omega arith)
-upto-ended b (x ∷ t) h = go (eqb x b) refl h (upto-ended b t)
-  where
-    go : (e : Bool) → eqb x b ≡ e → length (cond e [] (x ∷ untilByte b t)) < suc (length t)
-        → (length (untilByte b t) < length t → getD t (length (untilByte b t)) 0 ≡ b) → getD (x ∷ t) (length (cond e [] (x ∷ untilByte b t))) 0 ≡ b
-    go true q k f = eqb-true x b q
-    go false q k f = f (omega arith)
 
 module _ (b : ℕ) (t : List ℕ) (i : ℕ) where
   -- b stands at i

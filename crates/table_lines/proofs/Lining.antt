@@ -1,14 +1,13 @@
 -- The lines of a text: the first ends at the first LF, and the others are those of what follows it. Assumes nothing.
 use Prim.Native.Nat.{ℕ, suc, _<_, _≤_}
 use mathlib.Core.Path.{_≡_, refl, sym, ap}
-use mathlib.Core.Bool.{Bool, true, false, cond, not}
+use mathlib.Core.Bool.{Bool, true, false, cond}
 use mathlib.Core.List.{List, [], _∷_}
 use native.Mathlib.Omega.{arith}
 use lib.Dec.{eqb}
-use lib.ListN.{length, getD, take, drop}
-use Rattle.sets.specs.Lists.{all}
+use lib.ListN.{length, take, drop}
 use Rattle.table_lines.specs.Text.{lineOf, onto, linesOf}
-use Rattle.table_lines.proofs.Ends.{line-upto, upto-take, upto-le, upto-clear, upto-ended}
+use Rattle.table_lines.proofs.Ends.{line-upto, upto-take, upto-le}
 
 -- a line is what stands at the front
 pub line-take : (t : List ℕ) → lineOf t ≡ take (length (lineOf t)) t
@@ -16,14 +15,6 @@ line-take t = rw (line-upto t) (sym (upto-take 10 t))
 
 pub line-le : (t : List ℕ) → length (lineOf t) ≤ length t
 line-le t = rw (line-upto t) (upto-le 10 t)
-
--- no byte of it is LF
-pub line-clear : (t : List ℕ) → all (λ b. not (eqb b 10)) (lineOf t) ≡ true
-line-clear t = rw (line-upto t) (upto-clear 10 t)
-
--- where it ends before the text, LF stands
-pub line-ended : (t : List ℕ) → length (lineOf t) < length t → getD t (length (lineOf t)) 0 ≡ 10
-line-ended t h = rw (line-upto t) (upto-ended 10 t (rw (← line-upto t) h))
 
 -- a line that ends before the text is followed by the lines of what stands after its LF
 pub lines-next : (t : List ℕ) → length (lineOf t) < length t → linesOf t ≡ lineOf t ∷ linesOf (drop (suc (length (lineOf t))) t)

@@ -1,7 +1,7 @@
 -- A span of a line: what is left of the line stands there, within it. Assumes nothing.
 use Prim.Native.Nat.{ℕ, suc, _+_, _-_, _≤_}
 use mathlib.Core.Path.{_≡_, refl, sym, ap, _∙_}
-use mathlib.Core.Bool.{Bool, true, false, cond, _&&_}
+use mathlib.Core.Bool.{true, false, cond, _&&_}
 use mathlib.Core.List.{List, [], _∷_, _++_}
 use native.Mathlib.Omega.{arith}
 use lib.ListN.{length, take, drop, length-append, length-drop, take-append-drop}
@@ -18,7 +18,8 @@ part-front p q i j h k = rw (drop-append-le i p q (omega arith)) (take-append-le
 end-le : (l : List ℕ) → length (trimEnd l) ≤ length l
 unfolding trimEnd
 end-le [] = omega arith
-end-le (b ∷ l) = elim (isBlank b && isNil (trimEnd l)) as (λ e. length (cond e [] (b ∷ trimEnd l)) ≤ suc (length l)) [ true ↦ omega arith | false ↦ omega (arith, end-le l) ]
+end-le (b ∷ l) = elim (isBlank b && isNil (trimEnd l)) as
+    (λ e. length (cond e [] (b ∷ trimEnd l)) ≤ suc (length l)) [ true ↦ omega arith | false ↦ omega (arith, end-le l) ]
 
 end-take : (l : List ℕ) → take (length (trimEnd l)) l ≡ trimEnd l
 unfolding trimEnd
@@ -27,7 +28,8 @@ end-take (b ∷ l) = elim (isBlank b && isNil (trimEnd l)) as (λ e. take (lengt
     [ true ↦ refl | false ↦ ap (λ (x : List ℕ). b ∷ x) (end-take l) ]
 
 front-drop : (l : List ℕ) → drop (length l - length (trimFront l)) l ≡ trimFront l
-front-drop l = let t = trimmed l in let n : length (t .0) ≡ length l - length (trimFront l) = omega (arith, ap length (t .2), length-append (t .0) (trimFront l)) in
+front-drop l = let t = trimmed l in let n : length (t .0) ≡ length l - length (trimFront l) =
+    omega (arith, ap length (t .2), length-append (t .0) (trimFront l)) in
     ap (drop (length l - length (trimFront l))) (t .2) ∙ drop-at (t .0) (trimFront l) (length l - length (trimFront l)) n
 
 uncommented-le : (l : List ℕ) → length (uncommented l) ≤ length l

@@ -1,4 +1,5 @@
--- What a cube line means: its cube's value is that the setting covers the places; its literals ascend, of one variable each, within the inputs. Assumes nothing.
+-- What a cube line means: its cube's value is that the setting covers the places; its literals ascend, of one variable each, within the
+-- inputs. Assumes nothing.
 use Prim.Native.Nat.{ℕ, suc, _+_, _*_, _/_, _%_, _<_, _≤_}
 use mathlib.Core.Path.{_≡_, refl, sym}
 use mathlib.Core.Logic.{_⊎_, inl, inr}
@@ -31,10 +32,12 @@ lit-negated a v = let r : (2 * v + 1) % 2 ≡ 1 = omega arith in let q : (2 * v 
 pub covers-value : (a : ℕ → Bool) (v : ℕ) (p : List ℕ) → all isPlace p ≡ true → all (lit a) (cubeFrom v p) ≡ covers a v p
 unfolding cubeFrom covers
 covers-value a v [] h = refl
-covers-value a v (b ∷ t) h = go (eqb b 49) (eqb b 48) (eqb b 45) ((both (isPlace b) (all isPlace t) h) .0) (covers-value a (suc v) t ((both (isPlace b) (all isPlace t) h) .1))
+covers-value a v (b ∷ t) h = go (eqb b 49) (eqb b 48) (eqb b 45) ((both (isPlace b) (all isPlace t) h) .0)
+    (covers-value a (suc v) t ((both (isPlace b) (all isPlace t) h) .1))
   where
     go : (x y z : Bool) → (y || (x || z)) ≡ true → all (lit a) (cubeFrom (suc v) t) ≡ covers a (suc v) t
-        → all (lit a) (cond x ((2 * v) ∷ cubeFrom (suc v) t) (cond y ((2 * v + 1) ∷ cubeFrom (suc v) t) (cubeFrom (suc v) t))) ≡ (cond x (a v) (cond y (not (a v)) z) && covers a (suc v) t)
+        → all (lit a) (cond x ((2 * v) ∷ cubeFrom (suc v) t) (cond y ((2 * v + 1) ∷ cubeFrom (suc v) t) (cubeFrom (suc v) t)))
+        ≡ (cond x (a v) (cond y (not (a v)) z) && covers a (suc v) t)
     go true y z k e = rw (lit-plain a v, e)
     go false true z k e = rw (lit-negated a v, e)
     go false false z k e = rw (k, e)
@@ -49,7 +52,8 @@ module _ {l : ℕ} where
   from-bounds v (b ∷ t) m = go (λ k. let r = from-bounds (suc v) t k in (omega arith, omega arith)) (eqb b 49) (eqb b 48) m
     where
       go : (l ∈ cubeFrom (suc v) t → (v ≤ l / 2) × (l / 2 < v + suc (length t))) → (x y : Bool)
-          → l ∈ cond x ((2 * v) ∷ cubeFrom (suc v) t) (cond y ((2 * v + 1) ∷ cubeFrom (suc v) t) (cubeFrom (suc v) t)) → (v ≤ l / 2) × (l / 2 < v + suc (length t))
+          → l ∈ cond x ((2 * v) ∷ cubeFrom (suc v) t) (cond y ((2 * v + 1) ∷ cubeFrom (suc v) t) (cubeFrom (suc v) t)) → (v ≤ l / 2)
+          × (l / 2 < v + suc (length t))
       go later true y k = elim (List·Memᴰ·cases-cons k) [ inl e ↦ (omega arith, omega arith) | inr i ↦ later i ]
       go later false true k = elim (List·Memᴰ·cases-cons k) [ inl e ↦ (omega arith, omega arith) | inr i ↦ later i ]
       go later false false k = later k
@@ -70,7 +74,8 @@ from-ascend v (b ∷ t) = go (eqb b 49) (eqb b 48) (from-ascend (suc v) t)
     go false false k = k
 
 pub from-asc : (v : ℕ) (p : List ℕ) → asc (cubeFrom v p) ≡ true
-from-asc v p = pairwise-imp (λ x y. ltb (x / 2) (y / 2)) ltb (cubeFrom v p) (λ x y h. let k = ltb-true (x / 2) (y / 2) h in lt-ltb x y (omega arith)) (from-ascend v p)
+from-asc v p = pairwise-imp (λ x y. ltb (x / 2) (y / 2)) ltb (cubeFrom v p) (λ x y h. let k = ltb-true (x / 2) (y / 2) h in lt-ltb x y (omega arith))
+    (from-ascend v p)
 
 -- no variable both ways
 pub from-proper : (v : ℕ) (p : List ℕ) → proper (cubeFrom v p) ≡ true
@@ -83,7 +88,8 @@ from-proper v p = proper-in (cubeFrom v p) (λ z m. refuted (λ k. clashing z (p
     differ-sym x y h = let e = eqb-false (x / 2) (y / 2) (not-true _ h) in rw (ne-eqb (y / 2) (x / 2) (λ q. e (sym q)))
 
     apart : pairwise differ (cubeFrom v p) ≡ true
-    apart = pairwise-imp (λ x y. ltb (x / 2) (y / 2)) differ (cubeFrom v p) (λ x y h. let k = ltb-true (x / 2) (y / 2) h in rw (ne-eqb (x / 2) (y / 2) (omega arith))) (from-ascend v p)
+    apart = pairwise-imp (λ x y. ltb (x / 2) (y / 2)) differ (cubeFrom v p)
+        (λ x y h. let k = ltb-true (x / 2) (y / 2) h in rw (ne-eqb (x / 2) (y / 2) (omega arith))) (from-ascend v p)
 
     clashing : (z : ℕ) → (z ≡ oppositeOf z) ⊎ (differ z (oppositeOf z) ≡ true) → ⊥
     clashing z (inl e) = omega arith

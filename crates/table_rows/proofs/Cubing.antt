@@ -16,10 +16,10 @@ use Rattle.sets.specs.Sets.{insert}
 use Rattle.sets.specs.Masks.{packed}
 use Rattle.sets.proofs.Truth.{both, Stand, below, equal, beyond, stand}
 use Rattle.sets.proofs.Lists.{all-in, all-out, all-cong}
-use Rattle.cube.specs.Cube.{joined}
+use Rattle.cube.specs.Cube.{width, joined}
 use Rattle.table_lines.specs.Text.{startsBlank, trimFront}
 use Rattle.table_lines.proofs.Blanks.{blank-shorter, shorter-blank}
-use Rattle.table_rows.specs.Lines.{isPlace, isMark, CubeLine, cubeLineOf, cubeFrom}
+use Rattle.table_rows.specs.Lines.{mostPlaces, isPlace, isMark, CubeLine, cubeLineOf, cubeFrom}
 use Rattle.table_rows.specs.Answers.{entryOf, parsing}
 use Rattle.table_rows.specs.Parts.{isSign, placed, roomy, hasMarks, entered, markedLine}
 use Rattle.table_rows.proofs.Covering.{from-bounds}
@@ -52,11 +52,11 @@ from-append v (b ∷ p) q = go (eqb b 49) (eqb b 48) (from-append (suc v) p q �
     go false false e = e
 
 -- a literal above all others is joined last
-joined-last : (l : ℕ) (c : List ℕ) → l < 128 → all (λ x. ltb x l) c ≡ true → joined l c ≡ c ++ (l ∷ [])
-joined-last l c h k = rw (lt-ltb l 128 h) (insert-last l c k)
+joined-last : (l : ℕ) (c : List ℕ) → l < 2 * width → all (λ x. ltb x l) c ≡ true → joined l c ≡ c ++ (l ∷ [])
+joined-last l c h k = rw (lt-ltb l (2 * width) h) (insert-last l c k)
 
 -- the literal of the next place goes last
-placed-last : (v b : ℕ) (c : List ℕ) → v < 64 → all (λ x. ltb x (2 * v)) c ≡ true → placed v b c ≡ c ++ cubeFrom v (b ∷ [])
+placed-last : (v b : ℕ) (c : List ℕ) → v < width → all (λ x. ltb x (2 * v)) c ≡ true → placed v b c ≡ c ++ cubeFrom v (b ∷ [])
 unfolding placed cubeFrom
 placed-last v b c h k = go (eqb b 49) (eqb b 48)
   where
@@ -68,7 +68,7 @@ placed-last v b c h k = go (eqb b 49) (eqb b 48)
     go false true = joined-last (2 * v + 1) c (omega arith) higher
     go false false = sym (append-nil c)
 
-pub from-next : (p : List ℕ) (i : ℕ) → i < length p → i < 64 → cubeFrom 0 (take (i + 1) p) ≡ placed i (getD p i 0) (cubeFrom 0 (take i p))
+pub from-next : (p : List ℕ) (i : ℕ) → i < length p → i < width → cubeFrom 0 (take (i + 1) p) ≡ placed i (getD p i 0) (cubeFrom 0 (take i p))
 from-next p i h k =
     let n : length (take i p) ≡ i = length-take-le i p (omega arith) in
     let u : 0 + length (take i p) ≡ i = omega arith in
@@ -80,7 +80,7 @@ from-next p i h k =
     ∙ sym (placed-last i (getD p i 0) (cubeFrom 0 (take i p)) k low)
 
 -- a place's literal, as the words hold it
-module _ (v b l : ℕ) (c : List ℕ) (h : v < 64) where
+module _ (v b l : ℕ) (c : List ℕ) (h : v < width) where
   pub placed-plain : b ≡ 49 → l ≡ 2 * v % 4294967296 → joined l c ≡ placed v b c
   unfolding placed
   placed-plain e q = let r : l ≡ 2 * v = omega arith in rw (r, e)
@@ -105,9 +105,9 @@ marks-next o i h k =
     rw d
 
 -- few marks make a small mask
-pub marks-lt : (o : List ℕ) (i : ℕ) → length o ≤ 32 → packed (map (eqb 49) (drop i o)) < 2 ^ 32
+pub marks-lt : (o : List ℕ) (i : ℕ) → length o ≤ mostPlaces → packed (map (eqb 49) (drop i o)) < 2 ^ mostPlaces
 marks-lt o i h =
-    let l : length (map (eqb 49) (drop i o)) ≤ 32 = simp (length-map, length-drop) (omega arith) in
+    let l : length (map (eqb 49) (drop i o)) ≤ mostPlaces = simp (length-map, length-drop) (omega arith) in
     omega (arith, packed-lt (map (eqb 49) (drop i o)), pow-mono l)
 
 -- ---- the tests
@@ -137,20 +137,20 @@ pub all-marks : (l : List ℕ) → all (isSign false) l ≡ all isMark l
 all-marks l = all-cong (isSign false) isMark l (λ b m. sign-mark b)
 
 module _ (k n m : ℕ) where
-  pub roomy-wide : 32 < n → false ≡ roomy k n m
-  roomy-wide h = rw (lt-leb n 32 h)
+  pub roomy-wide : mostPlaces < n → false ≡ roomy k n m
+  roomy-wide h = rw (lt-leb n mostPlaces h)
 
-  pub roomy-many : 32 < m → false ≡ roomy k n m
-  roomy-many h = rw (lt-leb m 32 h, and-false (leb n 32))
+  pub roomy-many : mostPlaces < m → false ≡ roomy k n m
+  roomy-many h = rw (lt-leb m mostPlaces h, and-false (leb n mostPlaces))
 
-  pub roomy-room : n ≤ 32 → m ≤ 32 → ltb (n + m) k ≡ roomy k n m
-  roomy-room h j = rw (le-leb n 32 h, le-leb m 32 j)
+  pub roomy-room : n ≤ mostPlaces → m ≤ mostPlaces → ltb (n + m) k ≡ roomy k n m
+  roomy-room h j = rw (le-leb n mostPlaces h, le-leb m mostPlaces j)
 
-  pub roomy-bounds : roomy k n m ≡ true → (n ≤ 32) × (m ≤ 32) × (n ≤ k)
+  pub roomy-bounds : roomy k n m ≡ true → (n ≤ mostPlaces) × (m ≤ mostPlaces) × (n ≤ k)
   roomy-bounds e =
-      let w = both (leb n 32) (leb m 32 && ltb (n + m) k) e in
-      let x = both (leb m 32) (ltb (n + m) k) (w .1) in
-      (leb-true n 32 (w .0), leb-true m 32 (x .0), omega (arith, ltb-true (n + m) k (x .1)))
+      let w = both (leb n mostPlaces) (leb m mostPlaces && ltb (n + m) k) e in
+      let x = both (leb m mostPlaces) (ltb (n + m) k) (w .1) in
+      (leb-true n mostPlaces (w .0), leb-true m mostPlaces (x .0), omega (arith, ltb-true (n + m) k (x .1)))
 
 module _ (m : ℕ) (o : List ℕ) where
   pub marks-other : (length o ≡ m → ⊥) → false ≡ hasMarks m o
@@ -166,7 +166,8 @@ module _ (m : ℕ) (o : List ℕ) where
 pub parsing-parts : (n m : ℕ) (c : List ℕ)
     → cond (roomy (length c) n m) (cond (all isPlace (take n c)) (markedLine m (take n c) (trimFront (drop n c))) none) none ≡ parsing n m c
 unfolding parsing cubeLineOf
-parsing-parts n m c = go (leb n 32) (leb m 32) (ltb (n + m) (length c)) (eqb (length p) n) (all isPlace p) (startsBlank r) (eqb (length o) m) (all isMark o) placed-all blank room
+parsing-parts n m c = go (leb n mostPlaces) (leb m mostPlaces) (ltb (n + m) (length c)) (eqb (length p) n) (all isPlace p) (startsBlank r) (eqb (length o) m)
+    (all isMark o) placed-all blank room
   where
     p : List ℕ
     p = take n c

@@ -6,7 +6,7 @@ use mathlib.Core.Option.{Option, none, some}
 use lib.Dec.{leb}
 use Rattle.sets.specs.Masks.{packed}
 use Rattle.cube.specs.Cube.{lits}
-use Rattle.table_rows.specs.Lines.{CubeLine, cubeLineOf, cubeOf, rowsIn}
+use Rattle.table_rows.specs.Lines.{mostPlaces, CubeLine, cubeLineOf, cubeOf, rowsIn}
 use Rattle.table_rows.specs.declared.Parsed.{Parsed}
 use Rattle.table_rows.specs.declared.Parsed.the-variants.{Line, Nothing}
 
@@ -24,6 +24,6 @@ abbrev pub entryOf : Option CubeLine → Option Entry
 entryOf none = none
 entryOf (some l) = some (record { cube = cubeOf l; marks = packed (l .marks); rows = rowsIn l })
 
--- numbers of inputs and outputs past 32 are none of a table's
+-- numbers of inputs and outputs past the most are none of a table's
 unfoldable pub parsing : ℕ → ℕ → List ℕ → Option Entry
-parsing n m c = cond (leb n 32 && leb m 32) (entryOf (cubeLineOf n m c)) none
+parsing n m c = cond (leb n mostPlaces && leb m mostPlaces) (entryOf (cubeLineOf n m c)) none

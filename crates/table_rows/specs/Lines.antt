@@ -1,12 +1,16 @@
 -- Cube lines.
 use Prim.Native.Nat.{ℕ, suc, _*_, _+_}
-use mathlib.Core.Bool.{Bool, true, false, cond, not, _&&_, _||_}
+use mathlib.Core.Bool.{Bool, true, cond, not, _&&_, _||_}
 use mathlib.Core.List.{List, [], _∷_, map}
 use mathlib.Core.Option.{Option, none, some}
 use lib.Dec.{eqb}
 use lib.ListN.{length, take, drop}
 use Rattle.sets.specs.Lists.{all, keep}
 use Rattle.table_lines.specs.Text.{startsBlank, trimFront}
+
+-- the most inputs, and the most outputs, of a table
+abbrev pub mostPlaces : ℕ
+mostPlaces = 32
 
 -- one of `0 1 -`
 abbrev pub isPlace : ℕ → Bool

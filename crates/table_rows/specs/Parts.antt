@@ -9,7 +9,7 @@ use lib.ListN.{length}
 use Rattle.sets.specs.Lists.{all}
 use Rattle.sets.specs.Masks.{packed}
 use Rattle.cube.specs.Cube.{joined}
-use Rattle.table_rows.specs.Lines.{isMark, cubeFrom}
+use Rattle.table_rows.specs.Lines.{mostPlaces, isMark, cubeFrom}
 use Rattle.table_rows.specs.Answers.{Entry}
 
 -- one of `0 1`, or `-` where that may be
@@ -20,13 +20,17 @@ isSign dash b = cond (eqb b 45) dash (isMark b)
 unfoldable pub placed : ℕ → ℕ → List ℕ → List ℕ
 placed v b c = cond (eqb b 49) (joined (2 * v) c) (cond (eqb b 48) (joined (2 * v + 1) c) c)
 
--- n places, a blank and m marks have room in k bytes; n and m are at most 32
+-- n places, a blank and m marks have room in k bytes; neither n nor m is past the most
 abbrev pub roomy : ℕ → ℕ → ℕ → Bool
-roomy k n m = leb n 32 && (leb m 32 && ltb (n + m) k)
+roomy k n m = leb n mostPlaces && (leb m mostPlaces && ltb (n + m) k)
 
 -- m marks and nothing else
 abbrev pub hasMarks : ℕ → List ℕ → Bool
 hasMarks m o = eqb (length o) m && all isMark o
+
+-- the bits of the word that holds the marks
+abbrev pub markBits : ℕ
+markBits = 64
 
 -- a cube, a mask, and as many rows as that has ones
 abbrev pub entered : List ℕ → ℕ → Option Entry

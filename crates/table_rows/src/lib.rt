@@ -8,8 +8,8 @@ ghost use lib.Dec.{eqb};
 ghost use lib.ListN.{length, take};
 ghost use Rattle.sets.specs.Lists.{all};
 ghost use Rattle.sets.specs.Masks.{packed};
-ghost use Rattle.cube.specs.Cube.{lits};
-ghost use Rattle.table_rows.specs.Lines.{cubeFrom};
+ghost use Rattle.cube.specs.Cube.{width, lits};
+ghost use Rattle.table_rows.specs.Lines.{mostPlaces, cubeFrom};
 ghost use Rattle.table_rows.specs.Answers.{parsedOf, parsing};
 ghost use Rattle.table_rows.specs.Parts.{isSign, placed, roomy, hasMarks, entered, markedLine};
 
@@ -52,7 +52,7 @@ fn all_of(l: &[u8], n: usize, dash: bool) -> bool
 
 // The cube with the literal that place v asks for.
 fn with_place(c: Cube, v: u32, b: u8) -> Cube
-    requires { ⌜ v < 64 ⌝ }
+    requires { ⌜ v < width ⌝ }
     ensures { λ r. ⌜ lits r ≡ placed v b (lits c) ⌝ }
 {
     if b == b'1' {
@@ -66,7 +66,7 @@ fn with_place(c: Cube, v: u32, b: u8) -> Cube
 
 // The literals of the first n places.
 fn cube_of(p: &[u8], n: usize) -> Cube
-    requires { ⌜ (n ≤ 32) × (n ≤ length (now p)) ⌝ }
+    requires { ⌜ (n ≤ mostPlaces) × (n ≤ length (now p)) ⌝ }
     ensures { λ r. ⌜ lits r ≡ cubeFrom 0 (take n (now (p .entry))) ⌝ }
 {
     let mut c = cube::empty();
@@ -82,7 +82,7 @@ fn cube_of(p: &[u8], n: usize) -> Cube
 
 // The outputs with a 1, as a mask.
 fn marks_of(o: &[u8]) -> u64
-    requires { ⌜ length (now o) ≤ 32 ⌝ }
+    requires { ⌜ length (now o) ≤ mostPlaces ⌝ }
     ensures { λ r. ⌜ r ≡ packed (map (eqb 49) (now (o .entry))) ⌝ }
 {
     let mut mask: u64 = 0;
@@ -97,7 +97,7 @@ fn marks_of(o: &[u8]) -> u64
     mask
 }
 
-// Whether n places, a blank and m marks have room in k bytes; n and m are at most 32.
+// Whether n places, a blank and m marks have room in k bytes; neither n nor m is past the most.
 fn has_room(k: usize, n: usize, m: usize) -> bool
     ensures { λ r. ⌜ r ≡ roomy k n m ⌝ }
 {
@@ -126,7 +126,7 @@ fn counted(c: Cube, marks: u64) -> Parsed
 
 // The cube line of the first n places and of what is left after the blanks, if that is m marks.
 fn marked(c: &[u8], n: usize, o: &[u8], m: usize) -> Parsed
-    requires { ⌜ (n ≤ 32) × (m ≤ 32) × (n ≤ length (now c)) ⌝ }
+    requires { ⌜ (n ≤ mostPlaces) × (m ≤ mostPlaces) × (n ≤ length (now c)) ⌝ }
     ensures { λ r. ⌜ parsedOf r ≡ markedLine m (take n (now (c .entry))) (now (o .entry)) ⌝ }
 {
     if !has_marks(o, m) {

@@ -47,12 +47,15 @@ same-length-2 c = search needs
 
 returns-5 : tie.Need-returns-5
 returns-5 c =
-    let k = c .before .before .before .before .before .before .before .before .before .before in
+    let w = c .before .before .before .before in
+    let f = w .before .before .before in
+    let k = f .before .before .before in
     let l = k .before .before in
-    let i = l .before .before .before .if1 .left in
-    let o = l .before .if2 .left in
-    λ t g h. let b = cube-behind g h _ i o (l .cube-line .ensures) _ _ _ (k .cube .given .1) in
-    rw (cube-within g h _ i o b (c .before .before .before .before .before .before .before .if3 .left) (c .before .before .before .before .before .before .before .before .before .before .before .before .before .before .before .before .before .before .before .before .pre .rows)) (c .before .before .before .before .keep-line .ensures t (b .line) h (b .cube) (b .mask) (b .rows))
+    let i = l .before .before .before in
+    let s = i .before .before .before .before .before in
+    λ t g h. let b = cube-behind g h _ (i .if1 .left) (l .before .if2 .left) (l .cube-line .ensures) _ _ _ (k .cube .given .1) in
+    rw (cube-within g h _ (i .if1 .left) (l .before .if2 .left) b (f .if3 .left) (s .pre .rows))
+    (w .keep-line .ensures t (b .line) h (b .cube) (b .mask) (b .rows))
 
 pub add-line-spec : {M : Type 1} → statement M
 add-line-spec =

@@ -1,6 +1,6 @@
 -- `table::build` meets its contract. The loop's invariant: the outputs passed are laid one after the other. Assumes nothing.
 use mathlib.Core.List.{map}
-use Prim.Native.Nat.{_-_, _≤_}
+use Prim.Native.Nat.{ℕ, _-_, _≤_}
 use mathlib.Core.Path.{_≡_}
 use native.Mathlib.Omega.{arith}
 use lib.ListN.{length, length-replicate}
@@ -30,7 +30,7 @@ turn f = f .before .before .before
 
 loop-holds : tie.Need-loop-holds Inv-loop μ-loop
 unfolding from
-loop-holds c = (omega arith, length-replicate wordSlots 0, laid-none)
+loop-holds c = (omega arith, length-replicate {A = ℕ} wordSlots 0, laid-none)
 
 slice-aggregate-fill-output : tie.Need-slice-aggregate-fill-output Inv-loop μ-loop
 slice-aggregate-fill-output c = search needs

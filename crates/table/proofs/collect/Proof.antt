@@ -66,7 +66,8 @@ loop-again c =
     elim (c .if1 .came) [
       | inl (w, p, q, r, o, k, e, n) ↦ rw (e, n) (
         omega arith,
-        pick-put _ (s .pre .source) (h .loop .i) (omega arith) (h .loop .inv .1) (sym (m .is-marked .ensures) ∙ w .taken) (s .pre .fits) (q .ensures) (r .ensures),
+        pick-put _ (s .pre .source) (h .loop .i) (omega arith) (h .loop .inv .1) (sym (m .is-marked .ensures) ∙ w .taken) (s .pre .fits) (q .ensures)
+            (r .ensures),
         search needs,
       )
       | inr (w, e, n) ↦ rw (e, n) (

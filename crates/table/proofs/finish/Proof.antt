@@ -7,6 +7,13 @@ use borrow.Author.Needs.{needs}
 use Rattle.table.proofs.finish.Statement.{statement}
 use Rattle.table.proofs.finish.Tie as tie
 
+-- the states of the walk, each after a test that lets it go on
+abbrev first : tie.Else2 → tie.Else1
+first d = d .before .before
+
+abbrev second : tie.Else3 → tie.Else2
+second e = e .before .before
+
 returns : tie.Need-returns
 unfolding finish
 returns c = λ t words marks g h. rw (wide-missing g h ∙ eq-eqb _ 0 (c .if1 .taken))
@@ -17,18 +24,37 @@ returns-2 c = λ t words marks g h. rw (wide-missing g h ∙ ne-eqb _ 0 (c .befo
 
 returns-3 : tie.Need-returns-3
 unfolding finish
-returns-3 c = λ t words marks g h. rw (wide-missing g h ∙ ne-eqb _ 0 (c .before .before .before .before .if1 .left), tall-missing g h ∙ ne-eqb _ 0 (c .before .before .if2 .left), agrees-unstated g h (c .if3 .taken)) h
+returns-3 c =
+    let d = c .before .before in
+    λ t words marks g h. rw (
+      wide-missing g h ∙ ne-eqb _ 0 (first d .if1 .left),
+      tall-missing g h ∙ ne-eqb _ 0 (d .if2 .left),
+      agrees-unstated g h (c .if3 .taken),
+    ) h
 
 sub-if4 : tie.Need-sub-if4
 sub-if4 c = search needs
 
 returns-4 : tie.Need-returns-4
 unfolding finish
-returns-4 c = λ t words marks g h. rw (wide-missing g h ∙ ne-eqb _ 0 (c .before .before .before .before .before .before .before .if1 .left), tall-missing g h ∙ ne-eqb _ 0 (c .before .before .before .before .before .if2 .left), agrees-not g h (c .before .before .before .if3 .left) (c .if4 .taken))
+returns-4 c =
+    let e = c .before .before .before in
+    let d = second e in
+    λ t words marks g h. rw (
+      wide-missing g h ∙ ne-eqb _ 0 (first d .if1 .left),
+      tall-missing g h ∙ ne-eqb _ 0 (d .if2 .left),
+      agrees-not g h (e .if3 .left) (c .if4 .taken),
+    )
 
 returns-5 : tie.Need-returns-5
 unfolding finish
-returns-5 c = λ t words marks g h. rw (wide-missing g h ∙ ne-eqb _ 0 (c .before .before .before .before .before .before .before .if1 .left), tall-missing g h ∙ ne-eqb _ 0 (c .before .before .before .before .before .if2 .left), agrees-so g h (c .if4 .left)) h
+returns-5 c =
+    let d = second (c .before .before .before) in
+    λ t words marks g h. rw (
+      wide-missing g h ∙ ne-eqb _ 0 (first d .if1 .left),
+      tall-missing g h ∙ ne-eqb _ 0 (d .if2 .left),
+      agrees-so g h (c .if4 .left),
+    ) h
 
 pub finish-spec : {M : Type 1} → statement M
 finish-spec = tie.close (tie.spec returns returns-2 returns-3 sub-if4 returns-4 returns-5)

@@ -34,9 +34,11 @@ same-length-2 c = search needs
 
 returns-2 : tie.Need-returns-2
 returns-2 c =
-    let s = c .before .before .before .before .before .before .before .before .before in
-    let f = c .before .before .before .before .if1 .left in
-    λ t l h e k q. stands-kept h l _ _ q f (omega (arith, s .pre .0 .kept, s .pre .0 .places)) (omega (arith, s .pre .0 .kept, s .pre .0 .masks)) e k (c .before .before .put-cube .ensures)
+    let f = c .before .before .before .before in
+    let s = f .before .before .before .before .before in
+    λ t l h e k q. stands-kept h l _ _ q (f .if1 .left) (omega (arith, s .pre .0 .kept, s .pre .0 .places))
+    (omega (arith, s .pre .0 .kept, s .pre .0 .masks)) e k
+    (c .before .before .put-cube .ensures)
 
 pub keep-line-spec : {M : Type 1} → statement M
 keep-line-spec =

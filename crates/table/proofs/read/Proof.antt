@@ -1,11 +1,10 @@
 -- `table::read` meets its contract: the lines scanned, and the network built of what they hold. Assumes nothing.
 use mathlib.Core.Path.{_≡_, sym, subst}
-use native.Mathlib.Omega.{arith}
-use lib.ListN.{length}
 use Rattle.expression.proofs.Words.{room-cubes}
 use Rattle.network.specs.Handed.{Holds}
-use Rattle.table.specs.Table.{mostRows, Outcome}
+use Rattle.table.specs.Table.{mostRows, State, Outcome, accepted, readText}
 use Rattle.table.specs.Answers.{Told}
+use Rattle.table.specs.Parts.{Stands}
 use Rattle.table.proofs.Refusals.{text-long, accepted-complete}
 use Rattle.table.proofs.Marking.{buildable, net-same}
 use Rattle.table.proofs.Scanning.{text-read, text-refused}
@@ -37,12 +36,21 @@ enum-told-2 c = search needs
 refused-requires-2 : tie.Need-refused-requires-2
 refused-requires-2 c κs = search needs
 
+-- the states of the walk: what was scanned, and that it was read
+abbrev start : tie.After-scan → tie.Start
+start n = n .before .before .before .before .before
+
+abbrev scanned : tie.After-enum-told → tie.After-scan
+scanned q = q .before .before .before .before
+
+abbrev told : tie.After-marks3 → tie.After-enum-told
+told m = m .before .before .before
+
 returns-2 : tie.Need-returns-2
 returns-2 c =
     let n = c .before .before .before .before .before in
-    let t = n .before .before .before .before .before .args .text .now in
-    let q = c .before .enum-told2 .given in
-    text-refused _ _ t (n .before .before .before .if1 .left) (n .scan .result) (n .scan .ensures) (c .refused2 .result) _ (q .1) (c .refused2 .ensures)
+    text-refused _ _ (start n .args .text .now) (n .before .before .before .if1 .left) (n .scan .result) (n .scan .ensures) (c .refused2 .result) _
+    (c .before .enum-told2 .given .1) (c .refused2 .ensures)
 
 slice-aggregate-build : tie.Need-slice-aggregate-build
 slice-aggregate-build c = search needs
@@ -50,21 +58,25 @@ slice-aggregate-build c = search needs
 slice-aggregate-build-2 : tie.Need-slice-aggregate-build-2
 slice-aggregate-build-2 c = search needs
 
+-- what was read, of which the outcome is made
+read-in : (q : tie.After-enum-told) → let n = scanned q in (t : State) × (readText (start n .args .text .now) ≡ accepted t)
+    × Stands t (n .scan .result .state) (n .scan .last .1 .0) (n .scan .last .1 .1 .0)
+read-in q = let n = scanned q in
+    text-read _ _ (start n .args .text .now) (n .before .before .before .if1 .left) (n .scan .result) (n .scan .ensures) (q .enum-told .given .1)
+
 build-requires : tie.Need-build-requires
 build-requires c κs =
-    let n = c .before .before .before .before .before .before .before in
-    let t = n .before .before .before .before .before .args .text .now in
-    let q = c .before .before .before .enum-told .given in
-    let r = text-read _ _ t (n .before .before .before .if1 .left) (n .scan .result) (n .scan .ensures) (q .1) in
-    buildable (accepted-complete t (r .0) (r .1) .2) (r .2) (room-cubes (n .scan .last .1 .0) mostRows (search needs)) (search needs)
+    let q = told c in
+    let n = scanned q in
+    let r = read-in q in
+    buildable (accepted-complete (start n .args .text .now) (r .0) (r .1) .2) (r .2) (room-cubes (n .scan .last .1 .0) mostRows (search needs)) (search needs)
 
 returns-3 : tie.Need-returns-3
 returns-3 c =
-    let n = c .before .before .before .before .before .before .before .before in
-    let t = n .before .before .before .before .before .args .text .now in
-    let q = c .before .before .before .before .enum-told .given in
-    let r = text-read _ _ t (n .before .before .before .if1 .left) (n .scan .result) (n .scan .ensures) (q .1) in
-    subst (λ (o : Outcome). Told o (record { answer = n .scan .result .answer; network = c .build .result })) (sym (r .1)) (q .1, subst (Holds (c .build .result)) (net-same (r .2)) (c .build .ensures))
+    let q = told (c .before) in
+    let r = read-in q in
+    subst (λ (o : Outcome). Told o (record { answer = scanned q .scan .result .answer; network = c .build .result })) (sym (r .1))
+    (q .enum-told .given .1, subst (Holds (c .build .result)) (net-same (r .2)) (c .build .ensures))
 
 pub read-spec : {M : Type 1} → statement M
 read-spec =

@@ -137,7 +137,8 @@ returns c =
     let p = spanned t in
     let e = ended p in
     let h = turn e in
-    subst (λ (x : Scanned). Scans (readLines 1 (linesOf (start h .args .text .now)) table.start) x (t .take-line .last .1 .1 .0) (t .take-line .last .1 .1 .1 .0))
+    subst (λ (x : Scanned). Scans (readLines 1 (linesOf (start h .args .text .now)) table.start) x (t .take-line .last .1 .1 .0)
+    (t .take-line .last .1 .1 .1 .0))
     (sym (c .stopped .ensures))
     (reading-stop (h .loop .inv .4) _ _ (t .take-line .result) (e .before .loop-test .taken) (e .line-end .ensures) (left p) (t .take-line .ensures)
     (not-next (t .take-line .result) (c .before .match .keys2)))
@@ -162,7 +163,7 @@ loop-again c =
       search needs,
       search needs,
       reading-next (h .loop .inv .4) _ _ (t .take-line .result) (e .before .loop-test .taken) (e .line-end .ensures) (left p) (t .take-line .ensures) _
-      (c .before .turn .given .1),
+          (c .before .turn .given .1),
     )
 
 same-length-3 : tie.Need-same-length-3 Inv-loop μ-loop

@@ -11,7 +11,9 @@ number-line-requires c κs = search needs
 
 returns : tie.Need-returns
 unfolding setWide
-returns c = λ t words marks g h. c .number-line .ensures (t .wide) (withWide t _) words marks (wide-missing g h) (record { wide = refl; tall = h .tall; stated = h .stated; lines = h .lines; rows = h .rows; kept = h .kept; cubes = h .cubes; masks = h .masks })
+returns c =
+    λ t words marks g h. c .number-line .ensures (t .wide) (withWide t _) words marks (wide-missing g h)
+    (record { wide = refl; tall = h .tall; stated = h .stated; lines = h .lines; rows = h .rows; kept = h .kept; cubes = h .cubes; masks = h .masks })
 
 pub set-inputs-spec : {M : Type 1} → statement M
 set-inputs-spec = tie.close (tie.spec number-line-requires returns)

@@ -11,7 +11,9 @@ number-line-requires c κs = search needs
 
 returns : tie.Need-returns
 unfolding setTall
-returns c = λ t words marks g h. c .number-line .ensures (t .tall) (withTall t _) words marks (tall-missing g h) (record { wide = h .wide; tall = refl; stated = h .stated; lines = h .lines; rows = h .rows; kept = h .kept; cubes = h .cubes; masks = h .masks })
+returns c =
+    λ t words marks g h. c .number-line .ensures (t .tall) (withTall t _) words marks (tall-missing g h)
+    (record { wide = h .wide; tall = refl; stated = h .stated; lines = h .lines; rows = h .rows; kept = h .kept; cubes = h .cubes; masks = h .masks })
 
 pub set-outputs-spec : {M : Type 1} → statement M
 set-outputs-spec = tie.close (tie.spec number-line-requires returns)

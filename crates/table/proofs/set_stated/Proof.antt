@@ -15,7 +15,9 @@ number-line-requires c κs = search needs
 
 returns : tie.Need-returns
 unfolding setStated
-returns c = λ t words marks g h. rw leb·zero at (c .number-line .ensures (t .stated) (withStated t _) words marks (stated-missing g h) (record { wide = h .wide; tall = h .tall; stated = refl; lines = h .lines; rows = h .rows; kept = h .kept; cubes = h .cubes; masks = h .masks }))
+returns c =
+    λ t words marks g h. rw leb·zero at (c .number-line .ensures (t .stated) (withStated t _) words marks (stated-missing g h)
+    (record { wide = h .wide; tall = h .tall; stated = refl; lines = h .lines; rows = h .rows; kept = h .kept; cubes = h .cubes; masks = h .masks }))
 
 pub set-stated-spec : {M : Type 1} → statement M
 set-stated-spec = tie.close (tie.spec add-t number-line-requires returns)

@@ -62,7 +62,10 @@ same-length-2 : tie.Need-same-length-2
 same-length-2 c = search needs
 
 returns-6 : tie.Need-returns-6
-returns-6 c = λ t g h. rw (sym (c .before .before .before .before .before .before .before .before .before .kind-of .ensures) ∙ c .before .before .before .before .before .before .before .enum-told3 .given .1) (c .before .before .before .before .add-line .ensures t g h)
+returns-6 c =
+    let d = c .before .before .before .before in
+    let e = d .before .before .before in
+    λ t g h. rw (sym (e .before .before .kind-of .ensures) ∙ e .enum-told3 .given .1) (d .add-line .ensures t g h)
 
 pub take-line-spec : {M : Type 1} → statement M
 take-line-spec =

@@ -9,13 +9,15 @@ use lib.ListN.{length, getD, drop}
 use Rattle.sets.specs.Lists.{all}
 use Rattle.sets.proofs.Places.{all-stop, all-on, all-done}
 use Rattle.letters.specs.Meaning.{readBack, isDigit}
-use Rattle.table_kinds.proofs.Reading.{value-short, value-long, value-stray, value-read, read-on, read-done, digit-low, digit-high, digit-in, digits-lt, digits-few}
+use Rattle.table_kinds.proofs.Reading.{value-short, value-long, value-stray, value-read, read-on, read-done, digit-low, digit-high, digit-in}
+use Rattle.table_kinds.proofs.Reading.{digits-lt, digits-few}
 use borrow.Author.Needs.{needs}
 use Rattle.table_kinds.proofs.decimal_of.Statement.{statement}
 use Rattle.table_kinds.proofs.decimal_of.Tie as tie
 
 abbrev Inv-loop : tie.InvT-loop
-Inv-loop t n₀ i₀ n i = (i ≤ length t) × (0 < length t) × (length t ≤ 5) × (n < 10 ^ i) × (readBack n (drop i t) ≡ readBack 0 t) × (all isDigit (drop i t) ≡ all isDigit t)
+Inv-loop t n₀ i₀ n i = (i ≤ length t) × (0 < length t) × (length t ≤ 5) × (n < 10 ^ i) × (readBack n (drop i t) ≡ readBack 0 t)
+    × (all isDigit (drop i t) ≡ all isDigit t)
 
 abbrev μ-loop : tie.MeasureT-loop
 μ-loop t n₀ i₀ n i = length t - i

@@ -22,7 +22,8 @@ returns c = let a = c .before .before .args in
 abbrev letter : tie.After-known-told → ℕ
 letter d = d .before .before .before .args .b
 
-handed : (d : tie.After-known-told) → lettered (letter d) (some (d .before .a .given .0 .0)) ≡ lettered (letter d) (numberIn (d .before .before .before .args .a))
+handed : (d : tie.After-known-told) → lettered (letter d) (some (d .before .a .given .0 .0))
+    ≡ lettered (letter d) (numberIn (d .before .before .before .args .a))
 handed d = ap (λ k. lettered (letter d) (numberIn k)) (sym (d .before .a .given .1))
 
 returns-2 : tie.Need-returns-2

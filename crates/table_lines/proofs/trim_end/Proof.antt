@@ -36,8 +36,11 @@ loop-less : tie.Need-loop-less Inv-loop μ-loop
 loop-less c = search needs
 
 loop-again : tie.Need-loop-again Inv-loop μ-loop
-loop-again c = let h = c .before .before .before .before in
-    (omega arith, sym (end-on (h .before .before .args .l .now) (h .loop .e) (c .before .before .before .loop-test .taken) (h .loop .inv .0) (sym (c .before .is-blank .ensures) ∙ c .if1 .taken)) ∙ h .loop .inv .1)
+loop-again c = let h = c .before .before .before .before in (
+  omega arith,
+  sym (end-on (h .before .before .args .l .now) (h .loop .e) (c .before .before .before .loop-test .taken) (h .loop .inv .0)
+      (sym (c .before .is-blank .ensures) ∙ c .if1 .taken)) ∙ h .loop .inv .1,
+)
 
 slice-aggregate-result : tie.Need-slice-aggregate-result Inv-loop μ-loop
 slice-aggregate-result c = let h = c .before .before in

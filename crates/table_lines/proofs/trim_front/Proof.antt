@@ -32,8 +32,11 @@ loop-less : tie.Need-loop-less Inv-loop μ-loop
 loop-less c = search needs
 
 loop-again : tie.Need-loop-again Inv-loop μ-loop
-loop-again c = let h = c .before .before .before .before in
-    (omega arith, sym (front-on (h .before .before .args .l .now) (h .loop .a) (c .before .before .before .loop-test .taken) (sym (c .before .is-blank .ensures) ∙ c .if1 .taken)) ∙ h .loop .inv .1)
+loop-again c = let h = c .before .before .before .before in (
+  omega arith,
+  sym (front-on (h .before .before .args .l .now) (h .loop .a) (c .before .before .before .loop-test .taken)
+      (sym (c .before .is-blank .ensures) ∙ c .if1 .taken)) ∙ h .loop .inv .1,
+)
 
 sub-result : tie.Need-sub-result Inv-loop μ-loop
 sub-result c = search needs

@@ -36,7 +36,8 @@ returns : tie.Need-returns Inv-loop μ-loop
 returns c = let h = c .before .before .before .before in
     let a = h .before .before .args in
     let w = next (a .l .now) (a .n) (h .loop .i) (omega arith) (h .loop .inv .1) in
-    sym (all-stop (take (a .n) (a .l .now)) (h .loop .i) 0 (w .0) (isSign (a .dash)) (ap (isSign (a .dash)) (w .1) ∙ sym (c .before .is-sign .ensures) ∙ not-true _ (c .if1 .taken))) ∙ h .loop .inv .2
+    sym (all-stop (take (a .n) (a .l .now)) (h .loop .i) 0 (w .0) (isSign (a .dash))
+    (ap (isSign (a .dash)) (w .1) ∙ sym (c .before .is-sign .ensures) ∙ not-true _ (c .if1 .taken))) ∙ h .loop .inv .2
 
 add-i : tie.Need-add-i Inv-loop μ-loop
 add-i c = search needs
@@ -50,7 +51,8 @@ loop-again c = let h = c .before .before .before .before in
     let w = next (a .l .now) (a .n) (h .loop .i) (omega arith) (h .loop .inv .1) in (
       omega arith,
       h .loop .inv .1,
-      sym (all-on (take (a .n) (a .l .now)) (h .loop .i) 0 (w .0) (isSign (a .dash)) (ap (isSign (a .dash)) (w .1) ∙ sym (c .before .is-sign .ensures) ∙ not-false _ (c .if1 .left))) ∙ h .loop .inv .2,
+      sym (all-on (take (a .n) (a .l .now)) (h .loop .i) 0 (w .0) (isSign (a .dash))
+          (ap (isSign (a .dash)) (w .1) ∙ sym (c .before .is-sign .ensures) ∙ not-false _ (c .if1 .left))) ∙ h .loop .inv .2,
     )
 
 returns-2 : tie.Need-returns-2 Inv-loop μ-loop

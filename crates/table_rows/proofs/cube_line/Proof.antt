@@ -7,7 +7,7 @@ use borrow.Author.Tests.{not-true, not-false}
 use Rattle.sets.specs.Lists.{all}
 use Rattle.table_lines.specs.Text.{trimFront}
 use Rattle.table_lines.proofs.Ends.{rest-whole}
-use Rattle.table_rows.specs.Lines.{isPlace}
+use Rattle.table_rows.specs.Lines.{mostPlaces, isPlace}
 use Rattle.table_rows.specs.Parts.{roomy, markedLine}
 use Rattle.table_rows.proofs.Cubing.{all-places, roomy-bounds, parsing-parts}
 use borrow.Author.Needs.{needs}
@@ -22,11 +22,12 @@ returns c = let a = c .before .before .before .args in
     rw (← parsing-parts (a .n) (a .m) (a .c .now), sym (c .before .has-room .ensures) ∙ not-true _ (c .if1 .taken))
 
 -- the numbers are as their test wants them
-room : (c : tie.Else1) → roomy (length (c .before .before .before .args .c .now)) (c .before .before .before .args .n) (c .before .before .before .args .m) ≡ true
+room : (c : tie.Else1) → roomy (length (c .before .before .before .args .c .now)) (c .before .before .before .args .n) (c .before .before .before .args .m)
+    ≡ true
 room c = sym (c .before .has-room .ensures) ∙ not-false _ (c .if1 .left)
 
 bounds : (c : tie.Else1)
-    → (c .before .before .before .args .n ≤ 32) × (c .before .before .before .args .m ≤ 32) × (c .before .before .before .args .n ≤ length (c .before .before .before .args .c .now))
+    → let a = c .before .before .before .args in (a .n ≤ mostPlaces) × (a .m ≤ mostPlaces) × (a .n ≤ length (a .c .now))
 bounds c = let a = c .before .before .before .args in
     roomy-bounds (length (a .c .now)) (a .n) (a .m) (room c)
 
@@ -34,7 +35,8 @@ all-of-requires : tie.Need-all-of-requires
 all-of-requires c κs = bounds c .2
 
 -- what the test of the places says
-placed : (c : tie.After-all-of) → all isPlace (take (c .before .before .before .before .args .n) (c .before .before .before .before .args .c .now)) ≡ c .all-of .result
+placed : (c : tie.After-all-of) → all isPlace (take (c .before .before .before .before .args .n) (c .before .before .before .before .args .c .now))
+    ≡ c .all-of .result
 placed c = let a = c .before .before .before .before .args in
     sym (all-places (take (a .n) (a .c .now))) ∙ sym (c .all-of .ensures)
 

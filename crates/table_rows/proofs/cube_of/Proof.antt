@@ -4,7 +4,7 @@ use Prim.Native.Nat.{_-_, _≤_}
 use native.Mathlib.Omega.{arith}
 use lib.ListN.{length, take, getD}
 use Rattle.cube.specs.Cube.{lits}
-use Rattle.table_rows.specs.Lines.{cubeFrom}
+use Rattle.table_rows.specs.Lines.{mostPlaces, cubeFrom}
 use Rattle.table_rows.specs.Parts.{placed}
 use Rattle.table_rows.proofs.Cubing.{from-next}
 use borrow.Author.Needs.{needs}
@@ -12,7 +12,7 @@ use Rattle.table_rows.proofs.cube_of.Statement.{statement}
 use Rattle.table_rows.proofs.cube_of.Tie as tie
 
 abbrev Inv-loop : tie.InvT-loop
-Inv-loop p n c₀ v₀ i₀ c v i = (i ≤ n) × (n ≤ 32) × (n ≤ length p) × (v ≡ i) × (lits c ≡ cubeFrom 0 (take i p))
+Inv-loop p n c₀ v₀ i₀ c v i = (i ≤ n) × (n ≤ mostPlaces) × (n ≤ length p) × (v ≡ i) × (lits c ≡ cubeFrom 0 (take i p))
 
 abbrev μ-loop : tie.MeasureT-loop
 μ-loop p n c₀ v₀ i₀ c v i = n - i

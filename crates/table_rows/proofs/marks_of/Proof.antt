@@ -8,13 +8,14 @@ use lib.ListN.{length, drop, getD}
 use lib.Seq.{drop-length}
 use borrow.Author.Tests.{eq-eqb, ne-eqb}
 use Rattle.sets.specs.Masks.{packed}
+use Rattle.table_rows.specs.Lines.{mostPlaces}
 use Rattle.table_rows.proofs.Cubing.{marks-next, marks-lt}
 use borrow.Author.Needs.{needs}
 use Rattle.table_rows.proofs.marks_of.Statement.{statement}
 use Rattle.table_rows.proofs.marks_of.Tie as tie
 
 abbrev Inv-loop : tie.InvT-loop
-Inv-loop o mask₀ i₀ mask i = (i ≤ length o) × (length o ≤ 32) × (mask ≡ packed (map (eqb 49) (drop i o)))
+Inv-loop o mask₀ i₀ mask i = (i ≤ length o) × (length o ≤ mostPlaces) × (mask ≡ packed (map (eqb 49) (drop i o)))
 
 abbrev μ-loop : tie.MeasureT-loop
 μ-loop o mask₀ i₀ mask i = i
@@ -42,16 +43,24 @@ loop-less c = search needs
 
 loop-again : tie.Need-loop-again Inv-loop μ-loop
 loop-again c = let h = c .before .before .before in
-    let o = h .before .args .o .now in
-    (omega arith, omega arith, rw (marks-next o (h .loop .i) (omega arith) (omega arith), eq-eqb 49 (getD o (h .loop .i - 1) 0) (sym (c .if1 .taken))) (omega arith))
+    let o = h .before .args .o .now in (
+      omega arith,
+      omega arith,
+      rw (marks-next o (h .loop .i) (omega arith) (omega arith), eq-eqb 49 (getD o (h .loop .i - 1) 0) (sym (c .if1 .taken)))
+          (omega arith),
+    )
 
 loop-less-2 : tie.Need-loop-less-2 Inv-loop μ-loop
 loop-less-2 c = search needs
 
 loop-again-2 : tie.Need-loop-again-2 Inv-loop μ-loop
 loop-again-2 c = let h = c .before .before .before in
-    let o = h .before .args .o .now in
-    (omega arith, omega arith, rw (marks-next o (h .loop .i) (omega arith) (omega arith), ne-eqb 49 (getD o (h .loop .i - 1) 0) (λ e. c .if1 .left (sym e))) (omega arith))
+    let o = h .before .args .o .now in (
+      omega arith,
+      omega arith,
+      rw (marks-next o (h .loop .i) (omega arith) (omega arith), ne-eqb 49 (getD o (h .loop .i - 1) 0) (λ e. c .if1 .left (sym e)))
+          (omega arith),
+    )
 
 returns : tie.Need-returns Inv-loop μ-loop
 returns c = let h = c .before in

@@ -14,7 +14,8 @@ with-requires c κs = search needs
 
 returns : tie.Need-returns
 returns c = let a = c .before .before .before .args in
-    c .with .ensures ∙ placed-plain (a .v) (a .b) (c .before .plain .result .0) (lits (a .c)) (c .before .before .before .pre) (c .before .before .if1 .taken) (c .before .plain .ensures)
+    c .with .ensures ∙ placed-plain (a .v) (a .b) (c .before .plain .result .0) (lits (a .c)) (c .before .before .before .pre) (c .before .before .if1 .taken)
+    (c .before .plain .ensures)
 
 negated-requires : tie.Need-negated-requires
 negated-requires c κs = search needs
@@ -24,7 +25,8 @@ with-requires-2 c κs = search needs
 
 returns-2 : tie.Need-returns-2
 returns-2 c = let a = c .before .before .before .before .args in
-    c .with2 .ensures ∙ placed-negated (a .v) (a .b) (c .before .negated .result .0) (lits (a .c)) (c .before .before .before .before .pre) (c .before .before .before .if1 .left) (c .before .before .if2 .taken) (c .before .negated .ensures)
+    c .with2 .ensures ∙ placed-negated (a .v) (a .b) (c .before .negated .result .0) (lits (a .c)) (c .before .before .before .before .pre)
+    (c .before .before .before .if1 .left) (c .before .before .if2 .taken) (c .before .negated .ensures)
 
 returns-3 : tie.Need-returns-3
 returns-3 c = let a = c .before .before .args in
