@@ -9,6 +9,7 @@ pub mod Reading
 pub mod Stepping
 pub mod Arranging
 pub mod Moving
+pub mod Preparing
 pub mod Running
 pub mod Keeping
 pub mod Following

@@ -13,7 +13,7 @@ use Rattle.network.specs.Net.{Net, variables, cubeCount}
 use Rattle.network.specs.Held.{mostVariables, mostCubes}
 use Rattle.extract_laws.specs.Divisor.{Divisor}
 use Rattle.extract_laws.specs.Extract.{weight, best, step}
-use Rattle.extract_laws.specs.Run.{numbers, rows, Move, finished, stuck, take, roomFor, choose, move}
+use Rattle.extract_laws.specs.Run.{numbers, rows, Move, finished, stuck, makes, roomFor, choose, move}
 use Rattle.extract_laws.specs.Meaning.{Best, Worth, Done, Allows}
 use Rattle.extract_laws.specs.Meaning.Allows.{nothing, noNumber, noRows, next}
 use Rattle.extract_laws.proofs.Choosing.{heavier-order, best-iff, best-none, best-unique}
@@ -32,13 +32,13 @@ module _ (n : Net) where
   move-allows = go (best n) refl
     where
       fits : (d : Divisor) → Worth n d → (b c : Bool) → ltb (variables n) mostVariables ≡ b → ltb mostCubes (cubeCount (step n d)) ≡ c
-          → Allows n (cond b (cond c (stuck rows) (take d)) (stuck numbers))
+          → Allows n (cond b (cond c (stuck rows) (makes d)) (stuck numbers))
       fits d w true true p q = noRows w (ltb-true _ _ p) (ltb-true _ _ q)
       fits d w true false p q = next w (ltb-true _ _ p) (ltb-false _ _ q)
       fits d w false c p q = noNumber w (ltb-false _ _ p)
 
       weigh : (d : Divisor) → Best n d → (b : Bool) → ltZ (pos 0) (weight n d) ≡ b
-          → Allows n (cond b (cond (ltb (variables n) mostVariables) (cond (ltb mostCubes (cubeCount (step n d))) (stuck rows) (take d)) (stuck numbers)) finished)
+          → Allows n (cond b (cond (ltb (variables n) mostVariables) (cond (ltb mostCubes (cubeCount (step n d))) (stuck rows) (makes d)) (stuck numbers)) finished)
       weigh d t true p = fits d (record { best = t; above = p }) (ltb (variables n) mostVariables) (ltb mostCubes (cubeCount (step n d))) refl refl
       weigh d t false p = nothing (λ e m. not-after (λ u v. ltZ v u) heavier-order (weight n e) (weight n d) (pos 0) (t .heaviest e m) p)
 

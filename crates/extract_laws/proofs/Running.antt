@@ -9,15 +9,16 @@ use lib.ListN.{length}
 use Rattle.network.specs.Net.{Net}
 use Rattle.extract_laws.specs.Divisor.{Divisor}
 use Rattle.extract_laws.specs.Extract.{step}
-use Rattle.extract_laws.specs.Run.{Stop, done, numbers, rows, Made, Result, Move, finished, stuck, take, move, ended, made, runFrom, inOrder, run}
+use Rattle.extract_laws.specs.Run.{Stop, done, numbers, rows, Made, Result, Move, finished, stuck, makes, move, ended, making, prepare, runFrom, inOrder, run}
 use Rattle.extract_laws.specs.Meaning.{Done, Allows, Leads, Ends}
 use Rattle.extract_laws.specs.Meaning.Allows.{nothing, noNumber, noRows, next}
 use Rattle.extract_laws.specs.Meaning.Leads.{stay, onward}
 use Rattle.extract_laws.specs.Meaning.Ends.{isDone, isAsked, isNumbers, isRows}
 use Rattle.extract_laws.proofs.Arranging.{in-order-once, step-arranged}
 use Rattle.extract_laws.proofs.Moving.{worth-done, move-iff}
+use Rattle.extract_laws.proofs.Preparing.{prepares}
 
--- ---- a run whose cubes are in order, step by step
+-- ---- a run from a network that is prepared, step by step
 
 -- no step is left: done, or else asked
 pub from-none : (n : Net) → runFrom 0 n ≡ record { network = n; stop = ended (move n); steps = [] }
@@ -35,82 +36,96 @@ unfolding runFrom
 from-stuck k n r e = rw (e, runFrom)
 
 -- the step is made
-pub from-take : (k : ℕ) (n : Net) (d : Divisor) → move n ≡ take d
-    → runFrom (suc k) n ≡ record { network = runFrom k (step n d) .network; stop = runFrom k (step n d) .stop; steps = made n d ∷ runFrom k (step n d) .steps }
+pub from-make : (k : ℕ) (n : Net) (d : Divisor) → move n ≡ makes d → let r = runFrom k (prepare (step n d)) in
+    runFrom (suc k) n ≡ record { network = r .network; stop = r .stop; steps = making n d ∷ r .steps }
 unfolding runFrom
-from-take k n d e = rw (e, runFrom)
+from-make k n d e = rw (e, runFrom)
 
 -- ---- how it goes, and why it ends
 
 -- what a run of k steps from n leaves
 record Ran (k : ℕ) (n : Net) (r : Result) : Type 0 where
-  pub few : length (r .steps) ≤ k
   pub leads : Leads n (r .steps) (r .network)
   pub ends : Ends k (length (r .steps)) (r .network) (r .stop)
 
 ends-more : {k j : ℕ} {n : Net} {r : Stop} → Ends k j n r → Ends (suc k) (suc j) n r
-ends-more (isDone h) = isDone h
-ends-more (isAsked w e) = isAsked w (ap suc e)
-ends-more (isNumbers w l h) = isNumbers w (omega arith) h
-ends-more (isRows w l h i) = isRows w (omega arith) h i
+ends-more (isDone l h) = isDone (omega arith) h
+ends-more (isAsked e w) = isAsked (ap suc e) w
+ends-more (isNumbers l w h) = isNumbers (omega arith) w h
+ends-more (isRows l w h i) = isRows (omega arith) w h i
+
+ends-few : {k j : ℕ} {n : Net} {r : Stop} → Ends k j n r → j ≤ k
+ends-few (isDone l h) = l
+ends-few (isAsked e w) = omega arith
+ends-few (isNumbers l w h) = omega arith
+ends-few (isRows l w h i) = omega arith
 
 ran : (k : ℕ) (n : Net) → Ran k n (runFrom k n)
 ran zero n = rw (from-none n) (go (move n) ((move-iff n (move n)) .0 refl))
   where
     go : (m : Move) → Allows n m → Ran 0 n (record { network = n; stop = ended m; steps = [] })
-    go m (nothing h) = record { few = omega arith; leads = stay; ends = isDone h }
-    go m (noNumber w l) = record { few = omega arith; leads = stay; ends = isAsked w refl }
-    go m (noRows w l h) = record { few = omega arith; leads = stay; ends = isAsked w refl }
-    go m (next w l h) = record { few = omega arith; leads = stay; ends = isAsked w refl }
-ran (suc k) n = go (move n) refl ((move-iff n (move n)) .0 refl) (λ d. ran k (step n d))
+    go m (nothing h) = record { leads = stay; ends = isDone (omega arith) h }
+    go m (noNumber w l) = record { leads = stay; ends = isAsked refl w }
+    go m (noRows w l h) = record { leads = stay; ends = isAsked refl w }
+    go m (next w l h) = record { leads = stay; ends = isAsked refl w }
+ran (suc k) n = go (move n) refl ((move-iff n (move n)) .0 refl) (λ d. ran k (prepare (step n d)))
   where
-    go : (m : Move) → move n ≡ m → Allows n m → ((d : Divisor) → Ran k (step n d) (runFrom k (step n d))) → Ran (suc k) n (runFrom (suc k) n)
-    go m e (nothing h) t = rw (from-finished k n e) (record { few = omega arith; leads = stay; ends = isDone h })
-    go m e (noNumber w l) t = rw (from-stuck k n numbers e) (record { few = omega arith; leads = stay; ends = isNumbers w (omega arith) l })
-    go m e (noRows w l h) t = rw (from-stuck k n rows e) (record { few = omega arith; leads = stay; ends = isRows w (omega arith) l h })
-    go m e (next {d = d} w l h) t = rw (from-take k n d e) (record { few = omega (arith, t d .few); leads = onward d w l h (t d .leads); ends = ends-more (t d .ends) })
+    go : (m : Move) → move n ≡ m → Allows n m → ((d : Divisor) → Ran k (prepare (step n d)) (runFrom k (prepare (step n d))))
+        → Ran (suc k) n (runFrom (suc k) n)
+    go m e (nothing h) t = rw (from-finished k n e) (record { leads = stay; ends = isDone (omega arith) h })
+    go m e (noNumber w l) t = rw (from-stuck k n numbers e) (record { leads = stay; ends = isNumbers (omega arith) w l })
+    go m e (noRows w l h) t = rw (from-stuck k n rows e) (record { leads = stay; ends = isRows (omega arith) w l h })
+    go m e (next {d = d} w l h) t = rw (from-make k n d e) (record { leads = onward d w l h (t d .leads); ends = ends-more (t d .ends) })
 
 ends-done : {k j : ℕ} {n : Net} → Ends k j n done → Done n
-ends-done (isDone h) = h
+ends-done (isDone l h) = h
 
 -- two reasons do not apply at once
 ends-one : (k j : ℕ) (n : Net) {r s : Stop} → Ends k j n r → Ends k j n s → r ≡ s
-ends-one k j n (isDone h) (isDone i) = refl
-ends-one k j n (isDone h) (isAsked w e) = absurd (worth-done n w h)
-ends-one k j n (isDone h) (isNumbers w l a) = absurd (worth-done n w h)
-ends-one k j n (isDone h) (isRows w l a b) = absurd (worth-done n w h)
-ends-one k j n (isAsked w e) (isDone h) = absurd (worth-done n w h)
-ends-one k j n (isAsked w e) (isAsked v i) = refl
-ends-one k j n (isAsked w e) (isNumbers v l a) = absurd (omega arith)
-ends-one k j n (isAsked w e) (isRows v l a b) = absurd (omega arith)
-ends-one k j n (isNumbers w l a) (isDone h) = absurd (worth-done n w h)
-ends-one k j n (isNumbers w l a) (isAsked v e) = absurd (omega arith)
-ends-one k j n (isNumbers w l a) (isNumbers v i b) = refl
-ends-one k j n (isNumbers w l a) (isRows v i b c) = absurd (omega arith)
-ends-one k j n (isRows w l a b) (isDone h) = absurd (worth-done n w h)
-ends-one k j n (isRows w l a b) (isAsked v e) = absurd (omega arith)
-ends-one k j n (isRows w l a b) (isNumbers v i c) = absurd (omega arith)
-ends-one k j n (isRows w l a b) (isRows v i c d) = refl
+ends-one k j n (isDone l h) (isDone i g) = refl
+ends-one k j n (isDone l h) (isAsked e w) = absurd (worth-done n w h)
+ends-one k j n (isDone l h) (isNumbers i w a) = absurd (worth-done n w h)
+ends-one k j n (isDone l h) (isRows i w a b) = absurd (worth-done n w h)
+ends-one k j n (isAsked e w) (isDone l h) = absurd (worth-done n w h)
+ends-one k j n (isAsked e w) (isAsked i v) = refl
+ends-one k j n (isAsked e w) (isNumbers l v a) = absurd (omega arith)
+ends-one k j n (isAsked e w) (isRows l v a b) = absurd (omega arith)
+ends-one k j n (isNumbers l w a) (isDone i h) = absurd (worth-done n w h)
+ends-one k j n (isNumbers l w a) (isAsked e v) = absurd (omega arith)
+ends-one k j n (isNumbers l w a) (isNumbers i v b) = refl
+ends-one k j n (isNumbers l w a) (isRows i v b c) = absurd (omega arith)
+ends-one k j n (isRows l w a b) (isDone i h) = absurd (worth-done n w h)
+ends-one k j n (isRows l w a b) (isAsked e v) = absurd (omega arith)
+ends-one k j n (isRows l w a b) (isNumbers i v c) = absurd (omega arith)
+ends-one k j n (isRows l w a b) (isRows i v c d) = refl
+
+-- from the network in cube order, prepared
+abbrev first : Net → Net
+first n = prepare (inOrder n)
 
 module _ (k : ℕ) (n : Net) where
-  -- each step of a run takes the best divisor of the network that it is made on
-  pub run-leads : Leads (inOrder n) (run k n .steps) (run k n .network)
+  run-ran : Ran k (first n) (run k n)
   unfolding run
-  run-leads = (ran k (inOrder n)) .leads
+  run-ran = ran k (first n)
+
+  -- each step of a run takes the best divisor of the network that it is made on
+  pub run-leads : Leads (first n) (run k n .steps) (run k n .network)
+  run-leads = run-ran .leads
 
   -- the stop is the first reason that applies: done, asked, numbers, rows
   pub run-stop : (r : Stop) → (run k n .stop ≡ r) ↔ Ends k (length (run k n .steps)) (run k n .network) r
-  unfolding run
-  run-stop r = (λ e. subst (Ends k (length (run k n .steps)) (run k n .network)) e ((ran k (inOrder n)) .ends), λ h. ends-one k (length (run k n .steps)) (run k n .network) ((ran k (inOrder n)) .ends) h)
-
-  -- done: no divisor has a weight above 0
-  pub run-done : (run k n .stop ≡ done) ↔ Done (run k n .network)
-  run-done = (λ e. ends-done (run-stop done .0 e), λ h. run-stop done .1 (isDone h))
+  run-stop r = (
+    λ e. subst (Ends k (length (run k n .steps)) (run k n .network)) e (run-ran .ends),
+    λ h. ends-one k (length (run k n .steps)) (run k n .network) (run-ran .ends) h,
+  )
 
   -- no more steps than asked
   pub run-few : length (run k n .steps) ≤ k
-  unfolding run
-  run-few = (ran k (inOrder n)) .few
+  run-few = ends-few (run-ran .ends)
+
+  -- done: no divisor has a weight above 0
+  pub run-done : (run k n .stop ≡ done) ↔ Done (run k n .network)
+  run-done = (λ e. ends-done (run-stop done .0 e), λ h. run-stop done .1 (isDone run-few h))
 
 -- ---- runs add up
 
@@ -120,34 +135,45 @@ then r q = record { network = q .network; stop = q .stop; steps = r .steps ++ q 
 
 from-add : (s t : ℕ) (n : Net) → runFrom (s + suc t) n ≡ then (runFrom s n) (runFrom (suc t) (runFrom s n .network))
 from-add zero t n = rw (zero-add, from-none n)
-from-add (suc s) t n = ap (λ k. runFrom k n) (suc-add s (suc t)) ∙ go (move n) refl ((move-iff n (move n)) .0 refl) (λ d. from-add s t (step n d))
+from-add (suc s) t n =
+    ap (λ k. runFrom k n) (suc-add s (suc t)) ∙ go (move n) refl ((move-iff n (move n)) .0 refl) (λ d. from-add s t (prepare (step n d)))
   where
-    go : (m : Move) → move n ≡ m → Allows n m → ((d : Divisor) → runFrom (s + suc t) (step n d) ≡ then (runFrom s (step n d)) (runFrom (suc t) (runFrom s (step n d) .network)))
+    go : (m : Move) → move n ≡ m → Allows n m
+        → ((d : Divisor) → let p = prepare (step n d) in runFrom (s + suc t) p ≡ then (runFrom s p) (runFrom (suc t) (runFrom s p .network)))
         → runFrom (suc (s + suc t)) n ≡ then (runFrom (suc s) n) (runFrom (suc t) (runFrom (suc s) n .network))
     go m e (nothing h) f = rw (from-finished (s + suc t) n e, from-finished s n e, from-finished t n e)
     go m e (noNumber w l) f = rw (from-stuck (s + suc t) n numbers e, from-stuck s n numbers e, from-stuck t n numbers e)
     go m e (noRows w l h) f = rw (from-stuck (s + suc t) n rows e, from-stuck s n rows e, from-stuck t n rows e)
-    go m e (next {d = d} w l h) f = rw (from-take (s + suc t) n d e, from-take s n d e, f d)
+    go m e (next {d = d} w l h) f = rw (from-make (s + suc t) n d e, from-make s n d e, f d)
 
 -- where the cubes are in order, they are so after steps
 leads-arranged : {n m : Net} {l : List Made} → Leads n l m → inOrder n ≡ n → inOrder m ≡ m
 leads-arranged stay e = e
-leads-arranged (onward {n = n} d w l h t) e = leads-arranged t (step-arranged n d (w .best .chosen))
+leads-arranged (onward {n = n} d w l h t) e = leads-arranged t (prepares .order (step n d) (step-arranged n d (w .best .chosen)))
+
+-- and what is prepared is so after steps
+leads-prepared : {n m : Net} {l : List Made} → Leads n l m → prepare n ≡ n → prepare m ≡ m
+leads-prepared stay e = e
+leads-prepared (onward {n = n} d w l h t) e = leads-prepared t (prepares .once (step n d))
 
 module _ (s : ℕ) (n : Net) where
   -- a run leaves a network whose cubes are in order
   pub run-arranged : inOrder (run s n .network) ≡ run s n .network
-  run-arranged = leads-arranged (run-leads s n) (in-order-once n)
+  run-arranged = leads-arranged (run-leads s n) (prepares .order (inOrder n) (in-order-once n))
+
+  -- and that is prepared
+  pub run-prepared : prepare (run s n .network) ≡ run s n .network
+  run-prepared = leads-prepared (run-leads s n) (prepares .once (inOrder n))
 
   again : (t : ℕ) → run t (run s n .network) ≡ runFrom t (run s n .network)
   unfolding run
-  again t = ap (runFrom t) run-arranged
+  again t = ap (runFrom t) (ap prepare run-arranged ∙ run-prepared)
 
   later : (t : ℕ) → run (s + suc t) n ≡ then (run s n) (run (suc t) (run s n .network))
   unfolding run
-  later t = from-add s t (inOrder n) ∙ ap (then (run s n)) (sym (again (suc t)))
+  later t = from-add s t (first n) ∙ ap (then (run s n)) (sym (again (suc t)))
 
-  none-more : run 0 (run s n .network) ≡ record { network = run s n .network; stop = ended (move (run s n .network)); steps = [] }
+  none-more : let m = run s n .network in run 0 m ≡ record { network = m; stop = ended (move m); steps = [] }
   none-more = again 0 ∙ from-none (run s n .network)
 
   -- runs of s then t steps end in the network of a run of s + t
@@ -157,7 +183,8 @@ module _ (s : ℕ) (n : Net) where
 
   -- by the steps of the one and then of the other
   pub run-steps-add : (t : ℕ) → run (s + t) n .steps ≡ run s n .steps ++ run t (run s n .network) .steps
-  run-steps-add zero = ap (λ k. run k n .steps) (add-zero s) ∙ sym (ap (λ (r : Result). run s n .steps ++ r .steps) none-more ∙ append-nil (run s n .steps))
+  run-steps-add zero =
+      ap (λ k. run k n .steps) (add-zero s) ∙ sym (ap (λ (r : Result). run s n .steps ++ r .steps) none-more ∙ append-nil (run s n .steps))
   run-steps-add (suc t) = ap (λ (r : Result). r .steps) (later t)
 
   -- and for t above 0 with its stop reason

@@ -17,11 +17,11 @@ use Rattle.network.specs.Meaning.{Reads, Consistent}
 use Rattle.network.proofs.Numbering.{in-output, in-divisor}
 use Rattle.network.proofs.Evaluating.{evaluate-settled, evaluate-read}
 use Rattle.extract_laws.specs.Divisor.{Divisor, pair, sum, own, sound, rewrite}
-use Rattle.extract_laws.specs.Extract.{redo, step}
+use Rattle.extract_laws.specs.Extract.{redo, nextFree, step}
 use Rattle.extract_laws.specs.Meaning.{Good, Fit}
 use Rattle.extract_laws.proofs.Using.{sum-parts}
 use Rattle.extract_laws.proofs.Replacing.{rewrite-value, rewrite-expression, rewrite-ordered, rewrite-reads}
-use Rattle.extract_laws.proofs.Making.{step-node, step-variables, step-turn}
+use Rattle.extract_laws.proofs.Making.{next-free, below-free, step-node, step-variables, step-turn}
 use Rattle.extract_laws.proofs.Reading.{good-sound, step-acyclic}
 
 own-ordered : (d : Divisor) → sound d ≡ true → ordered (own d) ≡ true
@@ -32,11 +32,11 @@ module _ (n : Net) (g : Good n) (d : Divisor) (fit : Fit n d) where
   -- a step keeps the rules on networks
   pub step-good : Good (step n d)
   step-good = record {
-    expressions = λ f i. elim (step-node n d f i) [ inl p ↦ rw p (fit .formed) | inr (h, k, p) ↦ rw p (rewrite-expression (variables n) d h (g .expressions h k) (g .known h k)) ];
+    expressions = λ f i. elim (step-node n d f i) [ inl p ↦ rw p (fit .formed) | inr (h, k, p) ↦ rw p (rewrite-expression (nextFree n) d h (g .expressions h k) (below-free n g h k)) ];
     known = λ f i v r. elim (step-node n d f i) [
       | inl p ↦ omega (arith, step-variables n d, fit .known v (subst (λ z. Reads z v) p r))
-      | inr (h, k, p) ↦ elim (rewrite-reads (2 * variables n) d h v (subst (λ z. Reads z v) p r))
-          [ inl (q, w) ↦ omega (arith, step-variables n d) | inr q ↦ omega (arith, step-variables n d, g .known h k v q) ]
+      | inr (h, k, p) ↦ elim (rewrite-reads (2 * nextFree n) d h v (subst (λ z. Reads z v) p r))
+          [ inl (q, w) ↦ omega (arith, next-free n, step-variables n d) | inr q ↦ omega (arith, step-variables n d, g .known h k v q) ]
     ];
     inTurn = step-turn n d (g .inTurn);
     acyclic = step-acyclic n g d fit;
@@ -46,29 +46,29 @@ module _ (n : Net) (g : Good n) (d : Divisor) (fit : Fit n d) where
   pub step-ordered : (f : List (List ℕ)) → f ∈ nodes (step n d) → ordered f ≡ true
   step-ordered f i = elim (step-node n d f i) [
     | inl p ↦ rw p (own-ordered d (fit .whole))
-    | inr (h, k, p) ↦ rw p (rewrite-ordered (variables n) d h (g .expressions h k) (g .known h k))
+    | inr (h, k, p) ↦ rw p (rewrite-ordered (nextFree n) d h (g .expressions h k) (below-free n g h k))
   ]
 
   -- ---- the outputs
 
   module _ (s a : ℕ → Bool) (c : Consistent (step n d) s a) where
     -- a rewritten expression has its value, since the new variable has the divisor's
-    kept : (f : List (List ℕ)) → f ∈ nodes n → value (lit a) (rewrite (2 * variables n) d f) ≡ value (lit a) f
-    kept f i = rewrite-value (lit a) f (g .expressions f i) (2 * variables n) d (fit .whole)
-        (lit-plain a (variables n) ∙ c .divisors (record { number = variables n; cubes = own d }) (Memᴰ·append-right (map (redo (2 * variables n) d) (n .divisors)) (here refl)))
+    kept : (f : List (List ℕ)) → f ∈ nodes n → value (lit a) (rewrite (2 * nextFree n) d f) ≡ value (lit a) f
+    kept f i = rewrite-value (lit a) f (g .expressions f i) (2 * nextFree n) d (fit .whole)
+        (lit-plain a (nextFree n) ∙ c .divisors (record { number = nextFree n; cubes = own d }) (Memᴰ·append-right (map (redo (2 * nextFree n) d) (n .divisors)) (here refl)))
 
     -- what fits the step's network fits the network before
     pub step-consistent : Consistent n s a
     step-consistent = record {
       inputs = c .inputs;
-      divisors = λ e i. c .divisors (redo (2 * variables n) d e) (Memᴰ·append-left _ (map-in (redo (2 * variables n) d) i)) ∙ kept (e .cubes) (in-divisor n i);
+      divisors = λ e i. c .divisors (redo (2 * nextFree n) d e) (Memᴰ·append-left _ (map-in (redo (2 * nextFree n) d) i)) ∙ kept (e .cubes) (in-divisor n i);
     }
 
     -- with the same outputs
     pub step-answers : answers (step n d) a ≡ answers n a
     step-answers =
-        map-map (value (lit a)) (rewrite (2 * variables n) d) (n .outputs)
-        ∙ map-cong (λ f. value (lit a) (rewrite (2 * variables n) d f)) (value (lit a)) (n .outputs) (λ f i. kept f (in-output n i))
+        map-map (value (lit a)) (rewrite (2 * nextFree n) d) (n .outputs)
+        ∙ map-cong (λ f. value (lit a) (rewrite (2 * nextFree n) d f)) (value (lit a)) (n .outputs) (λ f i. kept f (in-output n i))
 
   -- outputs after a step are those before, for every setting
   pub step-evaluate : (s : ℕ) → evaluate (step n d) s ≡ evaluate n s

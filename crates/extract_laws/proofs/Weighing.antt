@@ -20,11 +20,11 @@ use Rattle.expression.proofs.Sorting.{total-sort}
 use Rattle.network.specs.Net.{Net, nodes, variables, cubeCount, literalCount}
 use Rattle.network.specs.Meaning.{Reads}
 use Rattle.extract_laws.specs.Divisor.{Divisor, pair, sum, own, small, sound, useOf, part, hit, gone, found, bases, uses, swap, rewrite}
-use Rattle.extract_laws.specs.Extract.{step, allUses, basesLiterals, weight}
+use Rattle.extract_laws.specs.Extract.{nextFree, step, allUses, basesLiterals, weight}
 use Rattle.extract_laws.specs.Meaning.{Good, Parts, other, Partner}
 use Rattle.extract_laws.proofs.Using.{cube-asc, cubes-differ, differ-in, differ-out, sum-parts, part-asc, use-out, use-partner, hit-inside, use-one-way}
 use Rattle.extract_laws.proofs.Replacing.{new-absent}
-use Rattle.extract_laws.proofs.Making.{step-total}
+use Rattle.extract_laws.proofs.Making.{below-free, step-total}
 
 -- as many as there are
 pub total-one : (l : List (List ℕ)) → total (λ c. 1) l ≡ length l
@@ -140,8 +140,8 @@ minus t g l s e = sym (
     ∙ +ℤ-negℤ-cancel (pos t) (pos g))
 
 module _ (n : Net) (g : Good n) (d : Divisor) (s : sound d ≡ true) where
-  total-saved : literalCount n ≡ total (λ f. literalsOf (rewrite (2 * variables n) d f)) (nodes n) + total (gain d) (nodes n)
-  total-saved = total-sum literalsOf (λ f. literalsOf (rewrite (2 * variables n) d f)) (gain d) (nodes n) (λ f m. saves (variables n) d s f (g .expressions f m) (g .known f m))
+  total-saved : literalCount n ≡ total (λ f. literalsOf (rewrite (2 * nextFree n) d f)) (nodes n) + total (gain d) (nodes n)
+  total-saved = total-sum literalsOf (λ f. literalsOf (rewrite (2 * nextFree n) d f)) (gain d) (nodes n) (λ f m. saves (nextFree n) d s f (g .expressions f m) (below-free n g f m))
 
   -- a step takes exactly the weight off the literal count
   pub step-literals : pos (literalCount (step n d)) ≡ pos (literalCount n) -ℤ weight n d
@@ -158,44 +158,3 @@ module _ (n : Net) (g : Good n) (d : Divisor) (s : sound d ≡ true) where
           let r : literalCount (step n d) + m ≡ literalCount n = cc in
           omega (arith, ltb-true 0 m h)
       go (negsuc m) h e = clash h refl
-
--- what a divisor saves is no more than the network has
-module _ (n : Net) (g : Good n) where
-  pub pair-bound : (p q : ℕ) → sound (pair p q) ≡ true → allUses n (pair p q) ≤ literalCount n
-  unfolding allUses
-  pair-bound p q s = omega (arith, total-saved n g (pair p q) s)
-
-  pub sum-bound : (a b : List ℕ) → sound (sum a b) ≡ true → basesLiterals n (sum a b) + allUses n (sum a b) * ((length a + length b) - 1) ≤ literalCount n
-  sum-bound a b s = omega (arith, total-saved n g (sum a b) s, gain-sum n a b)
-
--- ---- how many cubes a step leaves
-
--- a pair's step leaves one cube more
-pub pair-cubes : (n : Net) (p q : ℕ) → cubeCount (step n (pair p q)) ≡ suc (cubeCount n)
-pair-cubes n p q = omega (
-  arith,
-  step-total n (pair p q) length,
-  total-const length (λ f. length (rewrite (2 * variables n) (pair p q) f)) 0 (nodes n) (λ f m. let x = 2 * variables n in omega (
-    arith,
-    total-one (rewrite x (pair p q) f),
-    rewrite-total x (pair p q) f (λ c. 1),
-    total-split (λ c. 1) (hit (pair p q) f) f,
-    total-one f,
-  )),
-)
-
--- a sum's step two more, and in each use one less
-pub sum-cubes : (n : Net) → Good n → (a b : List ℕ) → sound (sum a b) ≡ true → cubeCount n + 2 ≡ cubeCount (step n (sum a b)) + allUses n (sum a b)
-unfolding allUses
-sum-cubes n g a b s = omega (
-  arith,
-  step-total n (sum a b) length,
-  total-sum length (λ f. length (rewrite (2 * variables n) (sum a b) f)) (uses (sum a b)) (nodes n) (λ f m. let x = 2 * variables n in omega (
-    arith,
-    total-one (rewrite x (sum a b) f),
-    rewrite-total x (sum a b) f (λ c. 1),
-    sum-total a b (sum-parts a b s) f (g .expressions f m) (λ c. 1),
-    total-one (keep (useOf a b f) f),
-    total-one f,
-  )),
-)

@@ -23,7 +23,8 @@ basesLiterals n d = total (λ f. literalsOf (bases d f)) (nodes n)
 -- pair: uses - 2; sum with s literals in its parts: (literals in all bases) + uses·(s - 1) - s
 unfoldable pub weight : Net → Divisor → ℤ
 weight n (pair p q) = pos (allUses n (pair p q)) -ℤ pos 2
-weight n (sum a b) = pos (basesLiterals n (sum a b) + allUses n (sum a b) * ((length a + length b) - 1)) -ℤ pos (length a + length b)
+weight n (sum a b) =
+    pos (basesLiterals n (sum a b) + allUses n (sum a b) * ((length a + length b) - 1)) -ℤ pos (length a + length b)
 
 -- ---- all divisors of a network
 
@@ -81,10 +82,14 @@ best n = bestOf n (candidates n)
 abbrev pub redo : ℕ → Divisor → Node → Node
 redo x d e = record { number = e .number; cubes = rewrite x d (e .cubes) }
 
+-- the next free number: the inputs and the divisors have those before it
+unfoldable pub nextFree : Net → ℕ
+nextFree n = variables n
+
 -- the next free number names a node holding the divisor; in every use it replaces the divisor
 abbrev pub step : Net → Divisor → Net
 step n d = record {
   inputs = n .inputs;
-  outputs = map (rewrite (2 * variables n) d) (n .outputs);
-  divisors = map (redo (2 * variables n) d) (n .divisors) ++ (record { number = variables n; cubes = own d } ∷ []);
+  outputs = map (rewrite (2 * nextFree n) d) (n .outputs);
+  divisors = map (redo (2 * nextFree n) d) (n .divisors) ++ (record { number = nextFree n; cubes = own d } ∷ []);
 }

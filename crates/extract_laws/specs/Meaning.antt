@@ -6,15 +6,17 @@ use mathlib.Core.Bool.{true, false}
 use mathlib.Core.List.{List, [], _∷_, List·Memᴰ}
 use lib.IntN.{ℤ, pos, _+ℤ_}
 use lib.Signed.{ltZ}
+use lib.ListN.{length}
 use Rattle.sets.specs.Sets.{mem, sub, apart, asc, union, without, meet, before}
 use Rattle.expression.specs.Expression.{expression}
-use Rattle.network.specs.Net.{Net, nodes, variables, cubeCount}
+use Rattle.network.specs.Net.{Net, nodes, variables, cubeCount, literalCount}
+use Rattle.network.specs.Evaluation.{evaluate}
 use Rattle.network.specs.Meaning.{Reads}
 use Rattle.network.specs.Held.{mostVariables, mostCubes}
 pub use Rattle.network.specs.Rules.{Good, Within}
 use Rattle.extract_laws.specs.Divisor.{Divisor, pair, sum, own, small, sound, useOf, hit}
 use Rattle.extract_laws.specs.Extract.{weight, candidates, sooner, step}
-use Rattle.extract_laws.specs.Run.{Stop, done, asked, numbers, rows, Made, Move, finished, stuck, take, made}
+use Rattle.extract_laws.specs.Run.{Stop, done, asked, numbers, rows, Made, Move, finished, stuck, makes, making, prepare, inOrder}
 
 -- ---- divisors, their uses and bases
 
@@ -64,7 +66,8 @@ Used n d = (f : List (List ℕ)) × List·Memᴰ f (nodes n) × ((c : List ℕ) 
 -- the divisors of a network, in the paper's words
 pub data Divides (n : Net) : Divisor → Type 0 where
   -- two literals of one cube
-  literals : {f : List (List ℕ)} {c : List ℕ} {p q : ℕ} → List·Memᴰ f (nodes n) → List·Memᴰ c f → List·Memᴰ p c → List·Memᴰ q c → p < q → Divides n (pair p q)
+  literals : {f : List (List ℕ)} {c : List ℕ} {p q : ℕ} → List·Memᴰ f (nodes n) → List·Memᴰ c f → List·Memᴰ p c → List·Memᴰ q c → p < q
+      → Divides n (pair p q)
   -- two cubes of one node less their common base, where both parts have one or two literals, the smaller part first
   parts : {f : List (List ℕ)} {c e a b : List ℕ} → List·Memᴰ f (nodes n) → List·Memᴰ c f → List·Memᴰ e f
       → a ≡ without c (meet c e) → b ≡ without e (meet c e) → small a ≡ true → small b ≡ true → before a b ≡ true → Divides n (sum a b)
@@ -99,19 +102,33 @@ pub data Allows (n : Net) : Move → Type 0 where
   nothing : Done n → Allows n finished
   noNumber : {d : Divisor} → Worth n d → mostVariables ≤ variables n → Allows n (stuck numbers)
   noRows : {d : Divisor} → Worth n d → variables n < mostVariables → mostCubes < cubeCount (step n d) → Allows n (stuck rows)
-  next : {d : Divisor} → Worth n d → variables n < mostVariables → cubeCount (step n d) ≤ mostCubes → Allows n (take d)
+  next : {d : Divisor} → Worth n d → variables n < mostVariables → cubeCount (step n d) ≤ mostCubes → Allows n (makes d)
 
--- steps lead from a network to another: each takes the best divisor of the network that it is made on
+-- what is done to a network before each step: the inputs, the outputs and the divisors stay as many, literals and cubes become no more,
+-- the rules, the cube order and the outputs for every setting are kept, and once is enough
+pub record Prepares (p : Net → Net) : Type 0 where
+  pub inputs : (n : Net) → p n .inputs ≡ n .inputs
+  pub outputs : (n : Net) → length (p n .outputs) ≡ length (n .outputs)
+  pub variables : (n : Net) → variables (p n) ≡ variables n
+  pub cubes : (n : Net) → cubeCount (p n) ≤ cubeCount n
+  pub literals : (n : Net) → literalCount (p n) ≤ literalCount n
+  pub good : (n : Net) → Good n → Good (p n)
+  pub order : (n : Net) → inOrder n ≡ n → inOrder (p n) ≡ p n
+  pub evaluate : (n : Net) → Good n → (s : ℕ) → evaluate (p n) s ≡ evaluate n s
+  pub once : (n : Net) → p (p n) ≡ p n
+
+-- steps lead from a network that is prepared to another: each takes the best divisor of the network that it is made on
 pub data Leads : Net → List Made → Net → Type 0 where
   stay : {n : Net} → Leads n [] n
-  onward : {n m : Net} {l : List Made} (d : Divisor) → Worth n d → variables n < mostVariables → cubeCount (step n d) ≤ mostCubes → Leads (step n d) l m → Leads n (made n d ∷ l) m
+  onward : {n m : Net} {l : List Made} (d : Divisor) → Worth n d → variables n < mostVariables → cubeCount (step n d) ≤ mostCubes
+      → Leads (prepare (step n d)) l m → Leads n (making n d ∷ l) m
 
 -- why a run of k steps ends at a network after j of them: the first reason that applies
 pub data Ends (k j : ℕ) (n : Net) : Stop → Type 0 where
-  isDone : Done n → Ends k j n done
-  isAsked : {d : Divisor} → Worth n d → j ≡ k → Ends k j n asked
-  isNumbers : {d : Divisor} → Worth n d → j < k → mostVariables ≤ variables n → Ends k j n numbers
-  isRows : {d : Divisor} → Worth n d → j < k → variables n < mostVariables → mostCubes < cubeCount (step n d) → Ends k j n rows
+  isDone : j ≤ k → Done n → Ends k j n done
+  isAsked : {d : Divisor} → j ≡ k → Worth n d → Ends k j n asked
+  isNumbers : {d : Divisor} → j < k → Worth n d → mostVariables ≤ variables n → Ends k j n numbers
+  isRows : {d : Divisor} → j < k → Worth n d → variables n < mostVariables → mostCubes < cubeCount (step n d) → Ends k j n rows
 
 -- the sum of the weights of steps
 unfoldable pub fall : List Made → ℤ

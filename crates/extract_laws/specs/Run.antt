@@ -7,19 +7,27 @@ use lib.Dec.{ltb}
 use lib.IntN.{ℤ, pos}
 use lib.Signed.{ltZ}
 use Rattle.expression.specs.Expression.{sort}
-use Rattle.network.specs.Net.{Node, Net, variables, cubeCount}
+use Rattle.network.specs.Net.{Node, Net, variables, cubeCount, literalCount}
 use Rattle.network.specs.Held.{mostVariables, mostCubes}
 use Rattle.extract_laws.specs.Divisor.{Divisor}
-use Rattle.extract_laws.specs.Extract.{allUses, weight, best, step}
+use Rattle.extract_laws.specs.Extract.{allUses, weight, best, nextFree, step}
 
 pub data Stop : Type 0 where
   done asked numbers rows : Stop
 
--- a step made: its divisor, weight and uses
+-- a divisor with its weight and uses
+pub record Weighed : Type 0 where
+  pub divisor : Divisor
+  pub weight : ℤ
+  pub uses : ℕ
+
+-- a step made: its divisor with weight and uses, the number of its node, and the literal count of the network after it
 pub record Made : Type 0 where
   pub divisor : Divisor
   pub weight : ℤ
   pub uses : ℕ
+  pub number : ℕ
+  pub literals : ℕ
 
 pub record Result : Type 0 where
   pub network : Net
@@ -30,11 +38,11 @@ pub record Result : Type 0 where
 pub data Move : Type 0 where
   finished : Move
   stuck : Stop → Move
-  take : Divisor → Move
+  makes : Divisor → Move
 
 -- numbers: 64 variables; rows: the step would pass 1,088 cubes
 unfoldable pub roomFor : Net → Divisor → Move
-roomFor n d = cond (ltb (variables n) mostVariables) (cond (ltb mostCubes (cubeCount (step n d))) (stuck rows) (take d)) (stuck numbers)
+roomFor n d = cond (ltb (variables n) mostVariables) (cond (ltb mostCubes (cubeCount (step n d))) (stuck rows) (makes d)) (stuck numbers)
 
 -- done: no divisor with weight above 0
 unfoldable pub choose : Net → Option Divisor → Move
@@ -48,17 +56,25 @@ move n = choose n (best n)
 abbrev pub ended : Move → Stop
 ended finished = done
 ended (stuck r) = asked
-ended (take d) = asked
+ended (makes d) = asked
 
-abbrev pub made : Net → Divisor → Made
-made n d = record { divisor = d; weight = weight n d; uses = allUses n d }
+abbrev pub weighing : Net → Divisor → Weighed
+weighing n d = record { divisor = d; weight = weight n d; uses = allUses n d }
 
+abbrev pub making : Net → Divisor → Made
+making n d = record { divisor = d; weight = weight n d; uses = allUses n d; number = nextFree n; literals = literalCount (step n d) }
+
+-- what is done to a network before each step, and before the stop is judged: nothing
+unfoldable pub prepare : Net → Net
+prepare n = n
+
+-- from a network that is prepared
 unfoldable pub runFrom : ℕ → Net → Result
 runFrom zero n = record { network = n; stop = ended (move n); steps = [] }
 runFrom (suc k) n = elim (move n) [
   | finished ↦ record { network = n; stop = done; steps = [] }
   | stuck r ↦ record { network = n; stop = r; steps = [] }
-  | take d ↦ let r = runFrom k (step n d) in record { network = r .network; stop = r .stop; steps = made n d ∷ r .steps }
+  | makes d ↦ let r = runFrom k (prepare (step n d)) in record { network = r .network; stop = r .stop; steps = making n d ∷ r .steps }
 ]
 
 -- the cubes of every node in cube order
@@ -71,4 +87,4 @@ inOrder n = record {
 
 -- a run of k steps
 unfoldable pub run : ℕ → Net → Result
-run k n = runFrom k (inOrder n)
+run k n = runFrom k (prepare (inOrder n))
