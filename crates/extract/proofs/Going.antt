@@ -14,28 +14,30 @@ use borrow.Author.Tests.{leb-true, leb-false, le-ltb, lt-ltb}
 use Rattle.sets.proofs.Truth.{clash}
 use Rattle.network.specs.Net.{Net}
 use Rattle.network.specs.Held.{netOf, mostVariables}
-use Rattle.network.specs.Handed.{Holds, Shaped}
+use Rattle.network.specs.Handed.{Holds}
 use Rattle.network.specs.declared.Network.{Network}
 use Rattle.network.proofs.Holding.{rules-divisors, rules-iff}
-use Rattle.network.proofs.Limits.{rules-sized}
 use Rattle.extract_laws.specs.Divisor as extraction
 use Rattle.extract_laws.specs.Extract.{step}
-use Rattle.extract_laws.specs.Run.{Made, made, Result, Move, finished, take as taking, done, asked, move, ended, runFrom}
+use Rattle.extract_laws.specs.Run as laws
+use Rattle.extract_laws.specs.Run.{weighing, making, Result, Move, finished, makes, done, asked, move, ended, prepare, runFrom}
 use Rattle.extract_laws.specs.Meaning.{Good, Within, Worth, Allows}
 use Rattle.extract_laws.specs.Meaning.Allows.{nothing, noNumber, noRows, next}
-use Rattle.extract_laws.proofs.Running.{from-none, from-finished, from-stuck, from-take}
+use Rattle.extract_laws.proofs.Running.{from-none, from-finished, from-stuck, from-make}
 use Rattle.extract_laws.proofs.Moving.{worth-done, move-iff}
 use Rattle.extract_laws.proofs.Making.{step-variables}
+use Rattle.extract_laws.proofs.Preparing.{prepare-same}
 use Rattle.extract_laws.proofs.Following.{rules-good, rules-within}
-use Rattle.extract_divisor.specs.Divisor.{divisorOf, madeOf, noStep}
+use Rattle.extract_divisor.specs.Divisor.{divisorOf, weighedOf}
 use Rattle.extract_choice.specs.Choice.{chosenIn, Chosen}
 use Rattle.extract_divisor.specs.declared.Step.{Step}
-use Rattle.extract_step.specs.Replace.{outcome, Stepped}
+use Rattle.extract_step.specs.Replace.{outcome, After, Stepped}
 use Rattle.extract_step.specs.declared.Outcome.the-variants as Outcome
 use Rattle.extract_step.specs.declared.Next.{Next}
 use Rattle.extract_step.proofs.Keeping.{Takes, takes-is, takes-rules, takes-arranged}
-use Rattle.extract.specs.Answers.{stopOf, Lists, Told}
-use Rattle.extract.specs.Parts.{Runnable, endedAt, reasonOf, stoppedWith}
+use Rattle.extract.specs.Answers.{stopOf, madeOf, noMade, places, Lists, Told}
+use Rattle.extract.specs.Parts.{Runnable, madeBy, endedAt, reasonOf, stoppedWith}
+use Rattle.extract.specs.declared.Made.{Made}
 use Rattle.extract.specs.declared.Stop.{Stop}
 use Rattle.extract.specs.declared.Stop.the-variants.{Done, Asked}
 use Rattle.extract.proofs.Taking.{Choice, chosen-as, Taken, stepped-as}
@@ -43,54 +45,64 @@ use Rattle.extract.proofs.Taking.Choice.{nothingLeft, oneTaken}
 use Rattle.extract.proofs.Taking.Taken.{wasMade, wasNot}
 
 -- steps, and then a run
-abbrev after : List Made → Result → Result
+abbrev after : List laws.Made → Result → Result
 after l r = record { network = r .network; stop = r .stop; steps = l ++ r .steps }
 
 -- the steps that a list has
-abbrev listed : ℕ → List Step → List Made
+abbrev listed : ℕ → List Made → List laws.Made
 listed count list = map madeOf (take count list)
 
 -- of a run of k steps from m so many steps are listed, it goes on from the network for the steps left, and s is the best step there
-pub record Going (k : ℕ) (m : Net) (list : List Step) (count left : ℕ) (net : Network) (s : Step) : Type 0 where
+pub record Going (k : ℕ) (m : Net) (list : List Made) (count left : ℕ) (net : Network) (s : Step) : Type 0 where
   pub ready : Runnable net
-  pub shape : Shaped net
+  pub slots : length (net .counts) ≡ 96
+  pub words : length (net .words) ≡ 2176
   pub few : count ≤ net .divisors
-  pub places : length list ≡ mostVariables
-  pub rest : drop count list ≡ replicate (mostVariables - count) noStep
+  pub long : length list ≡ places
+  pub rest : drop count list ≡ replicate (places - count) noMade
   pub chosen : Chosen (chosenIn net) s
   pub goes : runFrom k m ≡ after (listed count list) (runFrom left (netOf net))
 
-pub going-first : (k : ℕ) (n : Network) (list : List Step) (s : Step) → Shaped n → Runnable n
-    → list ≡ replicate mostVariables noStep → Chosen (chosenIn n) s → Going k (netOf n) list 0 k n s
-going-first k n list s a r e c = record { ready = r; shape = a; few = omega arith; places = ap length e ∙ length-replicate mostVariables noStep; rest = e; chosen = c; goes = refl }
+pub going-first : (k : ℕ) (n : Network) (list : List Made) (s : Step) → length (n .counts) ≡ 96 → length (n .words) ≡ 2176 → Runnable n
+    → list ≡ replicate places noMade → Chosen (chosenIn n) s → Going k (netOf n) list 0 k n s
+going-first k n list s a b r e c = record {
+  ready = r;
+  slots = a;
+  words = b;
+  few = omega arith;
+  long = ap length e ∙ length-replicate places noMade;
+  rest = e;
+  chosen = c;
+  goes = refl;
+}
 
 -- a network that a run comes to
-module _ (n : Network) (shape : Shaped n) (r : Runnable n) where
+module _ (n : Network) (slots : length (n .counts) ≡ 96) (words : length (n .words) ≡ 2176) (r : Runnable n) where
   ready-good : Good (netOf n)
-  ready-good = rules-good n shape (r .lawful)
+  ready-good = rules-good n slots words (r .lawful)
 
   ready-within : Within (netOf n)
-  ready-within = rules-within n shape (r .lawful)
+  ready-within = rules-within n slots words (r .lawful)
 
   -- the numbers are not used up by the steps, each of which made a divisor
   ready-few : n .divisors < mostVariables
-  ready-few = let w = rules-iff n shape .0 (r .lawful) .lawful in omega (arith, w .inputs, w .within .variables, rules-divisors n shape (r .lawful))
+  ready-few = let w = rules-iff n slots .0 (r .lawful) in omega (arith, w .inputs, w .variables)
 
   -- and the one that a step leads to
-  module _ (p : Network) (d : extraction.Divisor) (t : Takes (netOf n) d p) where
-    next-is : netOf p ≡ step (netOf n) d
-    next-is = takes-is n p shape (r .lawful) d t
+  module _ (d : extraction.Divisor) (p : Next) (t : Takes (netOf n) d p) where
+    next-is : netOf (p .network) ≡ step (netOf n) d
+    next-is = takes-is n slots words (r .lawful) d p t
 
-    next-ready : Runnable p
+    next-ready : Runnable (p .network)
     next-ready = record {
-      lawful = takes-rules n p shape (r .lawful) d t;
-      tidy = takes-arranged n p shape (r .lawful) d t;
-      held = subst (Holds p) (sym next-is) (t .held);
+      lawful = takes-rules n slots words (r .lawful) d p t;
+      tidy = takes-arranged n slots words (r .lawful) d p t;
+      held = subst (Holds (p .network)) (sym next-is) (t .after .held);
     }
 
     -- one divisor more, and the same inputs
-    next-divisors : (p .divisors ≡ suc (n .divisors)) × (p .inputs ≡ n .inputs)
-    next-divisors = (omega (arith, t .held .divisors, step-variables (netOf n) d, rules-divisors n shape (r .lawful)), t .held .inputs)
+    next-divisors : (p .network .divisors ≡ suc (n .divisors)) × (p .network .inputs ≡ n .inputs)
+    next-divisors = let h = t .after .held in (omega (arith, h .divisors, step-variables (netOf n) d, rules-divisors n slots (r .lawful)), h .inputs)
 
 -- ---- why it ends
 
@@ -112,45 +124,51 @@ run-finished (suc left) n e = from-finished left n e
 run-asked : (n : Net) (d : extraction.Divisor) → Worth n d → runFrom 0 n ≡ record { network = n; stop = asked; steps = [] }
 run-asked n d w = from-none n ∙ go (move n) ((move-iff n (move n)) .0 refl)
   where
-    go : (m : Move) → Allows n m → _≡_ {A = Result} (record { network = n; stop = ended m; steps = [] }) (record { network = n; stop = asked; steps = [] })
+    go : (m : Move) → Allows n m
+        → _≡_ {A = Result} (record { network = n; stop = ended m; steps = [] }) (record { network = n; stop = asked; steps = [] })
     go m (nothing h) = absurd (worth-done n w h)
     go m (noNumber v l) = refl
     go m (noRows v l h) = refl
     go m (next v l h) = refl
 
-module _ {k : ℕ} {m : Net} {list : List Step} {count left : ℕ} {net : Network} {s : Step} (g : Going k m list count left net s) where
+module _ {k : ℕ} {m : Net} {list : List Made} {count left : ℕ} {net : Network} {s : Step} (g : Going k m list count left net s) where
   pub going-room : count < mostVariables
-  going-room = omega (arith, g .few, ready-few net (g .shape) (g .ready))
+  going-room = omega (arith, g .few, ready-few net (g .slots) (g .words) (g .ready))
 
   -- no more variables than there are numbers
   pub going-numbers : net .inputs + net .divisors ≤ mostVariables
-  going-numbers = (rules-sized net (g .shape) (g .ready .lawful)) .variables
+  going-numbers = (rules-iff net (g .slots) .0 (g .ready .lawful)) .variables
 
   made-length : length (listed count list) ≡ count
-  made-length = length-map (take count list) madeOf ∙ length-take-le count list (omega (arith, going-room, g .places))
+  made-length = length-map (take count list) madeOf ∙ length-take-le count list (omega (arith, going-room, g .long))
 
   -- one more step is listed
-  listed-next : listed (count + 1) (set list count s) ≡ listed count list ++ (madeOf s ∷ [])
-  listed-next =
-      ap (map madeOf) (ap (λ (c : ℕ). take c (set list count s)) (add-one count) ∙ take-suc-set list count s (omega (arith, going-room, g .places)))
-      ∙ map-append madeOf (take count list) (s ∷ [])
+  module _ (x : Made) where
+    listed-next : listed (count + 1) (set list count x) ≡ listed count list ++ (madeOf x ∷ [])
+    listed-next =
+        ap (map madeOf) (ap (λ (c : ℕ). take c (set list count x)) (add-one count) ∙ take-suc-set list count x (omega (arith, going-room, g .long)))
+        ∙ map-append madeOf (take count list) (x ∷ [])
 
-  listed-rest : drop (count + 1) (set list count s) ≡ replicate (mostVariables - (count + 1)) noStep
-  listed-rest =
-      let e : mostVariables - count ≡ suc (mostVariables - (count + 1)) = omega (arith, going-room) in
-      drop-set-lt (count + 1) list count s (omega arith) ∙ sym (drop-drop 1 count list) ∙ ap (drop 1) (g .rest ∙ ap (λ (c : ℕ). replicate c noStep) e)
+    listed-rest : drop (count + 1) (set list count x) ≡ replicate (places - (count + 1)) noMade
+    listed-rest =
+        let e : places - count ≡ suc (places - (count + 1)) = omega (arith, going-room) in
+        drop-set-lt (count + 1) list count x (omega arith) ∙ sym (drop-drop 1 count list)
+        ∙ ap (drop 1) (g .rest ∙ ap (λ (c : ℕ). replicate c noMade) e)
 
-  going-stop : (x : Stop) → runFrom left (netOf net) ≡ record { network = netOf net; stop = stopOf x; steps = [] } → Told (some (runFrom k m)) (stoppedWith x net count list)
+  going-stop : (x : Stop) → runFrom left (netOf net) ≡ record { network = netOf net; stop = stopOf x; steps = [] }
+      → Told (some (runFrom k m)) (stoppedWith x net count list)
   going-stop x e = subst (λ (z : Result). Told (some z) (stoppedWith x net count list)) (sym whole) ((x, refl, refl), g .ready .held, lists)
     where
       whole : runFrom k m ≡ record { network = netOf net; stop = stopOf x; steps = listed count list }
-      whole = g .goes ∙ ap (after (listed count list)) e ∙ ap (λ (l : List Made). record { network = netOf net; stop = stopOf x; steps = l }) (append-nil (listed count list))
+      whole =
+          g .goes ∙ ap (after (listed count list)) e
+          ∙ ap (λ (l : List laws.Made). record { network = netOf net; stop = stopOf x; steps = l }) (append-nil (listed count list))
 
       lists : Lists (record { count = count; list = list }) (listed count list)
       lists = record {
         number = sym made-length;
         steps = ap (λ (c : ℕ). listed c list) made-length;
-        rest = ap (λ (c : ℕ). drop c list) made-length ∙ g .rest ∙ ap (λ (c : ℕ). replicate (mostVariables - c) noStep) (sym made-length);
+        rest = ap (λ (c : ℕ). drop c list) made-length ∙ g .rest ∙ ap (λ (c : ℕ). replicate (places - c) noMade) (sym made-length);
       }
 
   choice : Choice (netOf net) s
@@ -162,15 +180,20 @@ module _ {k : ℕ} {m : Net} {list : List Step} {count left : ℕ} {net : Networ
 
   -- no step is left to make
   pub going-ended : left ≡ 0 → Told (some (runFrom k m)) (stoppedWith (endedAt (s .weight)) net count list)
-  going-ended z = elim choice [ nothingLeft p e ↦ rw p (going-stop Done (run-finished left (netOf net) e)) | oneTaken p w q ↦ rw p (going-stop Asked (ap (λ (x : ℕ). runFrom x (netOf net)) z ∙ run-asked (netOf net) (divisorOf (s .divisor)) w)) ]
+  going-ended z = elim choice [
+    | nothingLeft p e ↦ rw p (going-stop Done (run-finished left (netOf net) e))
+    | oneTaken p w q ↦ rw p (going-stop Asked (ap (λ (x : ℕ). runFrom x (netOf net)) z ∙ run-asked (netOf net) (divisorOf (s .divisor)) w))
+  ]
 
   module _ (h : ltZ (pos 0) (s .weight) ≡ true) where
-    worth : Worth (netOf net) (divisorOf (s .divisor)) × (madeOf s ≡ made (netOf net) (divisorOf (s .divisor)))
+    worth : Worth (netOf net) (divisorOf (s .divisor)) × (weighedOf s ≡ weighing (netOf net) (divisorOf (s .divisor)))
     worth = elim choice [ nothingLeft p e ↦ clash h p | oneTaken p w q ↦ (w, q) ]
 
     module _ (l : 0 < left) (t : Next) (o : Stepped net (outcome net (s .divisor)) t) where
       taken : Taken (netOf net) (divisorOf (s .divisor)) t
-      taken = stepped-as net (s .divisor) t (g .ready .tidy) (ready-within net (g .shape) (g .ready) .literals) (ready-good net (g .shape) (g .ready)) (worth .0) o
+      taken =
+          stepped-as net (s .divisor) t (g .ready .tidy) (ready-within net (g .slots) (g .words) (g .ready) .literals)
+          (ready-good net (g .slots) (g .words) (g .ready)) (worth .0) o
 
       some-left : left ≡ suc (left - 1)
       some-left = omega arith
@@ -179,42 +202,60 @@ module _ {k : ℕ} {m : Net} {list : List Step} {count left : ℕ} {net : Networ
       pub going-full : (t .outcome ≡ Outcome.Made → ⊥) → Told (some (runFrom k m)) (stoppedWith (reasonOf (t .outcome)) net count list)
       going-full f = elim taken [
         | wasMade q e i ↦ absurd (f q)
-        | wasNot q e ↦ going-stop (reasonOf (t .outcome)) (ap (λ (z : ℕ). runFrom z (netOf net)) some-left ∙ from-stuck (left - 1) (netOf net) (stopOf (reasonOf (t .outcome))) e)
+        | wasNot q e ↦ going-stop (reasonOf (t .outcome))
+            (ap (λ (z : ℕ). runFrom z (netOf net)) some-left ∙ from-stuck (left - 1) (netOf net) (stopOf (reasonOf (t .outcome))) e)
       ]
 
       -- the step is made, and listed
-      module _ (shape-t : Shaped (t .network)) (b : Step) (c : Chosen (chosenIn (t .network)) b) (q : t .outcome ≡ Outcome.Made) where
-        pub going-on : Going k m (set list count s) (count + 1) (left - 1) (t .network) b × (t .network .inputs + t .network .divisors ≡ suc (net .inputs + net .divisors))
+      module _ (slots-t : length (t .network .counts) ≡ 96) (words-t : length (t .network .words) ≡ 2176)
+          (x : Made) (y : x ≡ madeBy s (t .number) (t .literals)) (b : Step) (c : Chosen (chosenIn (t .network)) b) (q : t .outcome ≡ Outcome.Made) where
+        abbrev d : extraction.Divisor
+        d = divisorOf (s .divisor)
+
+        step-made : After (netOf net) d t → madeOf x ≡ making (netOf net) d
+        step-made a = ap madeOf y ∙ (λ i. record {
+          divisor = d;
+          weight = worth .1 i .weight;
+          uses = worth .1 i .uses;
+          number = a .number i;
+          literals = a .literals i;
+        })
+
+        abbrev Onward : Type 0
+        Onward =
+            Going k m (set list count x) (count + 1) (left - 1) (t .network) b
+            × (t .network .inputs + t .network .divisors ≡ suc (net .inputs + net .divisors))
+
+        pub going-on : Onward
         going-on = elim taken [ wasMade p e i ↦ go e i | wasNot p e ↦ absurd (p q) ]
           where
-            d : extraction.Divisor
-            d = divisorOf (s .divisor)
-
-            go : move (netOf net) ≡ taking d → Takes (netOf net) d (t .network)
-                → Going k m (set list count s) (count + 1) (left - 1) (t .network) b × (t .network .inputs + t .network .divisors ≡ suc (net .inputs + net .divisors))
+            go : move (netOf net) ≡ makes d → Takes (netOf net) d t → Onward
             go e i = (
               record {
                 ready = ready;
-                shape = shape-t;
+                slots = slots-t;
+                words = words-t;
                 few = omega (arith, g .few, more .0);
-                places = length-set list count s ∙ g .places;
-                rest = listed-rest;
+                long = length-set list count x ∙ g .long;
+                rest = listed-rest x;
                 chosen = c;
-                goes = g .goes ∙ ap (after (listed count list)) (ap (λ (z : ℕ). runFrom z (netOf net)) some-left ∙ from-take (left - 1) (netOf net) d e)
-                    ∙ ap (λ (l : List Made). record { network = ran .network; stop = ran .stop; steps = l }) (sym (append-assoc (listed count list) (made (netOf net) d ∷ []) (ran .steps)))
-                    ∙ ap₂ (λ (l : List Made) (z : Net). after l (runFrom (left - 1) z)) (sym (listed-next ∙ ap (λ (x : Made). listed count list ++ (x ∷ [])) (worth .1))) (sym is);
+                goes = g .goes ∙ ap (after (listed count list)) (ap (λ (z : ℕ). runFrom z (netOf net)) some-left ∙ from-make (left - 1) (netOf net) d e)
+                    ∙ ap (λ (l : List laws.Made). record { network = ran .network; stop = ran .stop; steps = l })
+                    (sym (append-assoc (listed count list) (making (netOf net) d ∷ []) (ran .steps)))
+                    ∙ ap₂ (λ (l : List laws.Made) (z : Net). after l (runFrom (left - 1) z))
+                    (sym (listed-next x ∙ ap (λ (z : laws.Made). listed count list ++ (z ∷ [])) (step-made (i .after)))) (sym is);
               },
               omega (arith, more),
             )
               where
                 ran : Result
-                ran = runFrom (left - 1) (step (netOf net) d)
+                ran = runFrom (left - 1) (prepare (step (netOf net) d))
 
                 ready : Runnable (t .network)
-                ready = next-ready net (g .shape) (g .ready) (t .network) d i
+                ready = next-ready net (g .slots) (g .words) (g .ready) d t i
 
-                is : netOf (t .network) ≡ step (netOf net) d
-                is = next-is net (g .shape) (g .ready) (t .network) d i
+                is : netOf (t .network) ≡ prepare (step (netOf net) d)
+                is = next-is net (g .slots) (g .words) (g .ready) d t i ∙ sym (prepare-same (step (netOf net) d))
 
                 more : (t .network .divisors ≡ suc (net .divisors)) × (t .network .inputs ≡ net .inputs)
-                more = next-divisors net (g .shape) (g .ready) (t .network) d i
+                more = next-divisors net (g .slots) (g .words) (g .ready) d t i

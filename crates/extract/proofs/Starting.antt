@@ -1,34 +1,39 @@
 -- Where a run starts: from the network in cube order, or nowhere where a rule is broken. Assumes nothing.
 use Prim.Native.Nat.{ℕ}
-use mathlib.Core.Path.{_≡_, refl, sym, subst}
+use mathlib.Core.Path.{_≡_, refl, sym, ap, _∙_, subst}
 use mathlib.Core.Bool.{true, false}
 use mathlib.Core.Option.{some}
 use native.Mathlib.Omega.{arith}
-use lib.ListN.{length, replicate}
+use lib.ListN.{length}
 use Rattle.sets.proofs.Lists.{_∈_}
 use Rattle.network.specs.Net.{Net, nodes}
-use Rattle.network.specs.Held.{netOf, rules, mostVariables}
-use Rattle.network.specs.Handed.{Holds, Blank, Shaped}
+use Rattle.network.specs.Held.{netOf, rules}
+use Rattle.network.specs.Handed.{Holds, Blank}
 use Rattle.network.specs.declared.Network.{Network}
 use Rattle.network.proofs.Ruling.{rules-lawful}
 use Rattle.network.proofs.Handing.{holds-net}
 use Rattle.extract_laws.specs.Run.{runFrom, inOrder, run}
 use Rattle.extract_laws.specs.Meaning.{Good, Within}
-use Rattle.extract_laws.proofs.Arranging.{in-order-inputs, in-order-outputs, in-order-variables, in-order-cubes, in-order-literals, in-order-good, in-order-ordered}
+use Rattle.extract_laws.proofs.Arranging.{
+  in-order-inputs, in-order-outputs, in-order-variables, in-order-cubes, in-order-literals,
+  in-order-good, in-order-ordered,
+}
+use Rattle.extract_laws.proofs.Preparing.{prepare-same}
 use Rattle.extract_laws.proofs.Following.{rules-good, rules-within, holds-rules}
 use Rattle.extract_tidy.proofs.Arranged.{arranged-in}
-use Rattle.extract_divisor.specs.Divisor.{noStep}
-use Rattle.extract.specs.Answers.{ran, Told}
+use Rattle.extract.specs.Answers.{noSteps, runOn, Told}
 use Rattle.extract.specs.Parts.{Runnable}
 use Rattle.extract.specs.declared.Answer.the-variants.{Refused}
+use Rattle.extract.specs.declared.Steps.{Steps}
 use Rattle.extract.specs.declared.Ran.{Ran}
 
-module _ (n p : Network) (shape : Shaped n) (r : rules n ≡ true) (h : Holds p (inOrder (netOf n))) where
+module _ (n p : Network) (slots : length (n .counts) ≡ 96) (words : length (n .words) ≡ 2176)
+    (r : rules n ≡ true) (h : Holds p (inOrder (netOf n))) where
   good : Good (inOrder (netOf n))
-  good = in-order-good (netOf n) (rules-good n shape r)
+  good = in-order-good (netOf n) (rules-good n slots words r)
 
   within : Within (inOrder (netOf n))
-  within = let w = rules-within n shape r in record {
+  within = let w = rules-within n slots words r in record {
     variables = omega (arith, in-order-variables (netOf n), w .variables);
     cubes = omega (arith, in-order-cubes (netOf n), w .cubes);
     literals = omega (arith, in-order-literals (netOf n), w .literals);
@@ -39,7 +44,7 @@ module _ (n p : Network) (shape : Shaped n) (r : rules n ≡ true) (h : Holds p 
 
   lawful : rules p ≡ true
   lawful =
-      let w = rules-lawful n shape r in
+      let w = rules-lawful n slots words r in
       holds-rules p (inOrder (netOf n)) h good within (omega (arith, w .inputs, in-order-inputs (netOf n)))
       (omega (arith, w .outputs, in-order-outputs (netOf n)))
 
@@ -47,16 +52,18 @@ module _ (n p : Network) (shape : Shaped n) (r : rules n ≡ true) (h : Holds p 
   pub start-ready : Runnable p
   start-ready = record {
     lawful = lawful;
-    tidy = arranged-in p lawful (λ f m. in-order-ordered (netOf n) (rules-good n shape r) f (subst (λ (z : Net). f ∈ nodes z) start-is m));
+    tidy = arranged-in p lawful (λ f m.
+      in-order-ordered (netOf n) (rules-good n slots words r) f (subst (λ (z : Net). f ∈ nodes z) start-is m));
     held = subst (Holds p) (sym start-is) h;
   }
 
   -- and is the run of the network
-  pub start-told : (k : ℕ) (t : Ran) → Told (some (runFrom k (netOf p))) t → Told (ran k n) t
-  unfolding ran run
-  start-told k t g = rw r (subst (λ (z : Net). Told (some (runFrom k z)) t) start-is g)
+  pub start-told : (k : ℕ) (t : Ran) → Told (some (runFrom k (netOf p))) t → Told (runOn k n) t
+  unfolding runOn run
+  start-told k t g = rw r (subst (λ (z : Net). Told (some (runFrom k z)) t) (start-is ∙ sym (prepare-same (inOrder (netOf n)))) g)
 
 -- no step where a rule is broken
-pub refused-told : (k : ℕ) (n : Network) (t : Ran) → rules n ≡ false → t .answer ≡ Refused 10 → Blank (t .network) → t .steps .count ≡ 0 → t .steps .list ≡ replicate mostVariables noStep → Told (ran k n) t
-unfolding ran
-refused-told k n t r a b c l = rw r (a, b, record { number = c; steps = refl; rest = l })
+pub refused-told : (k : ℕ) (n : Network) (t : Ran) → rules n ≡ false → t .answer ≡ Refused 10 → Blank (t .network) → t .steps ≡ noSteps
+    → Told (runOn k n) t
+unfolding runOn
+refused-told k n t r a b e = rw r (a, b, record { number = ap (λ (s : Steps). s .count) e; steps = refl; rest = ap (λ (s : Steps). s .list) e })

@@ -12,7 +12,7 @@ use Rattle.network.specs.Held.{netOf, mostLiterals}
 use Rattle.network.specs.declared.Network.{Network}
 use Rattle.extract_laws.specs.Divisor as extraction
 use Rattle.extract_laws.specs.Extract.{weight, best, step}
-use Rattle.extract_laws.specs.Run.{Made, made, Move, finished, stuck, take, roomFor, choose, move}
+use Rattle.extract_laws.specs.Run.{Weighed, weighing, Move, finished, stuck, makes, roomFor, choose, move}
 use Rattle.extract_laws.specs.Meaning.{Good, Worth, Allows}
 use Rattle.extract_laws.specs.Meaning.Allows.{nothing, noNumber, noRows, next}
 use Rattle.extract_laws.proofs.Weighing.{step-smaller}
@@ -20,7 +20,7 @@ use Rattle.extract_laws.proofs.Choosing.{best-iff}
 use Rattle.extract_laws.proofs.Moving.{worth-done, worth-one, move-iff}
 use Rattle.extract_laws.proofs.Keeping.{worth-fit}
 use Rattle.extract_tidy.specs.Tidy.{arranged}
-use Rattle.extract_divisor.specs.Divisor.{divisorOf, madeOf}
+use Rattle.extract_divisor.specs.Divisor.{divisorOf, weighedOf}
 use Rattle.extract_choice.specs.Choice.{worthIn, chosenIn, Chosen}
 use Rattle.extract_divisor.specs.declared.Divisor.{Divisor}
 use Rattle.extract_divisor.specs.declared.Step.{Step}
@@ -37,7 +37,7 @@ use Rattle.extract.specs.Parts.{reasonOf}
 -- nothing is left, or the step is that of the best divisor
 pub data Choice (n : Net) (s : Step) : Type 0 where
   nothingLeft : ltZ (pos 0) (s .weight) ≡ false → move n ≡ finished → Choice n s
-  oneTaken : ltZ (pos 0) (s .weight) ≡ true → Worth n (divisorOf (s .divisor)) → madeOf s ≡ made n (divisorOf (s .divisor)) → Choice n s
+  oneTaken : ltZ (pos 0) (s .weight) ≡ true → Worth n (divisorOf (s .divisor)) → weighedOf s ≡ weighing n (divisorOf (s .divisor)) → Choice n s
 
 worth-as : (n : Net) (s : Step) → Chosen (worthIn n (best n)) s → Choice n s
 unfolding worthIn move choose
@@ -47,10 +47,11 @@ worth-as n s = go (best n) refl
     go none e h = nothingLeft (ap (λ (t : Step). ltZ (pos 0) (t .weight)) h) (ap (choose n) e)
     go (some d) e h = weigh (ltZ (pos 0) (weight n d)) refl h
       where
-        weigh : (b : Bool) → ltZ (pos 0) (weight n d) ≡ b → Chosen (cond b (some (made n d)) none) s → Choice n s
+        weigh : (b : Bool) → ltZ (pos 0) (weight n d) ≡ b → Chosen (cond b (some (weighing n d)) none) s → Choice n s
         weigh true w h =
-            let q : divisorOf (s .divisor) ≡ d = ap (λ (t : Made). t .divisor) h in
-            oneTaken (ap (λ (t : Made). ltZ (pos 0) (t .weight)) h ∙ w) (subst (Worth n) (sym q) (record { best = best-iff n d .0 e; above = w })) (h ∙ ap (made n) (sym q))
+            let q : divisorOf (s .divisor) ≡ d = ap (λ (t : Weighed). t .divisor) h in
+            oneTaken (ap (λ (t : Weighed). ltZ (pos 0) (t .weight)) h ∙ w) (subst (Worth n) (sym q) (record { best = best-iff n d .0 e; above = w }))
+            (h ∙ ap (weighing n) (sym q))
         weigh false w h = nothingLeft (ap (λ (t : Step). ltZ (pos 0) (t .weight)) h) (ap (choose n) e ∙ rw w)
 
 pub chosen-as : (n : Network) (s : Step) → arranged n ≡ true → Chosen (chosenIn n) s → Choice (netOf n) s
@@ -61,10 +62,11 @@ chosen-as n s a h = worth-as (netOf n) s (subst (λ (b : Bool). Chosen (cond b (
 
 -- there is room, and the network after the step is held; or there is none
 pub data Taken (n : Net) (d : extraction.Divisor) (t : Next) : Type 0 where
-  wasMade : t .outcome ≡ Outcome.Made → move n ≡ take d → Takes n d (t .network) → Taken n d t
+  wasMade : t .outcome ≡ Outcome.Made → move n ≡ makes d → Takes n d t → Taken n d t
   wasNot : (t .outcome ≡ Outcome.Made → ⊥) → move n ≡ stuck (stopOf (reasonOf (t .outcome))) → Taken n d t
 
-module _ (n : Network) (d : Divisor) (t : Next) (a : arranged n ≡ true) (few : literalCount (netOf n) ≤ mostLiterals) (g : Good (netOf n)) (w : Worth (netOf n) (divisorOf d)) where
+module _ (n : Network) (d : Divisor) (t : Next) (a : arranged n ≡ true) (few : literalCount (netOf n) ≤ mostLiterals)
+    (g : Good (netOf n)) (w : Worth (netOf n) (divisorOf d)) where
   outcome-room : outcome n d ≡ allowed (netOf n) (roomFor (netOf n) (divisorOf d))
   unfolding outcome
   outcome-room = rw (a, fitting-iff (netOf n) (divisorOf d) .1 (worth-fit g w))
@@ -74,14 +76,18 @@ module _ (n : Network) (d : Divisor) (t : Next) (a : arranged n ≡ true) (few :
   move-room = ap (choose (netOf n)) (best-iff (netOf n) (divisorOf d) .1 (w .best)) ∙ rw (w .above)
 
   pub stepped-as : Stepped n (outcome n d) t → Taken (netOf n) (divisorOf d) t
-  stepped-as o = go (move (netOf n)) refl ((move-iff (netOf n) (move (netOf n))) .0 refl) (subst (λ (o : Option Move). Stepped n o t) (outcome-room ∙ ap (allowed (netOf n)) (sym move-room)) o)
+  stepped-as o =
+      go (move (netOf n)) refl ((move-iff (netOf n) (move (netOf n))) .0 refl)
+      (subst (λ (o : Option Move). Stepped n o t) (outcome-room ∙ ap (allowed (netOf n)) (sym move-room)) o)
     where
       go : (m : Move) → move (netOf n) ≡ m → Allows (netOf n) m → Stepped n (allowed (netOf n) m) t → Taken (netOf n) (divisorOf d) t
       go m e (nothing h) s = absurd (worth-done (netOf n) w h)
-      go m e (noNumber v l) s = wasNot (λ p. let z : _≡_ {A = ℕ} 0 1 = cc (s .0) in omega arith) (e ∙ ap (λ o. stuck (stopOf (reasonOf o))) (sym (s .0)))
-      go m e (noRows v l k) s = wasNot (λ p. let z : _≡_ {A = ℕ} 0 1 = cc (s .0) in omega arith) (e ∙ ap (λ o. stuck (stopOf (reasonOf o))) (sym (s .0)))
+      go m e (noNumber v l) s =
+          wasNot (λ p. let z : _≡_ {A = ℕ} 0 1 = cc (s .0) in omega arith) (e ∙ ap (λ o. stuck (stopOf (reasonOf o))) (sym (s .0)))
+      go m e (noRows v l k) s =
+          wasNot (λ p. let z : _≡_ {A = ℕ} 0 1 = cc (s .0) in omega arith) (e ∙ ap (λ o. stuck (stopOf (reasonOf o))) (sym (s .0)))
       go m e (next {d = x} v l k) s =
           -- no weight above 0 passes the most literals
           let f : literalCount (step (netOf n) x) ≤ mostLiterals = omega (arith, step-smaller (netOf n) g x (worth-fit g v .whole) (v .above)) in
           let q : t .outcome ≡ Outcome.Made = (rw (le-ltb mostLiterals (literalCount (step (netOf n) x)) f) at s) .0 in
-          wasMade q (e ∙ ap take (worth-one (netOf n) v w)) (stepped-takes n d t o q)
+          wasMade q (e ∙ ap makes (worth-one (netOf n) v w)) (stepped-takes n d t o q)

@@ -19,22 +19,22 @@ use Rattle.network.specs.Held.{netOf, rules}
 use Rattle.network.specs.Answers.{counted, evaluated}
 use Rattle.network.specs.declared.Network.{Network}
 use Rattle.network.specs.declared.Number.the-variants.{Is}
-use Rattle.network.proofs.Handing.{holds-net, holds-one, blank-one, Typed}
-use Rattle.network.specs.Handed.{Shaped}
+use Rattle.network.proofs.Handing.{holds-net, holds-one, blank-one}
 use Rattle.extract_laws.specs.Run as extraction
-use Rattle.extract_laws.specs.Run.{Made, Result, done, asked, numbers, rows, inOrder, run}
+use Rattle.extract_laws.specs.Run.{Result, done, asked, numbers, rows, prepare, inOrder, run}
 use Rattle.extract_laws.specs.Meaning.{Leads, fall}
 use Rattle.extract_laws.proofs.Running.{run-leads}
 use Rattle.extract_laws.proofs.Keeping.{run-good, run-literals}
 use Rattle.extract_laws.proofs.Following.{rules-good, run-rules, run-evaluated}
-use Rattle.extract_divisor.specs.Divisor.{divisorOf, madeOf}
+use Rattle.extract_tidy.proofs.Tidied.{Shaped}
+use Rattle.extract_divisor.specs.Divisor.{divisorOf}
 use Rattle.extract_divisor.specs.declared.Divisor.{Divisor}
 use Rattle.extract_divisor.specs.declared.Divisor.the-variants.{Pair, Sum}
-use Rattle.extract_divisor.specs.declared.Step.{Step}
-use Rattle.extract.specs.Answers.{stopOf, Lists, ran, Told}
+use Rattle.extract.specs.Answers.{stopOf, madeOf, Lists, runOn, Told}
 use Rattle.extract.specs.declared.Stop.{Stop}
 use Rattle.extract.specs.declared.Stop.the-variants.{Done, Asked, Numbers, Rows}
 use Rattle.extract.specs.declared.Answer.the-variants.{Stopped}
+use Rattle.extract.specs.declared.Made.{Made}
 use Rattle.extract.specs.declared.Steps.{Steps}
 use Rattle.extract.specs.declared.Ran.{Ran}
 
@@ -70,18 +70,21 @@ divisor-one (Sum a b) (Sum c d) h k e =
     let q = both (fitCube c) (fitCube d) k in
     ap₂ Sum (cube-one a c (p .0) (q .0) x) (cube-one b d (p .1) (q .1) y)
 
-abbrev pub fitStep : Step → Bool
+abbrev pub fitStep : Made → Bool
 fitStep s = fitDivisor (s .divisor)
 
-step-one : (s t : Step) → fitStep s ≡ true → fitStep t ≡ true → madeOf s ≡ madeOf t → s ≡ t
+step-one : (s t : Made) → fitStep s ≡ true → fitStep t ≡ true → madeOf s ≡ madeOf t → s ≡ t
 step-one s t h k e = λ i. record {
-  divisor = divisor-one (s .divisor) (t .divisor) h k (ap (λ (m : Made). m .divisor) e) i;
+  divisor = divisor-one (s .divisor) (t .divisor) h k (ap (λ (m : extraction.Made). m .divisor) e) i;
   weight = e i .weight;
   uses = e i .uses;
+  number = record { 0 = e i .number };
+  literals = e i .literals;
 }
 
 -- as many steps in front, and the same after them
-list-one : (k : ℕ) (l m : List Step) → all fitStep l ≡ true → all fitStep m ≡ true → map madeOf (take k l) ≡ map madeOf (take k m) → drop k l ≡ drop k m → l ≡ m
+list-one : (k : ℕ) (l m : List Made) → all fitStep l ≡ true → all fitStep m ≡ true → map madeOf (take k l) ≡ map madeOf (take k m)
+    → drop k l ≡ drop k m → l ≡ m
 list-one zero l m h g e r = r
 list-one (suc k) [] [] h g e r = refl
 list-one (suc k) [] (y ∷ m) h g e r = absurd (nil≢cons e)
@@ -107,18 +110,18 @@ back-stop Rows = refl
 
 -- an answer whose words and masks are of 64 bits
 pub record FitRan (r : Ran) : Type 0 where
-  pub network : Typed (r .network)
+  pub network : Shaped (r .network)
   pub steps : all fitStep (r .steps .list) ≡ true
 
-lists-one : (s t : Steps) (l : List Made) → all fitStep (s .list) ≡ true → all fitStep (t .list) ≡ true → Lists s l → Lists t l → s ≡ t
+lists-one : (s t : Steps) (l : List extraction.Made) → all fitStep (s .list) ≡ true → all fitStep (t .list) ≡ true → Lists s l → Lists t l → s ≡ t
 lists-one s t l h k p q = λ i. record {
   count = (p .number ∙ sym (q .number)) i;
   list = list-one (length l) (s .list) (t .list) h k (p .steps ∙ sym (q .steps)) (p .rest ∙ sym (q .rest)) i;
 }
 
 -- two answers to one run are the same
-pub told-one : (k : ℕ) (n : Network) (r s : Ran) → FitRan r → FitRan s → Told (ran k n) r → Told (ran k n) s → r ≡ s
-told-one k n r s a b = go (ran k n)
+pub told-one : (k : ℕ) (n : Network) (r s : Ran) → FitRan r → FitRan s → Told (runOn k n) r → Told (runOn k n) s → r ≡ s
+told-one k n r s a b = go (runOn k n)
   where
     join : r .answer ≡ s .answer → r .network ≡ s .network → r .steps ≡ s .steps → r ≡ s
     join x y z = λ i. record { answer = x i; network = y i; steps = z i }
@@ -127,41 +130,42 @@ told-one k n r s a b = go (ran k n)
     go (some t) ((x, p, u), h, l) ((y, q, v), g, m) =
         let e : x ≡ y = sym (back-stop x) ∙ ap back (u ∙ sym v) ∙ back-stop y in
         join (p ∙ ap Stopped e ∙ sym q)
-        (holds-one (r .network) (s .network) (t .network) (a .network) (b .network) h g)
+        (holds-one (r .network) (s .network) (t .network) (a .network .places) (b .network .places) (a .network .fits) (b .network .fits) h g)
         (lists-one (r .steps) (s .steps) (t .steps) (a .steps) (b .steps) l m)
     go none (p, h, l) (q, g, m) = join (p ∙ sym q) (blank-one (r .network) (s .network) h g) (lists-one (r .steps) (s .steps) [] (a .steps) (b .steps) l m)
 
 -- ---- in the paper's words
 
 -- the steps that an answer lists
-abbrev pub stepsOf : Ran → List Made
+abbrev pub stepsOf : Ran → List extraction.Made
 stepsOf r = map madeOf (take (r .steps .count) (r .steps .list))
 
-module _ (k : ℕ) (n : Network) (r : Ran) (shape : Shaped n)
-    (h : rules n ≡ true) (t : Told (ran k n) r) where
+module _ (k : ℕ) (n : Network) (r : Ran) (slots : length (n .counts) ≡ 96) (words : length (n .words) ≡ 2176)
+    (h : rules n ≡ true) (t : Told (runOn k n) r) where
   ran-told : Told (some (run k (netOf n))) r
-  unfolding ran
+  unfolding runOn
   ran-told = rw h at t
 
   ran-steps : stepsOf r ≡ run k (netOf n) .steps
   ran-steps = let l = ran-told .2 in ap (λ (c : ℕ). map madeOf (take c (r .steps .list))) (l .number) ∙ l .steps
 
   ran-network : netOf (r .network) ≡ run k (netOf n) .network
-  ran-network = holds-net (r .network) (run k (netOf n) .network) (ran-told .1) ((run-good k (netOf n) (rules-good n shape h)) .inTurn)
+  ran-network = holds-net (r .network) (run k (netOf n) .network) (ran-told .1) ((run-good k (netOf n) (rules-good n slots words h)) .inTurn)
 
   -- the resulting network follows the rules and keeps the limits
   pub ran-rules : rules (r .network) ≡ true
-  ran-rules = run-rules n (r .network) shape k h (ran-told .1)
+  ran-rules = run-rules n (r .network) slots words k h (ran-told .1)
 
   -- outputs after a run are those before, for every setting
   pub ran-outputs : (s : ℕ) → evaluated (r .network) s ≡ evaluated n s
-  ran-outputs = run-evaluated n (r .network) shape k h (ran-told .1)
+  ran-outputs = run-evaluated n (r .network) slots words k h (ran-told .1)
 
   -- each step listed takes the best divisor of the network that it is made on
-  pub ran-leads : Leads (inOrder (netOf n)) (stepsOf r) (netOf (r .network))
+  pub ran-leads : Leads (prepare (inOrder (netOf n))) (stepsOf r) (netOf (r .network))
   ran-leads =
-      subst (λ (l : List Made). Leads (inOrder (netOf n)) l (netOf (r .network))) (sym ran-steps)
-      (subst (Leads (inOrder (netOf n)) (run k (netOf n) .steps)) (sym ran-network) (run-leads k (netOf n)))
+      let m = prepare (inOrder (netOf n)) in
+      subst (λ (l : List extraction.Made). Leads m l (netOf (r .network))) (sym ran-steps)
+      (subst (Leads m (run k (netOf n) .steps)) (sym ran-network) (run-leads k (netOf n)))
 
   -- the literal count, counted over the resulting network, is that of the start less the weights of the steps
   pub ran-literals : (counted n ≡ Is (literalCount (netOf n))) × (counted (r .network) ≡ Is (literalCount (netOf (r .network))))
@@ -170,5 +174,5 @@ module _ (k : ℕ) (n : Network) (r : Ran) (shape : Shaped n)
   ran-literals = (
     rw h,
     rw ran-rules,
-    ap (λ z. pos (literalCount z)) ran-network ∙ run-literals k (netOf n) (rules-good n shape h) ∙ ap (λ l. pos (literalCount (netOf n)) -ℤ fall l) (sym ran-steps),
+    ap (λ z. pos (literalCount z)) ran-network ∙ run-literals k (netOf n) (rules-good n slots words h) ∙ ap (λ l. pos (literalCount (netOf n)) -ℤ fall l) (sym ran-steps),
   )

@@ -4,16 +4,19 @@ use mathlib.Core.Path.{_≡_}
 use mathlib.Core.Bool.{cond}
 use mathlib.Core.List.{List, [], map}
 use mathlib.Core.Option.{Option, none, some}
+use lib.IntN.{pos}
 use lib.ListN.{length, take, drop, replicate}
 use Rattle.network.specs.Held.{netOf, rules, mostVariables}
 use Rattle.network.specs.Handed.{Holds, Blank}
 use Rattle.network.specs.declared.Network.{Network}
 use Rattle.extract_laws.specs.Run as extraction
-use Rattle.extract_laws.specs.Run.{Made, Result, done, asked, numbers, rows, run}
-use Rattle.extract_divisor.specs.Divisor.{madeOf, noStep}
+use Rattle.extract_laws.specs.Run.{Result, done, asked, numbers, rows, run}
+use Rattle.extract_divisor.specs.Divisor.{divisorOf}
+use Rattle.extract_divisor.specs.declared.Divisor.the-variants.{Pair}
 use Rattle.extract.specs.declared.Stop.{Stop}
 use Rattle.extract.specs.declared.Stop.the-variants.{Done, Asked, Numbers, Rows}
 use Rattle.extract.specs.declared.Answer.the-variants.{Stopped, Refused}
+use Rattle.extract.specs.declared.Made.{Made}
 use Rattle.extract.specs.declared.Steps.{Steps}
 use Rattle.extract.specs.declared.Ran.{Ran}
 
@@ -24,16 +27,39 @@ stopOf Asked = asked
 stopOf Numbers = numbers
 stopOf Rows = rows
 
+-- the step made that a value means
+abbrev pub madeOf : Made → extraction.Made
+madeOf s = record { divisor = divisorOf (s .divisor); weight = s .weight; uses = s .uses; number = s .number .0; literals = s .literals }
+
+-- the step of zeros
+abbrev pub noMade : Made
+noMade = record {
+  divisor = Pair (record { 0 = 0 }) (record { 0 = 0 });
+  weight = pos 0;
+  uses = 0;
+  number = record { 0 = 0 };
+  literals = 0;
+}
+
+-- the places of a list of steps: each step makes a divisor
+abbrev pub places : ℕ
+places = mostVariables
+
+-- no steps made
+abbrev pub noSteps : Steps
+noSteps = record { count = 0; list = replicate places noMade }
+
 -- so many steps, each as it was made, and steps of zeros after them
-pub record Lists (s : Steps) (l : List Made) : Type 0 where
+pub record Lists (s : Steps) (l : List extraction.Made) : Type 0 where
   pub number : s .count ≡ length l
   pub steps : map madeOf (take (length l) (s .list)) ≡ l
-  pub rest : drop (length l) (s .list) ≡ replicate (mostVariables - length l) noStep
+  pub rest : drop (length l) (s .list) ≡ replicate (places - length l) noMade
 
 -- a run of k steps, of a network by the rules
-unfoldable pub ran : ℕ → Network → Option Result
-ran k n = cond (rules n) (some (run k (netOf n))) none
+unfoldable pub runOn : ℕ → Network → Option Result
+runOn k n = cond (rules n) (some (run k (netOf n))) none
 
 abbrev pub Told : Option Result → Ran → Type 0
-Told (some t) r = ((s : Stop) × (r .answer ≡ Stopped s) × (stopOf s ≡ t .stop)) × Holds (r .network) (t .network) × Lists (r .steps) (t .steps)
+Told (some t) r =
+    ((s : Stop) × (r .answer ≡ Stopped s) × (stopOf s ≡ t .stop)) × Holds (r .network) (t .network) × Lists (r .steps) (t .steps)
 Told none r = (r .answer ≡ Refused 10) × Blank (r .network) × Lists (r .steps) []

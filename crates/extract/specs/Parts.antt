@@ -5,6 +5,7 @@ use mathlib.Core.Bool.{true, cond}
 use mathlib.Core.List.{List}
 use lib.IntN.{ℤ, pos}
 use lib.Signed.{ltZ}
+use Rattle.cube.specs.declared.Variable.{Variable}
 use Rattle.network.specs.Held.{netOf, rules}
 use Rattle.network.specs.Handed.{Holds}
 use Rattle.network.specs.declared.Network.{Network}
@@ -15,6 +16,7 @@ use Rattle.extract_tidy.specs.Tidy.{arranged}
 use Rattle.extract.specs.declared.Stop.{Stop}
 use Rattle.extract.specs.declared.Stop.the-variants.{Done, Asked, Numbers, Rows}
 use Rattle.extract.specs.declared.Answer.the-variants.{Stopped}
+use Rattle.extract.specs.declared.Made.{Made}
 use Rattle.extract.specs.declared.Ran.{Ran}
 
 -- by the rules, in cube order, and zero in the slots that are not in use
@@ -22,6 +24,10 @@ pub record Runnable (n : Network) : Type 0 where
   pub lawful : rules n ≡ true
   pub tidy : arranged n ≡ true
   pub held : Holds n (netOf n)
+
+-- a step that makes the node of a number and leaves so many literals
+abbrev pub madeBy : Step → Variable → ℕ → Made
+madeBy s v l = record { divisor = s .divisor; weight = s .weight; uses = s .uses; number = v; literals = l }
 
 -- no step is left to make: done where no weight is above 0, else asked
 abbrev pub endedAt : ℤ → Stop
@@ -35,5 +41,5 @@ reasonOf Outcome.Rows = Rows
 reasonOf Outcome.Unfit = Rows
 
 -- a run that stopped, with the steps that it made
-abbrev pub stoppedWith : Stop → Network → ℕ → List Step → Ran
+abbrev pub stoppedWith : Stop → Network → ℕ → List Made → Ran
 stoppedWith s n count list = record { answer = Stopped s; network = n; steps = record { count = count; list = list } }

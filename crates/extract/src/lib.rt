@@ -1,19 +1,20 @@
 // Runs: the best divisor again and again, until the first reason to stop.
-use expression::Verdict;
+use cube::Variable;
+use extract_divisor::Divisor;
 use extract_divisor::Step;
 use extract_step::Outcome;
+use network::Judged;
 use network::Network;
 ghost use mathlib.Core.Path.{_≡_};
 ghost use mathlib.Core.Option.{some};
 ghost use lib.ListN.{replicate};
-ghost use Rattle.network.specs.Held.{netOf, mostVariables};
+ghost use Rattle.network.specs.Held.{netOf};
 ghost use Rattle.extract_laws.specs.Run.{runFrom};
-ghost use Rattle.extract_divisor.specs.Divisor.{noStep};
-ghost use Rattle.extract.specs.Answers.{Told, ran};
-ghost use Rattle.extract.specs.Parts.{Runnable, endedAt, reasonOf, stoppedWith};
+ghost use Rattle.extract.specs.Answers.{noMade, noSteps, places, Told, runOn};
+ghost use Rattle.extract.specs.Parts.{Runnable, madeBy, endedAt, reasonOf, stoppedWith};
 
-// Steps of one run.
-const STEPS: usize = 64;
+// Steps of one run: each makes a divisor.
+const STEPS: usize = network::VARIABLES;
 
 pub enum Stop {
     Done,
@@ -27,10 +28,19 @@ pub enum Answer {
     Refused(u32),
 }
 
+// A step made: its divisor, weight and uses, the number of its node, and the literals of the network after it.
+pub struct Made {
+    pub divisor: Divisor,
+    pub weight: i32,
+    pub uses: u32,
+    pub number: Variable,
+    pub literals: u64,
+}
+
 // The steps made, as many as counted, and steps of zeros after them.
 pub struct Steps {
     pub count: usize,
-    pub list: [Step; STEPS],
+    pub list: [Made; STEPS],
 }
 
 // A refusal carries a network of zeros and no step.
@@ -40,11 +50,35 @@ pub struct Ran {
     pub steps: Steps,
 }
 
-// A list of no steps.
-fn no_steps() -> [Step; STEPS]
-    ensures { λ r. ⌜ r ≡ replicate mostVariables noStep ⌝ }
+// A step that makes the node of a number and leaves so many literals.
+fn made_by(s: Step, number: Variable, literals: u64) -> Made
+    ensures { λ r. ⌜ r ≡ madeBy s number literals ⌝ }
 {
-    [extract_divisor::no_step(); STEPS]
+    let divisor = s.divisor;
+    Made {
+        divisor,
+        weight: s.weight,
+        uses: s.uses,
+        number,
+        literals,
+    }
+}
+
+// A list of no steps.
+fn no_list() -> [Made; STEPS]
+    ensures { λ r. ⌜ r ≡ replicate places noMade ⌝ }
+{
+    [made_by(extract_divisor::no_step(), Variable(0), 0); STEPS]
+}
+
+// No steps made.
+pub fn no_steps() -> Steps
+    ensures { λ r. ⌜ r ≡ noSteps ⌝ }
+{
+    Steps {
+        count: 0,
+        list: no_list(),
+    }
 }
 
 // Why a step that there is no room for is not made.
@@ -59,7 +93,7 @@ fn reason(o: Outcome) -> Stop
     }
 }
 
-fn stopped(stop: Stop, network: Network, count: usize, list: [Step; STEPS]) -> Ran
+fn ending(stop: Stop, network: Network, count: usize, list: [Made; STEPS]) -> Ran
     ensures { λ r. ⌜ r ≡ stoppedWith stop network count list ⌝ }
 {
     Ran {
@@ -84,26 +118,27 @@ fn follow(n: Network, steps: u64) -> Ran
     requires { ⌜ Runnable n ⌝ }
     ensures { λ r. ⌜ Told (some (runFrom steps (netOf n))) r ⌝ }
 {
-    let mut list = no_steps();
+    let mut list = no_list();
     let mut count = 0;
     let mut left = steps;
     let mut net = n;
     let mut s = extract_choice::best(n);
     loop {
         if left == 0 {
-            return stopped(ended(s.weight), net, count, list);
+            return ending(ended(s.weight), net, count, list);
         }
         if s.weight <= 0 {
-            return stopped(Stop::Done, net, count, list);
+            return ending(Stop::Done, net, count, list);
         }
         let d = s.divisor;
         let t = extract_step::step(net, d);
         let made = t.outcome;
         let next = t.network;
         let Outcome::Made = made else {
-            return stopped(reason(made), net, count, list);
+            return ending(reason(made), net, count, list);
         };
-        list[count] = s;
+        let number = t.number;
+        list[count] = made_by(s, number, t.literals);
         count += 1;
         left -= 1;
         s = extract_choice::best(next);
@@ -113,19 +148,16 @@ fn follow(n: Network, steps: u64) -> Ran
 
 // A run of so many steps at most: 10 for a network that breaks a rule.
 pub fn run(n: Network, steps: u64) -> Ran
-    ensures { λ r. ⌜ Told (ran steps n) r ⌝ }
+    ensures { λ r. ⌜ Told (runOn steps n) r ⌝ }
 {
     let t = extract_tidy::in_order(n);
     let answer = t.answer;
     let network = t.network;
-    let Verdict::Accepted = answer else {
+    let Judged::Accepted = answer else {
         return Ran {
             answer: Answer::Refused(10),
             network,
-            steps: Steps {
-                count: 0,
-                list: no_steps(),
-            },
+            steps: no_steps(),
         };
     };
     follow(network, steps)

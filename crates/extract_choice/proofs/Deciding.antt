@@ -26,12 +26,12 @@ use Rattle.network.specs.declared.Network.{Network}
 use Rattle.network.proofs.Holding.{nodes-held}
 use Rattle.extract_laws.specs.Divisor as extraction
 use Rattle.extract_laws.specs.Extract.{weight, gather, pairsIn, sumsIn, candidates, best}
-use Rattle.extract_laws.specs.Run.{Made, made}
+use Rattle.extract_laws.specs.Run.{Weighed, weighing}
 use Rattle.extract_laws.specs.Meaning.{Worth, Done}
 use Rattle.extract_laws.proofs.Choosing.{heavier-order, best-in, best-iff, best-none}
 use Rattle.extract_tidy.specs.Tidy.{arranged}
 use Rattle.extract_tidy.proofs.Arranged.{arranged-parts, arranged-sized}
-use Rattle.extract_divisor.specs.Divisor.{divisorOf, madeOf, noStep}
+use Rattle.extract_divisor.specs.Divisor.{divisorOf, weighedOf, noStep}
 use Rattle.extract_divisor.specs.declared.Divisor.{Divisor}
 use Rattle.extract_divisor.specs.declared.Divisor.the-variants.{Pair, Sum}
 use Rattle.extract_divisor.specs.declared.Step.{Step}
@@ -72,14 +72,14 @@ all-judged words counts e f s r t z q g h n c =
 
 module _ (n : Net) where
   -- worth a step: the best divisor, with a weight above 0
-  pub worth-iff : (m : Made) → (worthIn n (best n) ≡ some m) ↔ ((d : extraction.Divisor) × Worth n d × (m ≡ made n d))
+  pub worth-iff : (m : Weighed) → (worthIn n (best n) ≡ some m) ↔ ((d : extraction.Divisor) × Worth n d × (m ≡ weighing n d))
   unfolding worthIn
   worth-iff m = (forth (best n) refl, λ (d, w, e). rw ((best-iff n d) .1 (w .best), w .above) (ap some (sym e)))
     where
-      forth : (o : Option extraction.Divisor) → best n ≡ o → worthIn n o ≡ some m → (d : extraction.Divisor) × Worth n d × (m ≡ made n d)
+      forth : (o : Option extraction.Divisor) → best n ≡ o → worthIn n o ≡ some m → (d : extraction.Divisor) × Worth n d × (m ≡ weighing n d)
       forth none e h = absurd (Option·none-ne-some m h)
       forth (some d) e h = elim (decided (ltZ (pos 0) (weight n d))) [
-        | inl t ↦ let q : some (made n d) ≡ some m = rw t at h in (d, record { best = (best-iff n d) .0 e; above = t }, cc)
+        | inl t ↦ let q : some (weighing n d) ≡ some m = rw t at h in (d, record { best = (best-iff n d) .0 e; above = t }, cc)
         | inr t ↦ absurd (Option·none-ne-some m (rw t at h))
       ]
 
@@ -91,7 +91,7 @@ module _ (n : Net) where
       forth : (o : Option extraction.Divisor) → best n ≡ o → worthIn n o ≡ none → Done n
       forth none e h d m = absurd (best-none n e d m)
       forth (some d) e h g m = elim (decided (ltZ (pos 0) (weight n d))) [
-        | inl t ↦ absurd (Option·none-ne-some (made n d) (sym (rw t at h)))
+        | inl t ↦ absurd (Option·none-ne-some (weighing n d) (sym (rw t at h)))
         | inr t ↦ not-after (λ u v. ltZ v u) heavier-order (weight n g) (weight n d) (pos 0) (((best-iff n d) .0 e) .heaviest g m) t
       ]
 
@@ -102,7 +102,7 @@ module _ (n : Net) where
   -- what leads the candidates is chosen
   leads-chosen : (s : Step) → Wins n (candidates n) s → Chosen (worthIn n (best n)) s
   leads-chosen s (nothing e h) = subst (λ o. Chosen o s) (sym (worth-none .1 h)) e
-  leads-chosen s (first d m e a h) = subst (λ o. Chosen o s) (sym ((worth-iff (made n d)) .1 (d, record { best = best-in n d m h; above = a }, refl))) e
+  leads-chosen s (first d m e a h) = subst (λ o. Chosen o s) (sym ((worth-iff (weighing n d)) .1 (d, record { best = best-in n d m h; above = a }, refl))) e
 
 module _ (n : Network) where
   -- in a network in cube order
@@ -122,7 +122,7 @@ module _ (n : Network) where
   chosen-not s h e = subst (λ o. Chosen o s) (sym (chosen-no h)) e
 
   -- the choice is the best divisor of a network in cube order, where its weight is above 0, with its weight and uses
-  pub chosen-iff : (m : Made) → (chosenIn n ≡ some m) ↔ ((arranged n ≡ true) × ((d : extraction.Divisor) × Worth (netOf n) d × (m ≡ made (netOf n) d)))
+  pub chosen-iff : (m : Weighed) → (chosenIn n ≡ some m) ↔ ((arranged n ≡ true) × ((d : extraction.Divisor) × Worth (netOf n) d × (m ≡ weighing (netOf n) d)))
   chosen-iff m = (
     λ h. elim (decided (arranged n)) [
       | inl t ↦ (t, (worth-iff (netOf n) m) .0 (sym (chosen-worth t) ∙ h))
@@ -155,12 +155,12 @@ divisor-one (Sum a b) (Pair p q) h k e = absurd (let z : _≡_ {A = ℕ} 0 1 = c
 divisor-one (Sum a b) (Sum c d) (h, i, j, l) (p, q, r, s) e = ap₂ Sum (cube-one a c h i p q (cc)) (cube-one b d j l r s (cc))
 
 -- two steps that the contract allows are the same
-pub chosen-one : (o : Option Made) (s t : Step) → Masked (s .divisor) → Masked (t .divisor) → Chosen o s → Chosen o t → s ≡ t
+pub chosen-one : (o : Option Weighed) (s t : Step) → Masked (s .divisor) → Masked (t .divisor) → Chosen o s → Chosen o t → s ≡ t
 chosen-one none s t h k p q = p ∙ sym q
 chosen-one (some m) s t h k p q =
-    let e : madeOf s ≡ madeOf t = p ∙ sym q in
+    let e : weighedOf s ≡ weighedOf t = p ∙ sym q in
     λ i. record {
-      divisor = divisor-one (s .divisor) (t .divisor) h k (ap (λ (x : Made). x .divisor) e) i;
-      weight = ap (λ (x : Made). x .weight) e i;
-      uses = ap (λ (x : Made). x .uses) e i;
+      divisor = divisor-one (s .divisor) (t .divisor) h k (ap (λ (x : Weighed). x .divisor) e) i;
+      weight = ap (λ (x : Weighed). x .weight) e i;
+      uses = ap (λ (x : Weighed). x .uses) e i;
     }

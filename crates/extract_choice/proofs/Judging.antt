@@ -12,9 +12,9 @@ use Rattle.sets.proofs.Orders.{asym, not-after}
 use Rattle.network.specs.Net.{Net}
 use Rattle.extract_laws.specs.Divisor as extraction
 use Rattle.extract_laws.specs.Extract.{weight, sooner, better}
-use Rattle.extract_laws.specs.Run.{Made, made}
+use Rattle.extract_laws.specs.Run.{Weighed, weighing}
 use Rattle.extract_laws.proofs.Choosing.{heavier-order, better-order}
-use Rattle.extract_divisor.specs.Divisor.{divisorOf, madeOf}
+use Rattle.extract_divisor.specs.Divisor.{divisorOf, weighedOf}
 use Rattle.extract_divisor.specs.declared.Step.{Step}
 use Rattle.extract_rank.specs.Rank.{outweighs, taken}
 use Rattle.extract_choice.specs.Parts.{Wins, Adds}
@@ -63,18 +63,18 @@ module _ (n : Net) where
   leads-known new l s k = leads-same l (new ++ l) s (λ e m a. Memᴰ·append-right new m) (λ e m a. elim (List·Memᴰ·append-cases new m) [ inl i ↦ k e i | inr i ↦ i ])
 
   -- the better of the two leads the divisors judged so far and the new one
-  module _ (d : extraction.Divisor) (l : List extraction.Divisor) (s t : Step) (e : madeOf t ≡ made n d) where
+  module _ (d : extraction.Divisor) (l : List extraction.Divisor) (s t : Step) (e : weighedOf t ≡ weighing n d) where
     tw : t .weight ≡ weight n d
-    tw = ap (λ (m : Made). m .weight) e
+    tw = ap (λ (m : Weighed). m .weight) e
 
     td : divisorOf (t .divisor) ≡ d
-    td = ap (λ (m : Made). m .divisor) e
+    td = ap (λ (m : Weighed). m .divisor) e
 
     -- the new one is taken
     fresh : ltZ (pos 0) (weight n d) ≡ true → ((g : extraction.Divisor) → g ∈ l → better n g d ≡ false) → Wins n (d ∷ l) t
     fresh a h = first d (here refl) e a (λ g i. elim (List·Memᴰ·cases-cons i) [ inl q ↦ rw q (better-order n .irrefl d) | inr j ↦ h g j ])
 
-    against : (g : extraction.Divisor) → g ∈ l → madeOf s ≡ made n g → ltZ (pos 0) (weight n g) ≡ true → ((x : extraction.Divisor) → x ∈ l → better n x g ≡ false)
+    against : (g : extraction.Divisor) → g ∈ l → weighedOf s ≡ weighing n g → ltZ (pos 0) (weight n g) ≡ true → ((x : extraction.Divisor) → x ∈ l → better n x g ≡ false)
         → ltZ (pos 0) (weight n d) ≡ true → (b : Bool) → better n d g ≡ b → Wins n (d ∷ l) (cond b t s)
     against g i q a h k true p = fresh k (λ x j. not-after (better n) (better-order n) x g d (h x j) (asym (better n) (better-order n) d g p))
     against g i q a h k false p = first g (there i) q a (λ x j. elim (List·Memᴰ·cases-cons j) [ inl y ↦ rw y p | inr y ↦ h x y ])
@@ -82,11 +82,11 @@ module _ (n : Net) where
     above : ltZ (pos 0) (t .weight) ≡ true → ltZ (pos 0) (weight n d) ≡ true
     above k = ap (ltZ (pos 0)) (sym tw) ∙ k
 
-    taken-better : ltZ (pos 0) (t .weight) ≡ true → (g : extraction.Divisor) → madeOf s ≡ made n g → cond (better n d g) t s ≡ taken s t
+    taken-better : ltZ (pos 0) (t .weight) ≡ true → (g : extraction.Divisor) → weighedOf s ≡ weighing n g → cond (better n d g) t s ≡ taken s t
     unfolding taken better outweighs
     taken-better k g q =
-        let sw : s .weight ≡ weight n g = ap (λ (m : Made). m .weight) q in
-        let sd : divisorOf (s .divisor) ≡ g = ap (λ (m : Made). m .divisor) q in
+        let sw : s .weight ≡ weight n g = ap (λ (m : Weighed). m .weight) q in
+        let sd : divisorOf (s .divisor) ≡ g = ap (λ (m : Weighed). m .divisor) q in
         sym ((λ i. cond (ltZ (pos 0) (tw i) && lex (λ u v. ltZ v u) (tw i) (sw i) (sooner (td i) (sd i))) t s) ∙ rw (above k))
 
     pub leads-taken : Wins n l s → Wins n (d ∷ l) (taken s t)

@@ -9,20 +9,20 @@ use Rattle.network.specs.Held.{netOf}
 use Rattle.network.specs.declared.Network.{Network}
 use Rattle.extract_laws.specs.Divisor as extraction
 use Rattle.extract_laws.specs.Extract.{weight, best}
-use Rattle.extract_laws.specs.Run.{Made, made}
+use Rattle.extract_laws.specs.Run.{Weighed, weighing}
 use Rattle.extract_tidy.specs.Tidy.{arranged}
-use Rattle.extract_divisor.specs.Divisor.{madeOf, noStep}
+use Rattle.extract_divisor.specs.Divisor.{weighedOf, noStep}
 use Rattle.extract_divisor.specs.declared.Step.{Step}
 
 -- the best divisor, where its weight is above 0, with its weight and uses
-unfoldable pub worthIn : Net → Option extraction.Divisor → Option Made
+unfoldable pub worthIn : Net → Option extraction.Divisor → Option Weighed
 worthIn n none = none
-worthIn n (some d) = cond (ltZ (pos 0) (weight n d)) (some (made n d)) none
+worthIn n (some d) = cond (ltZ (pos 0) (weight n d)) (some (weighing n d)) none
 
 -- a network that does not stand in cube order has no choice
-unfoldable pub chosenIn : Network → Option Made
+unfoldable pub chosenIn : Network → Option Weighed
 chosenIn n = cond (arranged n) (worthIn (netOf n) (best (netOf n))) none
 
-abbrev pub Chosen : Option Made → Step → Type 0
-Chosen (some m) s = madeOf s ≡ m
+abbrev pub Chosen : Option Weighed → Step → Type 0
+Chosen (some m) s = weighedOf s ≡ m
 Chosen none s = s ≡ noStep

@@ -17,8 +17,8 @@ use Rattle.network.specs.Parts.{nodesOf}
 use Rattle.extract_laws.specs.Divisor as extraction
 use Rattle.extract_laws.specs.Divisor.{sum, uses, bases}
 use Rattle.extract_laws.specs.Extract.{weight, better}
-use Rattle.extract_laws.specs.Run.{made}
-use Rattle.extract_divisor.specs.Divisor.{madeOf, noStep}
+use Rattle.extract_laws.specs.Run.{weighing}
+use Rattle.extract_divisor.specs.Divisor.{weighedOf, noStep}
 use Rattle.extract_divisor.specs.declared.Divisor.{Divisor}
 use Rattle.extract_divisor.specs.declared.Step.{Step}
 
@@ -31,7 +31,7 @@ stepOf d gain cost u = record { divisor = d; weight = pos gain -ℤ pos cost; us
 -- the step is that of the best of these divisors, where its weight is above 0, and else the step of zeros
 pub data Wins (n : Net) (l : List extraction.Divisor) (s : Step) : Type 0 where
   nothing : s ≡ noStep → ((e : extraction.Divisor) → List·Memᴰ e l → ltZ (pos 0) (weight n e) ≡ false) → Wins n l s
-  first : (d : extraction.Divisor) → List·Memᴰ d l → madeOf s ≡ made n d → ltZ (pos 0) (weight n d) ≡ true
+  first : (d : extraction.Divisor) → List·Memᴰ d l → weighedOf s ≡ weighing n d → ltZ (pos 0) (weight n d) ≡ true
       → ((e : extraction.Divisor) → List·Memᴰ e l → better n e d ≡ false) → Wins n l s
 
 -- where s leads some divisors, the known ones among them, r leads those and the new ones, in each network that passes the test

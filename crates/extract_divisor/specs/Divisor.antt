@@ -9,7 +9,7 @@ use Rattle.cube.specs.Cube.{lits}
 use Rattle.expression_survey.specs.Search.{findIn}
 use Rattle.extract_laws.specs.Divisor as extraction
 use Rattle.extract_laws.specs.Divisor.{pair, sum}
-use Rattle.extract_laws.specs.Run.{Made}
+use Rattle.extract_laws.specs.Run.{Weighed}
 use Rattle.extract_divisor.specs.declared.Divisor.{Divisor}
 use Rattle.extract_divisor.specs.declared.Divisor.the-variants.{Pair, Sum}
 use Rattle.extract_divisor.specs.declared.Step.{Step}
@@ -19,8 +19,8 @@ abbrev pub divisorOf : Divisor → extraction.Divisor
 divisorOf (Pair p q) = pair (p .0) (q .0)
 divisorOf (Sum a b) = sum (lits a) (lits b)
 
-abbrev pub madeOf : Step → Made
-madeOf s = record { divisor = divisorOf (s .divisor); weight = s .weight; uses = s .uses }
+abbrev pub weighedOf : Step → Weighed
+weighedOf s = record { divisor = divisorOf (s .divisor); weight = s .weight; uses = s .uses }
 
 -- the step of zeros
 abbrev pub noStep : Step

@@ -93,7 +93,7 @@ less : (x a b : ℤ) → (x -ℤ a) -ℤ b ≡ x -ℤ (a +ℤ b)
 less x a b = +ℤ-assoc x (negℤ a) (negℤ b) ∙ ap (x +ℤ_) (sym (negℤ-+ℤ a b))
 
 -- nothing is done before a step, and so the literal count falls by exactly the sum of the weights
-leads-literals : {n m : Net} {l : List Made} → Leads n l m → Good n → pos (literalCount m) ≡ pos (literalCount n) -ℤ fall l
+pub leads-literals : {n m : Net} {l : List Made} → Leads n l m → Good n → pos (literalCount m) ≡ pos (literalCount n) -ℤ fall l
 unfolding fall
 leads-literals (stay {n = n}) g = sym (+ℤ-idr (pos (literalCount n)))
 leads-literals (onward {n = n} {l = l} d w a b t) g =

@@ -13,25 +13,26 @@ use Rattle.sets.proofs.Lists.{total-append, total-map}
 use Rattle.expression.specs.Expression.{ordered, literalsOf}
 use Rattle.expression.specs.Words.{cubesOf}
 use Rattle.expression.specs.Answers.{capped}
+use Rattle.expression.proofs.Words.{fit}
 use Rattle.network.specs.Net.{Net, nodes, variables, cubeCount, literalCount}
 use Rattle.network.specs.Held.{netOf, mostVariables, mostCubes, mostLiterals}
-use Rattle.network.specs.Handed.{flat, cubeSlots, Shaped, Holds}
-use Rattle.network.specs.Parts.{nodesOf, heldIn, netAt, Limited}
+use Rattle.network.specs.Handed.{flat, cubeSlots, Holds}
+use Rattle.network.specs.Parts.{nodesOf, heldIn, netAt, Sized}
 use Rattle.network.specs.declared.Network.{Network}
 use Rattle.network.proofs.Holding.{nodes-held, outputs-held, divisors-held}
 use Rattle.network_nodes.proofs.Cutting.{cut-total}
-use Rattle.network.proofs.Handing.{Typed, cut-flat, flat-length, holds-one, blank-one}
+use Rattle.network.proofs.Handing.{cut-flat, flat-length, holds-one, blank-one}
 use Rattle.extract_laws.specs.Divisor.{own, rewrite}
 use Rattle.extract_laws.specs.Divisor as extraction
-use Rattle.extract_laws.specs.Extract.{redo, step}
-use Rattle.extract_laws.specs.Run.{Move, finished, stuck, take as taken, roomFor, done, asked, numbers, rows}
-use Rattle.extract_laws.proofs.Making.{step-nodes}
+use Rattle.extract_laws.specs.Extract.{redo, nextFree, step}
+use Rattle.extract_laws.specs.Run.{Move, finished, stuck, makes, roomFor, done, asked, numbers, rows}
+use Rattle.extract_laws.proofs.Making.{next-free, step-nodes}
 use Rattle.extract_tidy.specs.Tidy.{arranged}
 use Rattle.extract_tidy.proofs.Arranged.{arranged-parts, arranged-sized}
 use Rattle.extract_divisor.specs.Divisor.{divisorOf}
 use Rattle.extract_divisor.specs.declared.Divisor.{Divisor}
 use Rattle.extract_fit.specs.Fitness.{fitting}
-use Rattle.extract_step.specs.Replace.{allowed, outcome, Stepped}
+use Rattle.extract_step.specs.Replace.{allowed, outcome, Zeros, Stepped}
 use Rattle.extract_step.specs.Parts.{LaidNodes, SourceNodes}
 use Rattle.extract_step.specs.declared.Next.{Next}
 
@@ -44,22 +45,34 @@ capped-over t = go (ltb t 18446744073709551616) refl
     go true e = refl
     go false e = sym (lt-ltb mostLiterals t (omega (arith, ltb-false t 18446744073709551616 e)))
 
+-- a count that was not cut off
+capped-is : (x t : ℕ) → x ≡ capped t → x ≤ mostLiterals → x ≡ t
+capped-is x t = go (ltb t 18446744073709551616)
+  where
+    go : (b : Bool) → x ≡ cond b t 18446744073709551615 → x ≤ mostLiterals → x ≡ t
+    go true e h = e
+    go false e h = absurd (omega arith)
+
 module _ (n m k : ℕ) (words counts : List ℕ) (s : SourceNodes words counts (m + k)) where
   abbrev net : Net
   net = netAt n m k counts words
 
-  few : m + k ≤ length counts
-  few = omega (arith, s .slots, s .free)
+  few : m + k ≤ 96
+  few = omega (arith, s .free)
 
   numbered : variables net ≡ n + k
-  numbered = ap (n +_) (divisors-held (heldIn n m k counts words) few)
+  numbered = ap (n +_) (divisors-held (heldIn n m k counts words) (s .slots) few)
+
+  -- the new node's number
+  pub next : nextFree net ≡ n + k
+  next = next-free net ∙ numbered
 
   module _ (d : extraction.Divisor) where
     -- the nodes that the code lays, and the divisor's own
     pub laid-nodes : map (rewrite (2 * (n + k)) d) (nodesOf (m + k) counts words) ++ (own d ∷ []) ≡ nodes (step net d)
     laid-nodes =
         sym (step-nodes net d
-        ∙ ap₂ (λ (v : ℕ) (fs : List (List (List ℕ))). map (rewrite (2 * v) d) fs ++ (own d ∷ [])) numbered (nodes-held (heldIn n m k counts words)))
+        ∙ ap₂ (λ (v : ℕ) (fs : List (List (List ℕ))). map (rewrite (2 * v) d) fs ++ (own d ∷ [])) next (nodes-held (heldIn n m k counts words)))
 
     pub laid-count : {ws sizes : List ℕ} {t : ℕ} → LaidNodes ws sizes t (map (rewrite (2 * (n + k)) d) (nodesOf (m + k) counts words)) → cubeCount (step net d) ≡ t + length (own d)
     laid-count l =
@@ -77,18 +90,15 @@ module _ (n m k : ℕ) (words counts : List ℕ) (s : SourceNodes words counts (
     pub laid-holds : {ws sizes : List ℕ} {t : ℕ} → LaidNodes ws sizes t (nodes (step net d)) → Holds (heldIn n m (k + 1) sizes ws) (step net d)
     laid-holds l = record {
       inputs = refl;
-      outputs = sym (length-map (net .outputs) (rewrite (2 * variables net) d) ∙ outputs-held (heldIn n m k counts words) few);
+      outputs = sym (length-map (net .outputs) (rewrite (2 * nextFree net) d) ∙ outputs-held (heldIn n m k counts words) (s .slots) few);
       divisors = omega (
         arith,
-        length-append (map (redo (2 * variables net) d) (net .divisors)) (record { number = variables net; cubes = own d } ∷ []),
-        length-map (net .divisors) (redo (2 * variables net) d),
-        divisors-held (heldIn n m k counts words) few,
+        length-append (map (redo (2 * nextFree net) d) (net .divisors)) (record { number = nextFree net; cubes = own d } ∷ []),
+        length-map (net .divisors) (redo (2 * nextFree net) d),
+        divisors-held (heldIn n m k counts words) (s .slots) few,
       );
-      laid = record {
-        place = refl;
-        counts = l .counted;
-        cubes = l .front .cubes ∙ ap (λ (z : ℕ). flat (nodes (step net d)) ++ replicate (cubeSlots - z) []) (l .front .number ∙ flat-length (nodes (step net d)));
-      };
+      counts = l .counted;
+      cubes = l .front .cubes ∙ ap (λ (z : ℕ). flat (nodes (step net d)) ++ replicate (cubeSlots - z) []) (l .front .number ∙ flat-length (nodes (step net d)));
     }
 
     module _ (h : n + k < mostVariables) where
@@ -96,7 +106,7 @@ module _ (n m k : ℕ) (words counts : List ℕ) (s : SourceNodes words counts (
       unfolding roomFor
       room-rows c = rw (ap (λ (v : ℕ). ltb v mostVariables) numbered ∙ lt-ltb (n + k) mostVariables h, lt-ltb mostCubes _ c)
 
-      room-take : cubeCount (step net d) ≤ mostCubes → roomFor net d ≡ taken d
+      room-take : cubeCount (step net d) ≤ mostCubes → roomFor net d ≡ makes d
       unfolding roomFor
       room-take c = rw (ap (λ (v : ℕ). ltb v mostVariables) numbered ∙ lt-ltb (n + k) mostVariables h, le-ltb mostCubes _ c)
 
@@ -105,25 +115,28 @@ module _ (n m k : ℕ) (words counts : List ℕ) (s : SourceNodes words counts (
         pub room-over : mostLiterals < x → allowed net (roomFor net d) ≡ none
         room-over l = rw (room-take c, sym (capped-over (literalCount (step net d))) ∙ ap (ltb mostLiterals) (sym e) ∙ lt-ltb mostLiterals x l)
 
-        pub room-made : x ≤ mostLiterals → allowed net (roomFor net d) ≡ some (taken d)
+        pub room-literals : x ≤ mostLiterals → x ≡ literalCount (step net d)
+        room-literals = capped-is x (literalCount (step net d)) e
+
+        pub room-made : x ≤ mostLiterals → allowed net (roomFor net d) ≡ some (makes d)
         room-made l = rw (room-take c, sym (capped-over (literalCount (step net d))) ∙ ap (ltb mostLiterals) (sym e) ∙ le-ltb mostLiterals x l)
 
 -- ---- the cases of an answer
 
-module _ (n : Network) (shape : Shaped n) (a : arranged n ≡ true) where
-  within : Limited n
-  within = arranged-sized n a shape
+module _ (n : Network) (slots : length (n .counts) ≡ 96) (places : length (n .words) ≡ 2176) (a : arranged n ≡ true) where
+  within : Sized (n .inputs) (n .outputs) (n .divisors) (n .words) (n .counts)
+  within = arranged-sized n a slots places
 
   pub arranged-source : n .inputs + n .divisors < mostVariables → SourceNodes (n .words) (n .counts) (n .outputs + n .divisors)
   arranged-source h = record {
-    slots = shape .slots;
+    slots = slots;
     free = omega (arith, within .narrow);
     cubes = within .cubes;
     order = ap (all ordered) (sym (nodes-held n)) ∙ arranged-parts n a .1;
   }
 
   pub arranged-variables : variables (netOf n) ≡ n .inputs + n .divisors
-  arranged-variables = ap (n .inputs +_) (divisors-held n (within .counted))
+  arranged-variables = ap (n .inputs +_) (divisors-held n slots (omega (arith, within .narrow, within .variables)))
 
   pub room-full : (d : extraction.Divisor) → mostVariables ≤ n .inputs + n .divisors → roomFor (netOf n) d ≡ stuck numbers
   unfolding roomFor
@@ -150,15 +163,24 @@ stepped-as n r p h = subst (λ o. Stepped n o r) (sym p) h
 -- ---- one answer
 
 -- two answers to one step are the same, where their words are words
-module _ (n : Network) (d : Divisor) (r t : Next) (x : Typed (r .network)) (y : Typed (t .network)) where
+module _ (n : Network) (d : Divisor) (r t : Next)
+    (lr : length (r .network .words) ≡ 2176) (lt : length (t .network .words) ≡ 2176) (fr : fit (r .network .words) ≡ true) (ft : fit (t .network .words) ≡ true) where
   pub stepped-one : Stepped n (outcome n d) r → Stepped n (outcome n d) t → r ≡ t
   stepped-one = go (outcome n d)
     where
+      join : r .outcome ≡ t .outcome → r .network ≡ t .network → r .number .0 ≡ t .number .0 → r .literals ≡ t .literals → r ≡ t
+      join p q u v = λ i. record { outcome = p i; network = q i; number = record { 0 = u i }; literals = v i }
+
+      zeros : r .outcome ≡ t .outcome → Zeros r → Zeros t → r ≡ t
+      zeros p h k = join p (blank-one (r .network) (t .network) (h .blank) (k .blank)) (h .number ∙ sym (k .number)) (h .literals ∙ sym (k .literals))
+
       go : (o : Option Move) → Stepped n o r → Stepped n o t → r ≡ t
-      go (some (taken e)) (p, h) (q, k) = λ i. record { outcome = (p ∙ sym q) i; network = holds-one (r .network) (t .network) (step (netOf n) e) x y h k i }
-      go (some (stuck numbers)) (p, h) (q, k) = λ i. record { outcome = (p ∙ sym q) i; network = blank-one (r .network) (t .network) h k i }
-      go (some (stuck rows)) (p, h) (q, k) = λ i. record { outcome = (p ∙ sym q) i; network = blank-one (r .network) (t .network) h k i }
+      go (some (makes e)) (p, h) (q, k) =
+          join (p ∙ sym q) (holds-one (r .network) (t .network) (step (netOf n) e) lr lt fr ft (h .held) (k .held))
+          (h .number ∙ sym (k .number)) (h .literals ∙ sym (k .literals))
+      go (some (stuck numbers)) (p, h) (q, k) = zeros (p ∙ sym q) h k
+      go (some (stuck rows)) (p, h) (q, k) = zeros (p ∙ sym q) h k
       go (some (stuck done)) h k = absurd h
       go (some (stuck asked)) h k = absurd h
       go (some finished) h k = absurd h
-      go none (p, h) (q, k) = λ i. record { outcome = (p ∙ sym q) i; network = blank-one (r .network) (t .network) h k i }
+      go none (p, h) (q, k) = zeros (p ∙ sym q) h k

@@ -12,13 +12,12 @@ ghost use lib.ListN.{length, replicate};
 ghost use Rattle.cube.specs.Cube.{lits};
 ghost use Rattle.expression.specs.Words.{cubesOf};
 ghost use Rattle.expression.specs.Expression.{ordered};
-ghost use Rattle.network.specs.Handed.{Blank};
 ghost use Rattle.network.specs.Parts.{nodesOf, heldIn, netAt};
 ghost use Rattle.extract_laws.specs.Divisor.{own, part, hit, gone, rewrite};
 ghost use Rattle.extract_laws.specs.Run.{roomFor};
 ghost use Rattle.extract_divisor.specs.Divisor.{divisorOf};
 ghost use Rattle.extract_fit.specs.Fitness.{fitting};
-ghost use Rattle.extract_step.specs.Replace.{allowed, Stepped, outcome};
+ghost use Rattle.extract_step.specs.Replace.{allowed, Zeros, Stepped, outcome};
 ghost use Rattle.extract_step.specs.Parts.{fate, fateOf, become, Appends, LaidNodes, SourceNodes};
 
 pub enum Outcome {
@@ -28,10 +27,12 @@ pub enum Outcome {
     Unfit,
 }
 
-// Where no step is made, a network of zeros.
+// The network after a step, the number of its new node, and its literals. Where no step is made, all zeros.
 pub struct Next {
     pub outcome: Outcome,
     pub network: Network,
+    pub number: Variable,
+    pub literals: u64,
 }
 
 // What becomes of a cube in a step.
@@ -185,13 +186,15 @@ fn put_own(d: Divisor, out: &mut [u64], at: usize) -> usize
     }
 }
 
-// No step, with a network of zeros.
+// No step.
 fn refused(outcome: Outcome) -> Next
-    ensures { λ r. ⌜ (r .outcome ≡ outcome) × Blank (r .network) ⌝ }
+    ensures { λ r. ⌜ (r .outcome ≡ outcome) × Zeros r ⌝ }
 {
     Next {
         outcome,
         network: network::blank(),
+        number: Variable(0),
+        literals: 0,
     }
 }
 
@@ -202,13 +205,15 @@ fn made(words: &[u64], counts: &[usize], n: usize, m: usize, k: usize, d: Diviso
 {
     let mut out = [0u64; network::WORDS];
     let mut sizes = [0usize; network::NODES];
-    let x = cube::plain(Variable((n + k) as u32));
+    let v = (n + k) as u32;
+    let x = cube::plain(Variable(v));
     let to = put_nodes(words, counts, m + k, d, x, &mut out, &mut sizes);
     if own_size(d) > network::CUBES - to {
         return refused(Outcome::Rows);
     }
     let end = put_own(d, &mut out, to);
-    if expression_survey::literals(expression::part(&out, 0, end)) > network::LITERAL_COUNT {
+    let literals = expression_survey::literals(expression::part(&out, 0, end));
+    if literals > network::LITERAL_COUNT {
         return refused(Outcome::Unfit);
     }
     sizes[m + k] = end - to;
@@ -221,6 +226,8 @@ fn made(words: &[u64], counts: &[usize], n: usize, m: usize, k: usize, d: Diviso
             counts: sizes,
             words: out,
         },
+        number: Variable(v),
+        literals,
     }
 }
 

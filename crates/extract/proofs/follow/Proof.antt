@@ -14,8 +14,6 @@ use mir.Syntax.{w32}
 use mir.Val.{toZ, ofZ}
 use mir.Facts.{toZ-ofZ}
 use Rattle.network.specs.Held.{netOf, mostVariables}
-use Rattle.network.specs.Handed.{Shaped}
-use Rattle.network.proofs.Handing.{shape-of}
 use Rattle.extract_laws.specs.Run.{runFrom}
 use Rattle.extract_step.specs.declared.Outcome.the-variants as Outcome
 use Rattle.extract.specs.Answers.{Told}
@@ -32,14 +30,33 @@ Inv-loop steps list₀ count₀ left₀ net₀ s₀ list count left net s = Goin
 abbrev μ-loop : tie.MeasureT-loop
 μ-loop steps list₀ count₀ left₀ net₀ s₀ list count left net s = mostVariables - (net .inputs + net .divisors)
 
-abbrev start : tie.At-loop Inv-loop μ-loop → tie.Start Inv-loop μ-loop
+-- ---- the states of the walk
+
+abbrev Loop : Type 0
+Loop = tie.At-loop Inv-loop μ-loop
+
+abbrev start : Loop → tie.Start Inv-loop μ-loop
 start l = l .before .before .before
 
+abbrev weighed : tie.Else2 Inv-loop μ-loop → Loop
+weighed c = c .before .before .before .before
+
+abbrev chosen : tie.At-match-keys1 Inv-loop μ-loop → tie.After-step Inv-loop μ-loop
+chosen c = c .before .before
+
+abbrev made : tie.After-made-by Inv-loop μ-loop → tie.After-step Inv-loop μ-loop
+made c = chosen (c .before .before .before)
+
+abbrev head : tie.After-made-by Inv-loop μ-loop → Loop
+head c = weighed (made c .before)
+
+-- ---- what holds there
+
 -- what is to be shown where the run stops
-abbrev Tells : tie.At-loop Inv-loop μ-loop → Ran → Type 0
+abbrev Tells : Loop → Ran → Type 0
 Tells l r = Told (some (runFrom (start l .args .steps) (netOf (start l .args .n)))) r
 
-abbrev with : tie.At-loop Inv-loop μ-loop → Stop → Ran
+abbrev with : Loop → Stop → Ran
 with l x = stoppedWith x (l .loop .net) (l .loop .count) (l .loop .list)
 
 -- the weight read is the step's
@@ -47,28 +64,26 @@ read : (c : tie.After-struct-told2 Inv-loop μ-loop) → let w = c .before .befo
 read c = toZ-ofZ {w = w32} {z = c .before .before .before .loop .s .weight} (search needs)
 
 -- what the test says of it
-above : (c : tie.Else2 Inv-loop μ-loop) → ltZ (pos 0) (c .before .before .before .before .loop .s .weight) ≡ true
-above c = not-le (c .before .before .before .before .loop .s .weight) (ap (λ w. leZ w (pos 0)) (sym (read (c .before))) ∙ c .if2 .left)
+above : (c : tie.Else2 Inv-loop μ-loop) → ltZ (pos 0) (weighed c .loop .s .weight) ≡ true
+above c = not-le (weighed c .loop .s .weight) (ap (λ w. leZ w (pos 0)) (sym (read (c .before))) ∙ c .if2 .left)
 
 -- the next network has the slots of its type
-shape : (c : tie.After-step Inv-loop μ-loop) → Shaped (c .step .result .network)
-shape c = shape-of _ (search needs) (search needs)
-
--- where a step is made
-abbrev head : tie.After-enum-told Inv-loop μ-loop → tie.At-loop Inv-loop μ-loop
-head c = c .before .before .before .before .before .before .before .before
+slots : (c : tie.After-step Inv-loop μ-loop) → let n = c .step .result .network in (length (n .counts) ≡ 96) × (length (n .words) ≡ 2176)
+slots c = search needs
 
 -- the step is listed, and the network has one variable more
-on : (c : tie.After-best2 Inv-loop μ-loop) → let t = c .before .before .before .before in let l = head (c .before) in let n = t .step .result .network in
-    Going (start l .args .steps) (netOf (start l .args .n)) (set (l .loop .list) (l .loop .count) (l .loop .s)) (l .loop .count + 1) (l .loop .left - 1) n (c .best2 .result)
+on : (c : tie.After-best2 Inv-loop μ-loop) → let t = made (c .before) in let l = head (c .before) in let n = t .step .result .network in
+    Going (start l .args .steps) (netOf (start l .args .n)) (set (l .loop .list) (l .loop .count) (c .before .made-by .result))
+    (l .loop .count + 1) (l .loop .left - 1) n (c .best2 .result)
     × (n .inputs + n .divisors ≡ suc (l .loop .net .inputs + l .loop .net .divisors))
 on c =
-    let t = c .before .before .before .before in
-    let l = head (c .before) in
-    going-on (l .loop .inv) (above (t .before)) (omega arith) (t .step .result) (t .step .ensures) (shape t) (c .best2 .result) (c .best2 .ensures) (c .before .enum-told .given .1)
+    let m = c .before in
+    let t = made m in
+    going-on (head m .loop .inv) (above (t .before)) (omega arith) (t .step .result) (t .step .ensures) (slots t .0) (slots t .1)
+    (m .made-by .result) (m .made-by .ensures) (c .best2 .result) (c .best2 .ensures) (m .before .before .enum-told .given .1)
 
-no-steps-requires : tie.Need-no-steps-requires Inv-loop μ-loop
-no-steps-requires c κs = search needs
+no-list-requires : tie.Need-no-list-requires Inv-loop μ-loop
+no-list-requires c κs = search needs
 
 best-requires : tie.Need-best-requires Inv-loop μ-loop
 best-requires c κs = search needs
@@ -76,29 +91,30 @@ best-requires c κs = search needs
 loop-holds : tie.Need-loop-holds Inv-loop μ-loop
 loop-holds c =
     let s = c .before .before in
-    going-first (s .args .steps) (s .args .n) (c .before .no-steps .result) (c .best .result) (shape-of _ (search needs) (search needs)) (s .pre) (c .before .no-steps .ensures) (c .best .ensures)
+    going-first (s .args .steps) (s .args .n) (c .before .no-list .result) (c .best .result) (search needs) (search needs) (s .pre)
+    (c .before .no-list .ensures) (c .best .ensures)
 
 ended-requires : tie.Need-ended-requires Inv-loop μ-loop
 ended-requires c κs = search needs
 
-stopped-requires : tie.Need-stopped-requires Inv-loop μ-loop
-stopped-requires c κs = search needs
+ending-requires : tie.Need-ending-requires Inv-loop μ-loop
+ending-requires c κs = search needs
 
 returns : tie.Need-returns Inv-loop μ-loop
 returns c =
     let e = c .before in
     let l = e .before .before .before in
     let w : toZ w32 (ofZ w32 (l .loop .s .weight)) ≡ l .loop .s .weight = toZ-ofZ {w = w32} {z = l .loop .s .weight} (search needs) in
-    subst (Tells l) (sym (c .stopped .ensures ∙ ap (with l) (e .ended .ensures ∙ ap endedAt w))) (going-ended (l .loop .inv) (e .before .before .if1 .taken))
+    subst (Tells l) (sym (c .ending .ensures ∙ ap (with l) (e .ended .ensures ∙ ap endedAt w))) (going-ended (l .loop .inv) (e .before .before .if1 .taken))
 
-stopped-requires-2 : tie.Need-stopped-requires-2 Inv-loop μ-loop
-stopped-requires-2 c κs = search needs
+ending-requires-2 : tie.Need-ending-requires-2 Inv-loop μ-loop
+ending-requires-2 c κs = search needs
 
 returns-2 : tie.Need-returns-2 Inv-loop μ-loop
 returns-2 c =
     let r = c .before .before in
     let l = r .before .before .before in
-    subst (Tells l) (sym (c .stopped2 .ensures))
+    subst (Tells l) (sym (c .ending2 .ensures))
     (going-done (l .loop .inv) (le-not (l .loop .s .weight) (ap (λ w. leZ w (pos 0)) (sym (read r)) ∙ c .before .if2 .taken)))
 
 step-requires : tie.Need-step-requires Inv-loop μ-loop
@@ -110,17 +126,21 @@ enum-told c = search needs
 reason-requires : tie.Need-reason-requires Inv-loop μ-loop
 reason-requires c κs = search needs
 
-stopped-requires-3 : tie.Need-stopped-requires-3 Inv-loop μ-loop
-stopped-requires-3 c κs = search needs
+ending-requires-3 : tie.Need-ending-requires-3 Inv-loop μ-loop
+ending-requires-3 c κs = search needs
 
 returns-3 : tie.Need-returns-3 Inv-loop μ-loop
 returns-3 c =
-    let t = c .before .before .before .before in
-    let l = t .before .before .before .before .before in
+    let k = c .before .before in
+    let t = k .before .before in
+    let l = weighed (t .before) in
     let f : t .step .result .outcome ≡ Outcome.Made → ⊥ =
-    λ q. elim (rw q at (c .before .before .match .keys2)) [ inl w ↦ omega arith | inr (inl w) ↦ omega arith | inr (inr w) ↦ omega arith ] in
-    subst (Tells l) (sym (c .stopped3 .ensures ∙ ap (with l) (c .before .reason .ensures)))
+    λ q. elim (rw q at (k .match .keys2)) [ inl w ↦ omega arith | inr (inl w) ↦ omega arith | inr (inr w) ↦ omega arith ] in
+    subst (Tells l) (sym (c .ending3 .ensures ∙ ap (with l) (c .before .reason .ensures)))
     (going-full (l .loop .inv) (above (t .before)) (omega arith) (t .step .result) (t .step .ensures) f)
+
+made-by-requires : tie.Need-made-by-requires Inv-loop μ-loop
+made-by-requires c κs = search needs
 
 mul-list : tie.Need-mul-list Inv-loop μ-loop
 mul-list c = omega (arith, going-room (head c .loop .inv))
@@ -149,19 +169,20 @@ follow-spec =
     (tie.spec
     Inv-loop
     μ-loop
-    no-steps-requires
+    no-list-requires
     best-requires
     loop-holds
     ended-requires
-    stopped-requires
+    ending-requires
     returns
-    stopped-requires-2
+    ending-requires-2
     returns-2
     step-requires
     enum-told
     reason-requires
-    stopped-requires-3
+    ending-requires-3
     returns-3
+    made-by-requires
     mul-list
     array-set-from-list
     add-count

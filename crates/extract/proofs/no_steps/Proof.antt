@@ -1,16 +1,16 @@
--- `extract::no_steps` meets its contract: every step is that of zeros. Assumes nothing.
+-- `extract::no_steps` meets its contract: none is counted, and every one is that of zeros. Assumes nothing.
 use mathlib.Core.Path.{ap}
-use lib.ListN.{replicate}
-use Rattle.network.specs.Held.{mostVariables}
+use mathlib.Core.List.{List}
+use Rattle.extract.specs.declared.Made.{Made}
 use borrow.Author.Needs.{needs}
 use Rattle.extract.proofs.no_steps.Statement.{statement}
 use Rattle.extract.proofs.no_steps.Tie as tie
 
-no-step-requires : tie.Need-no-step-requires
-no-step-requires c κs = search needs
+no-list-requires : tie.Need-no-list-requires
+no-list-requires c κs = search needs
 
 returns : tie.Need-returns
-returns c = ap (replicate mostVariables) (c .no-step .ensures)
+returns c = ap (λ (l : List Made). record { count = 0; list = l }) (c .no-list .ensures)
 
 pub no-steps-spec : {M : Type 1} → statement M
-no-steps-spec = tie.close (tie.spec no-step-requires returns)
+no-steps-spec = tie.close (tie.spec no-list-requires returns)

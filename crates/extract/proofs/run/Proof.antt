@@ -37,7 +37,7 @@ returns c =
     let i = m .before .before .before in
     let n = i .before .args .n in
     let q = tidied-refused n (i .in-order .result) (i .in-order .ensures) _ (m .enum-told2 .given .1) in
-    refused-told (i .before .args .steps) n _ (q .0) refl (q .1) refl (c .no-steps .ensures)
+    refused-told (i .before .args .steps) n _ (q .0) refl (q .1) (c .no-steps .ensures)
 
 follow-requires : tie.Need-follow-requires
 follow-requires c κs =

@@ -15,7 +15,7 @@ use Rattle.extract_step.specs.Replace.{allowed}
 use Rattle.extract_step.specs.Parts.{LaidNodes}
 use Rattle.extract_step.proofs.Filling.{laid-next}
 use Rattle.extract_step.proofs.Walking.{many}
-use Rattle.extract_step.proofs.Answering.{laid-nodes, laid-count, laid-literals, laid-holds, room-rows, room-over, room-made, stepped-as}
+use Rattle.extract_step.proofs.Answering.{laid-nodes, laid-count, laid-literals, laid-holds, next, room-rows, room-literals, room-over, room-made, stepped-as}
 use borrow.Author.Needs.{needs}
 use Rattle.extract_step.proofs.made.Statement.{statement}
 use Rattle.extract_step.proofs.made.Tie as tie
@@ -34,11 +34,11 @@ laid c =
     let a = start p .args in
     subst (λ (x : ℕ). LaidNodes (c .put-nodes .last .1 .1 .1 .1 .1 .0) (c .put-nodes .last .1 .1 .1 .1 .1 .1 .0) (c .put-nodes .result) (map (rewrite x (divisorOf (a .d))) (nodesOf (a .m + a .k) (a .counts .now) (a .words .now)))) (literal p) (c .put-nodes .ensures)
 
-add-t12 : tie.Need-add-t12
-add-t12 c = search needs
+add-v : tie.Need-add-v
+add-v c = search needs
 
-cast-t13 : tie.Need-cast-t13
-cast-t13 c = search needs
+cast-v : tie.Need-cast-v
+cast-v c = search needs
 
 plain-requires : tie.Need-plain-requires
 plain-requires c κs = search needs
@@ -142,8 +142,8 @@ mul-sizes c = search needs
 array-write-sizes : tie.Need-array-write-sizes
 array-write-sizes c = search needs
 
-add-t12-2 : tie.Need-add-t12-2
-add-t12-2 c = search needs
+add-t14 : tie.Need-add-t14
+add-t14 c = search needs
 
 returns-3 : tie.Need-returns-3
 returns-3 c =
@@ -152,14 +152,18 @@ returns-3 c =
     let s = begun w in
     let a = s .args in
     stepped-as _ _ (room-made (a .n) (a .m) (a .k) (a .words .now) (a .counts .now) (s .pre .0) (divisorOf (a .d)) (s .pre .1) (rows w) _ (counted l) (c .if2 .left))
-    (refl, laid-holds (a .n) (a .m) (a .k) (a .words .now) (a .counts .now) (s .pre .0) (divisorOf (a .d)) (whole w))
+    (refl, record {
+      held = laid-holds (a .n) (a .m) (a .k) (a .words .now) (a .counts .now) (s .pre .0) (divisorOf (a .d)) (whole w);
+      number = omega (arith, next (a .n) (a .m) (a .k) (a .words .now) (a .counts .now) (s .pre .0), s .pre .1);
+      literals = room-literals (a .n) (a .m) (a .k) (a .words .now) (a .counts .now) (s .pre .0) (divisorOf (a .d)) (s .pre .1) (rows w) _ (counted l) (c .if2 .left);
+    })
 
 pub made-spec : {M : Type 1} → statement M
 made-spec =
     tie.close
     (tie.spec
-    add-t12
-    cast-t13
+    add-v
+    cast-v
     plain-requires
     add-put-nodes
     slice-aggregate-put-nodes
@@ -180,5 +184,5 @@ made-spec =
     add-sizes
     mul-sizes
     array-write-sizes
-    add-t12-2
+    add-t14
     returns-3)
