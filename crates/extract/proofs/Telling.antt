@@ -1,6 +1,7 @@
 -- What a run answers leaves one answer, and says of the networks before and after it what the paper asks. Assumes nothing.
-use Prim.Native.Nat.{ℕ, zero, suc, _^_}
+use Prim.Native.Nat.{ℕ, zero, suc, _+_, _^_, _<_, _≤_}
 use mathlib.Core.Path.{_≡_, refl, sym, ap, ap₂, _∙_, subst}
+use mathlib.Core.Logic.{_↔_}
 use mathlib.Core.Bool.{Bool, true, _&&_}
 use mathlib.Core.List.{List, [], _∷_, map, nil≢cons, cons≢nil, head-eq-of-cons-eq, tail-eq-of-cons-eq}
 use mathlib.Core.Option.{Option, none, some}
@@ -11,20 +12,22 @@ use lib.ListN.{length, take, drop}
 use borrow.Author.Tests.{ltb-true}
 use Rattle.sets.specs.Lists.{all}
 use Rattle.sets.proofs.Truth.{both}
+use Rattle.sets.proofs.Lists.{_∈_}
 use Rattle.sets.proofs.Literals.{plain-injective, negated-injective}
 use Rattle.cube.specs.Cube.{width, lits}
 use Rattle.cube.specs.declared.Cube.{Cube}
-use Rattle.network.specs.Net.{literalCount}
+use Rattle.network.specs.Net.{Net, literalCount}
 use Rattle.network.specs.Held.{netOf, rules}
+use Rattle.network.specs.Handed.{Holds}
 use Rattle.network.specs.Answers.{counted, evaluated}
 use Rattle.network.specs.declared.Network.{Network}
 use Rattle.network.specs.declared.Number.the-variants.{Is}
 use Rattle.network.proofs.Handing.{holds-net, holds-one, blank-one}
 use Rattle.extract_laws.specs.Run as extraction
-use Rattle.extract_laws.specs.Run.{Result, done, asked, numbers, rows, prepare, inOrder, run}
-use Rattle.extract_laws.specs.Meaning.{Leads, fall}
-use Rattle.extract_laws.proofs.Running.{run-leads}
-use Rattle.extract_laws.proofs.Keeping.{run-good, run-literals}
+use Rattle.extract_laws.specs.Run.{Result, done, asked, numbers, rows, making, run}
+use Rattle.extract_laws.specs.Meaning.{Worth, Leads, Ends, fall}
+use Rattle.extract_laws.proofs.Running.{first, run-leads, run-stop, run-few, run-network-add, run-stop-add}
+use Rattle.extract_laws.proofs.Keeping.{leads-counts, first-good, run-good, run-literals}
 use Rattle.extract_laws.proofs.Following.{rules-good, run-rules, run-evaluated}
 use Rattle.extract_tidy.proofs.Tidied.{Shaped}
 use Rattle.extract_divisor.specs.Divisor.{divisorOf}
@@ -108,6 +111,9 @@ back-stop Asked = refl
 back-stop Numbers = refl
 back-stop Rows = refl
 
+stop-one : (x y : Stop) → stopOf x ≡ stopOf y → x ≡ y
+stop-one x y e = sym (back-stop x) ∙ ap back e ∙ back-stop y
+
 -- an answer whose words and masks are of 64 bits
 pub record FitRan (r : Ran) : Type 0 where
   pub network : Shaped (r .network)
@@ -128,7 +134,7 @@ told-one k n r s a b = go (runOn k n)
 
     go : (o : Option Result) → Told o r → Told o s → r ≡ s
     go (some t) ((x, p, u), h, l) ((y, q, v), g, m) =
-        let e : x ≡ y = sym (back-stop x) ∙ ap back (u ∙ sym v) ∙ back-stop y in
+        let e : x ≡ y = stop-one x y (u ∙ sym v) in
         join (p ∙ ap Stopped e ∙ sym q)
         (holds-one (r .network) (s .network) (t .network) (a .network .places) (b .network .places) (a .network .fits) (b .network .fits) h g)
         (lists-one (r .steps) (s .steps) (t .steps) (a .steps) (b .steps) l m)
@@ -140,32 +146,34 @@ told-one k n r s a b = go (runOn k n)
 abbrev pub stepsOf : Ran → List extraction.Made
 stepsOf r = map madeOf (take (r .steps .count) (r .steps .list))
 
+ran-told : (k : ℕ) (n : Network) (r : Ran) → rules n ≡ true → Told (runOn k n) r → Told (some (run k (netOf n))) r
+unfolding runOn
+ran-told k n r h t = rw h at t
+
 module _ (k : ℕ) (n : Network) (r : Ran) (slots : length (n .counts) ≡ 96) (words : length (n .words) ≡ 2176)
     (h : rules n ≡ true) (t : Told (runOn k n) r) where
-  ran-told : Told (some (run k (netOf n))) r
-  unfolding runOn
-  ran-told = rw h at t
+  told : Told (some (run k (netOf n))) r
+  told = ran-told k n r h t
 
   ran-steps : stepsOf r ≡ run k (netOf n) .steps
-  ran-steps = let l = ran-told .2 in ap (λ (c : ℕ). map madeOf (take c (r .steps .list))) (l .number) ∙ l .steps
+  ran-steps = let l = told .2 in ap (λ (c : ℕ). map madeOf (take c (r .steps .list))) (l .number) ∙ l .steps
 
   ran-network : netOf (r .network) ≡ run k (netOf n) .network
-  ran-network = holds-net (r .network) (run k (netOf n) .network) (ran-told .1) ((run-good k (netOf n) (rules-good n slots words h)) .inTurn)
+  ran-network = holds-net (r .network) (run k (netOf n) .network) (told .1) ((run-good k (netOf n) (rules-good n slots words h)) .inTurn)
 
   -- the resulting network follows the rules and keeps the limits
   pub ran-rules : rules (r .network) ≡ true
-  ran-rules = run-rules n (r .network) slots words k h (ran-told .1)
+  ran-rules = run-rules n (r .network) slots words k h (told .1)
 
   -- outputs after a run are those before, for every setting
   pub ran-outputs : (s : ℕ) → evaluated (r .network) s ≡ evaluated n s
-  ran-outputs = run-evaluated n (r .network) slots words k h (ran-told .1)
+  ran-outputs = run-evaluated n (r .network) slots words k h (told .1)
 
   -- each step listed takes the best divisor of the network that it is made on
-  pub ran-leads : Leads (prepare (inOrder (netOf n))) (stepsOf r) (netOf (r .network))
+  pub ran-leads : Leads (first (netOf n)) (stepsOf r) (netOf (r .network))
   ran-leads =
-      let m = prepare (inOrder (netOf n)) in
-      subst (λ (l : List extraction.Made). Leads m l (netOf (r .network))) (sym ran-steps)
-      (subst (Leads m (run k (netOf n) .steps)) (sym ran-network) (run-leads k (netOf n)))
+      subst (λ (l : List extraction.Made). Leads (first (netOf n)) l (netOf (r .network))) (sym ran-steps)
+      (subst (Leads (first (netOf n)) (run k (netOf n) .steps)) (sym ran-network) (run-leads k (netOf n)))
 
   -- the literal count, counted over the resulting network, is that of the start less the weights of the steps
   pub ran-literals : (counted n ≡ Is (literalCount (netOf n))) × (counted (r .network) ≡ Is (literalCount (netOf (r .network))))
@@ -176,3 +184,51 @@ module _ (k : ℕ) (n : Network) (r : Ran) (slots : length (n .counts) ≡ 96) (
     rw ran-rules,
     ap (λ z. pos (literalCount z)) ran-network ∙ run-literals k (netOf n) (rules-good n slots words h) ∙ ap (λ l. pos (literalCount (netOf n)) -ℤ fall l) (sym ran-steps),
   )
+
+  -- each step listed carries the number of its node, and the literals of the network after it: those before it less the weight
+  pub ran-counts : (s : extraction.Made) → s ∈ stepsOf r
+      → (p : Net) × Worth p (s .divisor) × (s ≡ making p (s .divisor)) × (pos (s .literals) ≡ pos (literalCount p) -ℤ s .weight)
+  ran-counts = leads-counts ran-leads (first-good (netOf n) (rules-good n slots words h))
+
+  -- a run of k steps makes at most k
+  pub ran-few : length (stepsOf r) ≤ k
+  ran-few = subst (λ (l : List extraction.Made). length l ≤ k) (sym ran-steps) (run-few k (netOf n))
+
+  -- it stops for the first reason that applies
+  pub ran-stop : (x : Stop) → (r .answer ≡ Stopped x) ↔ Ends k (length (stepsOf r)) (netOf (r .network)) (stopOf x)
+  ran-stop x = go (told .0)
+    where
+      ends : Ends k (length (run k (netOf n) .steps)) (run k (netOf n) .network) (stopOf x) ≡ Ends k (length (stepsOf r)) (netOf (r .network)) (stopOf x)
+      ends = ap₂ (λ (l : List extraction.Made) (m : Net). Ends k (length l) m (stopOf x)) (sym ran-steps) (sym ran-network)
+
+      go : ((s : Stop) × (r .answer ≡ Stopped s) × (stopOf s ≡ run k (netOf n) .stop))
+          → (r .answer ≡ Stopped x) ↔ Ends k (length (stepsOf r)) (netOf (r .network)) (stopOf x)
+      go (s, e, f) = (
+        λ a. let p : s ≡ x = cc in subst (λ z. z) ends (run-stop k (netOf n) (stopOf x) .0 (sym f ∙ ap stopOf p)),
+        λ z. e ∙ ap Stopped (stop-one s x (f ∙ run-stop k (netOf n) (stopOf x) .1 (subst (λ z. z) (sym ends) z))),
+      )
+
+-- runs of s then t steps on one network end in the network of a run of s + t, and for t above 0 with its stop reason
+module _ (s t : ℕ) (n : Network) (r q p : Ran) (slots : length (n .counts) ≡ 96) (words : length (n .words) ≡ 2176) (h : rules n ≡ true)
+    (a : Told (runOn s n) r) (b : Told (runOn t (r .network)) q) (c : Told (runOn (s + t) n) p) where
+  first-is : netOf (r .network) ≡ run s (netOf n) .network
+  first-is = ran-network s n r slots words h a
+
+  then-told : Told (some (run t (run s (netOf n) .network))) q
+  then-told =
+      subst (λ (m : Net). Told (some (run t m)) q) first-is (ran-told t (r .network) q (ran-rules s n r slots words h a) b)
+
+  whole-told : Told (some (run (s + t) (netOf n))) p
+  whole-told = ran-told (s + t) n p h c
+
+  pub ran-network-add : FitRan q → FitRan p → p .network ≡ q .network
+  ran-network-add f g =
+      holds-one (p .network) (q .network) (run (s + t) (netOf n) .network) (g .network .places) (f .network .places) (g .network .fits) (f .network .fits)
+      (whole-told .1) (subst (Holds (q .network)) (sym (run-network-add s (netOf n) t)) (then-told .1))
+
+  pub ran-stop-add : 0 < t → p .answer ≡ q .answer
+  ran-stop-add l = go (whole-told .0) (then-told .0)
+    where
+      go : ((x : Stop) × (p .answer ≡ Stopped x) × (stopOf x ≡ run (s + t) (netOf n) .stop))
+          → ((y : Stop) × (q .answer ≡ Stopped y) × (stopOf y ≡ run t (run s (netOf n) .network) .stop)) → p .answer ≡ q .answer
+      go (x, e, u) (y, f, v) = e ∙ ap Stopped (stop-one x y (u ∙ run-stop-add s (netOf n) t l ∙ sym v)) ∙ sym f

@@ -28,7 +28,7 @@ use Rattle.extract_laws.proofs.Arranging.{
   in-order-evaluate, in-order-good, in-order-ordered,
 }
 use Rattle.extract_laws.proofs.Preparing.{prepare-same, prepares}
-use Rattle.extract_laws.proofs.Running.{run-leads, run-arranged}
+use Rattle.extract_laws.proofs.Running.{first, run-leads, run-arranged}
 
 -- ---- steps
 
@@ -104,11 +104,7 @@ leads-literals (onward {n = n} {l = l} d w a b t) g =
 
 -- ---- a run
 
--- from the network in cube order, prepared
-abbrev first : Net → Net
-first n = prepare (inOrder n)
-
-first-good : (n : Net) → Good n → Good (first n)
+pub first-good : (n : Net) → Good n → Good (first n)
 first-good n g = prepares .good (inOrder n) (in-order-good n g)
 
 module _ (k : ℕ) (n : Net) where

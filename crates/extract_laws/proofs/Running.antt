@@ -99,8 +99,8 @@ ends-one k j n (isRows l w a b) (isAsked e v) = absurd (omega arith)
 ends-one k j n (isRows l w a b) (isNumbers i v c) = absurd (omega arith)
 ends-one k j n (isRows l w a b) (isRows i v c d) = refl
 
--- from the network in cube order, prepared
-abbrev first : Net → Net
+-- the network that a run starts from: in cube order, and prepared
+abbrev pub first : Net → Net
 first n = prepare (inOrder n)
 
 module _ (k : ℕ) (n : Net) where
