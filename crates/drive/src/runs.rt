@@ -5,10 +5,10 @@ use cube::Cube;
 use cube::Found;
 use cube::Literal;
 use extract::Answer;
+use extract::Made;
 use extract::Steps;
 use extract::Stop;
 use extract_divisor::Divisor;
-use extract_divisor::Step;
 use network::Network;
 
 // A number that no literal has.
@@ -109,7 +109,7 @@ fn put_said(out: &mut [u8], n: usize, s: Shown) -> usize {
     wire::put_number(out, at, s.uses)
 }
 
-fn put_step(out: &mut [u8], n: usize, s: Step) -> usize {
+fn put_step(out: &mut [u8], n: usize, s: Made) -> usize {
     let d = s.divisor;
     put_said(out, n, said(d, above(s.weight), s.uses as u64))
 }

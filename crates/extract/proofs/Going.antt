@@ -14,9 +14,10 @@ use borrow.Author.Tests.{leb-true, leb-false, le-ltb, lt-ltb}
 use Rattle.sets.proofs.Truth.{clash}
 use Rattle.network.specs.Net.{Net}
 use Rattle.network.specs.Held.{netOf, mostVariables}
-use Rattle.network.specs.Handed.{Holds}
+use Rattle.network.specs.Handed.{Holds, Shaped}
 use Rattle.network.specs.declared.Network.{Network}
 use Rattle.network.proofs.Holding.{rules-divisors, rules-iff}
+use Rattle.network.proofs.Limits.{rules-sized}
 use Rattle.extract_laws.specs.Divisor as extraction
 use Rattle.extract_laws.specs.Extract.{step}
 use Rattle.extract_laws.specs.Run as laws
@@ -55,20 +56,18 @@ listed count list = map madeOf (take count list)
 -- of a run of k steps from m so many steps are listed, it goes on from the network for the steps left, and s is the best step there
 pub record Going (k : ℕ) (m : Net) (list : List Made) (count left : ℕ) (net : Network) (s : Step) : Type 0 where
   pub ready : Runnable net
-  pub slots : length (net .counts) ≡ 96
-  pub words : length (net .words) ≡ 2176
+  pub shape : Shaped net
   pub few : count ≤ net .divisors
   pub long : length list ≡ places
   pub rest : drop count list ≡ replicate (places - count) noMade
   pub chosen : Chosen (chosenIn net) s
   pub goes : runFrom k m ≡ after (listed count list) (runFrom left (netOf net))
 
-pub going-first : (k : ℕ) (n : Network) (list : List Made) (s : Step) → length (n .counts) ≡ 96 → length (n .words) ≡ 2176 → Runnable n
+pub going-first : (k : ℕ) (n : Network) (list : List Made) (s : Step) → Shaped n → Runnable n
     → list ≡ replicate places noMade → Chosen (chosenIn n) s → Going k (netOf n) list 0 k n s
-going-first k n list s a b r e c = record {
+going-first k n list s a r e c = record {
   ready = r;
-  slots = a;
-  words = b;
+  shape = a;
   few = omega arith;
   long = ap length e ∙ length-replicate places noMade;
   rest = e;
@@ -77,32 +76,32 @@ going-first k n list s a b r e c = record {
 }
 
 -- a network that a run comes to
-module _ (n : Network) (slots : length (n .counts) ≡ 96) (words : length (n .words) ≡ 2176) (r : Runnable n) where
+module _ (n : Network) (shape : Shaped n) (r : Runnable n) where
   ready-good : Good (netOf n)
-  ready-good = rules-good n slots words (r .lawful)
+  ready-good = rules-good n shape (r .lawful)
 
   ready-within : Within (netOf n)
-  ready-within = rules-within n slots words (r .lawful)
+  ready-within = rules-within n shape (r .lawful)
 
   -- the numbers are not used up by the steps, each of which made a divisor
   ready-few : n .divisors < mostVariables
-  ready-few = let w = rules-iff n slots .0 (r .lawful) in omega (arith, w .inputs, w .variables)
+  ready-few = let w = rules-iff n shape .0 (r .lawful) .lawful in omega (arith, w .inputs, w .within .variables, rules-divisors n shape (r .lawful))
 
   -- and the one that a step leads to
   module _ (d : extraction.Divisor) (p : Next) (t : Takes (netOf n) d p) where
     next-is : netOf (p .network) ≡ step (netOf n) d
-    next-is = takes-is n slots words (r .lawful) d p t
+    next-is = takes-is n shape (r .lawful) d p t
 
     next-ready : Runnable (p .network)
     next-ready = record {
-      lawful = takes-rules n slots words (r .lawful) d p t;
-      tidy = takes-arranged n slots words (r .lawful) d p t;
+      lawful = takes-rules n shape (r .lawful) d p t;
+      tidy = takes-arranged n shape (r .lawful) d p t;
       held = subst (Holds (p .network)) (sym next-is) (t .after .held);
     }
 
     -- one divisor more, and the same inputs
     next-divisors : (p .network .divisors ≡ suc (n .divisors)) × (p .network .inputs ≡ n .inputs)
-    next-divisors = let h = t .after .held in (omega (arith, h .divisors, step-variables (netOf n) d, rules-divisors n slots (r .lawful)), h .inputs)
+    next-divisors = let h = t .after .held in (omega (arith, h .divisors, step-variables (netOf n) d, rules-divisors n shape (r .lawful)), h .inputs)
 
 -- ---- why it ends
 
@@ -133,11 +132,11 @@ run-asked n d w = from-none n ∙ go (move n) ((move-iff n (move n)) .0 refl)
 
 module _ {k : ℕ} {m : Net} {list : List Made} {count left : ℕ} {net : Network} {s : Step} (g : Going k m list count left net s) where
   pub going-room : count < mostVariables
-  going-room = omega (arith, g .few, ready-few net (g .slots) (g .words) (g .ready))
+  going-room = omega (arith, g .few, ready-few net (g .shape) (g .ready))
 
   -- no more variables than there are numbers
   pub going-numbers : net .inputs + net .divisors ≤ mostVariables
-  going-numbers = (rules-iff net (g .slots) .0 (g .ready .lawful)) .variables
+  going-numbers = (rules-sized net (g .shape) (g .ready .lawful)) .variables
 
   made-length : length (listed count list) ≡ count
   made-length = length-map (take count list) madeOf ∙ length-take-le count list (omega (arith, going-room, g .long))
@@ -192,8 +191,8 @@ module _ {k : ℕ} {m : Net} {list : List Made} {count left : ℕ} {net : Networ
     module _ (l : 0 < left) (t : Next) (o : Stepped net (outcome net (s .divisor)) t) where
       taken : Taken (netOf net) (divisorOf (s .divisor)) t
       taken =
-          stepped-as net (s .divisor) t (g .ready .tidy) (ready-within net (g .slots) (g .words) (g .ready) .literals)
-          (ready-good net (g .slots) (g .words) (g .ready)) (worth .0) o
+          stepped-as net (s .divisor) t (g .ready .tidy) (ready-within net (g .shape) (g .ready) .literals)
+          (ready-good net (g .shape) (g .ready)) (worth .0) o
 
       some-left : left ≡ suc (left - 1)
       some-left = omega arith
@@ -207,7 +206,7 @@ module _ {k : ℕ} {m : Net} {list : List Made} {count left : ℕ} {net : Networ
       ]
 
       -- the step is made, and listed
-      module _ (slots-t : length (t .network .counts) ≡ 96) (words-t : length (t .network .words) ≡ 2176)
+      module _ (shape-t : Shaped (t .network))
           (x : Made) (y : x ≡ madeBy s (t .number) (t .literals)) (b : Step) (c : Chosen (chosenIn (t .network)) b) (q : t .outcome ≡ Outcome.Made) where
         abbrev d : extraction.Divisor
         d = divisorOf (s .divisor)
@@ -233,8 +232,7 @@ module _ {k : ℕ} {m : Net} {list : List Made} {count left : ℕ} {net : Networ
             go e i = (
               record {
                 ready = ready;
-                slots = slots-t;
-                words = words-t;
+                shape = shape-t;
                 few = omega (arith, g .few, more .0);
                 long = length-set list count x ∙ g .long;
                 rest = listed-rest x;
@@ -252,10 +250,10 @@ module _ {k : ℕ} {m : Net} {list : List Made} {count left : ℕ} {net : Networ
                 ran = runFrom (left - 1) (prepare (step (netOf net) d))
 
                 ready : Runnable (t .network)
-                ready = next-ready net (g .slots) (g .words) (g .ready) d t i
+                ready = next-ready net (g .shape) (g .ready) d t i
 
                 is : netOf (t .network) ≡ prepare (step (netOf net) d)
-                is = next-is net (g .slots) (g .words) (g .ready) d t i ∙ sym (prepare-same (step (netOf net) d))
+                is = next-is net (g .shape) (g .ready) d t i ∙ sym (prepare-same (step (netOf net) d))
 
                 more : (t .network .divisors ≡ suc (net .divisors)) × (t .network .inputs ≡ net .inputs)
-                more = next-divisors net (g .slots) (g .words) (g .ready) d t i
+                more = next-divisors net (g .shape) (g .ready) d t i

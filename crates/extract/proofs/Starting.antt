@@ -8,7 +8,7 @@ use lib.ListN.{length}
 use Rattle.sets.proofs.Lists.{_∈_}
 use Rattle.network.specs.Net.{Net, nodes}
 use Rattle.network.specs.Held.{netOf, rules}
-use Rattle.network.specs.Handed.{Holds, Blank}
+use Rattle.network.specs.Handed.{Holds, Blank, Shaped}
 use Rattle.network.specs.declared.Network.{Network}
 use Rattle.network.proofs.Ruling.{rules-lawful}
 use Rattle.network.proofs.Handing.{holds-net}
@@ -27,13 +27,13 @@ use Rattle.extract.specs.declared.Answer.the-variants.{Refused}
 use Rattle.extract.specs.declared.Steps.{Steps}
 use Rattle.extract.specs.declared.Ran.{Ran}
 
-module _ (n p : Network) (slots : length (n .counts) ≡ 96) (words : length (n .words) ≡ 2176)
+module _ (n p : Network) (shape : Shaped n)
     (r : rules n ≡ true) (h : Holds p (inOrder (netOf n))) where
   good : Good (inOrder (netOf n))
-  good = in-order-good (netOf n) (rules-good n slots words r)
+  good = in-order-good (netOf n) (rules-good n shape r)
 
   within : Within (inOrder (netOf n))
-  within = let w = rules-within n slots words r in record {
+  within = let w = rules-within n shape r in record {
     variables = omega (arith, in-order-variables (netOf n), w .variables);
     cubes = omega (arith, in-order-cubes (netOf n), w .cubes);
     literals = omega (arith, in-order-literals (netOf n), w .literals);
@@ -44,7 +44,7 @@ module _ (n p : Network) (slots : length (n .counts) ≡ 96) (words : length (n 
 
   lawful : rules p ≡ true
   lawful =
-      let w = rules-lawful n slots words r in
+      let w = rules-lawful n shape r in
       holds-rules p (inOrder (netOf n)) h good within (omega (arith, w .inputs, in-order-inputs (netOf n)))
       (omega (arith, w .outputs, in-order-outputs (netOf n)))
 
@@ -53,7 +53,7 @@ module _ (n p : Network) (slots : length (n .counts) ≡ 96) (words : length (n 
   start-ready = record {
     lawful = lawful;
     tidy = arranged-in p lawful (λ f m.
-      in-order-ordered (netOf n) (rules-good n slots words r) f (subst (λ (z : Net). f ∈ nodes z) start-is m));
+      in-order-ordered (netOf n) (rules-good n shape r) f (subst (λ (z : Net). f ∈ nodes z) start-is m));
     held = subst (Holds p) (sym start-is) h;
   }
 

@@ -18,18 +18,17 @@ use Rattle.cube.specs.Cube.{width, lits}
 use Rattle.cube.specs.declared.Cube.{Cube}
 use Rattle.network.specs.Net.{Net, literalCount}
 use Rattle.network.specs.Held.{netOf, rules}
-use Rattle.network.specs.Handed.{Holds}
+use Rattle.network.specs.Handed.{Holds, Shaped}
 use Rattle.network.specs.Answers.{counted, evaluated}
 use Rattle.network.specs.declared.Network.{Network}
 use Rattle.network.specs.declared.Number.the-variants.{Is}
-use Rattle.network.proofs.Handing.{holds-net, holds-one, blank-one}
+use Rattle.network.proofs.Handing.{holds-net, holds-one, blank-one, Typed}
 use Rattle.extract_laws.specs.Run as extraction
 use Rattle.extract_laws.specs.Run.{Result, done, asked, numbers, rows, making, run}
 use Rattle.extract_laws.specs.Meaning.{Worth, Leads, Ends, fall}
 use Rattle.extract_laws.proofs.Running.{first, run-leads, run-stop, run-few, run-network-add, run-stop-add}
 use Rattle.extract_laws.proofs.Keeping.{leads-counts, first-good, run-good, run-literals}
 use Rattle.extract_laws.proofs.Following.{rules-good, run-rules, run-evaluated}
-use Rattle.extract_tidy.proofs.Tidied.{Shaped}
 use Rattle.extract_divisor.specs.Divisor.{divisorOf}
 use Rattle.extract_divisor.specs.declared.Divisor.{Divisor}
 use Rattle.extract_divisor.specs.declared.Divisor.the-variants.{Pair, Sum}
@@ -116,7 +115,7 @@ stop-one x y e = sym (back-stop x) ∙ ap back e ∙ back-stop y
 
 -- an answer whose words and masks are of 64 bits
 pub record FitRan (r : Ran) : Type 0 where
-  pub network : Shaped (r .network)
+  pub network : Typed (r .network)
   pub steps : all fitStep (r .steps .list) ≡ true
 
 lists-one : (s t : Steps) (l : List extraction.Made) → all fitStep (s .list) ≡ true → all fitStep (t .list) ≡ true → Lists s l → Lists t l → s ≡ t
@@ -136,7 +135,7 @@ told-one k n r s a b = go (runOn k n)
     go (some t) ((x, p, u), h, l) ((y, q, v), g, m) =
         let e : x ≡ y = stop-one x y (u ∙ sym v) in
         join (p ∙ ap Stopped e ∙ sym q)
-        (holds-one (r .network) (s .network) (t .network) (a .network .places) (b .network .places) (a .network .fits) (b .network .fits) h g)
+        (holds-one (r .network) (s .network) (t .network) (a .network) (b .network) h g)
         (lists-one (r .steps) (s .steps) (t .steps) (a .steps) (b .steps) l m)
     go none (p, h, l) (q, g, m) = join (p ∙ sym q) (blank-one (r .network) (s .network) h g) (lists-one (r .steps) (s .steps) [] (a .steps) (b .steps) l m)
 
@@ -150,7 +149,7 @@ ran-told : (k : ℕ) (n : Network) (r : Ran) → rules n ≡ true → Told (runO
 unfolding runOn
 ran-told k n r h t = rw h at t
 
-module _ (k : ℕ) (n : Network) (r : Ran) (slots : length (n .counts) ≡ 96) (words : length (n .words) ≡ 2176)
+module _ (k : ℕ) (n : Network) (r : Ran) (shape : Shaped n)
     (h : rules n ≡ true) (t : Told (runOn k n) r) where
   told : Told (some (run k (netOf n))) r
   told = ran-told k n r h t
@@ -159,15 +158,15 @@ module _ (k : ℕ) (n : Network) (r : Ran) (slots : length (n .counts) ≡ 96) (
   ran-steps = let l = told .2 in ap (λ (c : ℕ). map madeOf (take c (r .steps .list))) (l .number) ∙ l .steps
 
   ran-network : netOf (r .network) ≡ run k (netOf n) .network
-  ran-network = holds-net (r .network) (run k (netOf n) .network) (told .1) ((run-good k (netOf n) (rules-good n slots words h)) .inTurn)
+  ran-network = holds-net (r .network) (run k (netOf n) .network) (told .1) ((run-good k (netOf n) (rules-good n shape h)) .inTurn)
 
   -- the resulting network follows the rules and keeps the limits
   pub ran-rules : rules (r .network) ≡ true
-  ran-rules = run-rules n (r .network) slots words k h (told .1)
+  ran-rules = run-rules n (r .network) shape k h (told .1)
 
   -- outputs after a run are those before, for every setting
   pub ran-outputs : (s : ℕ) → evaluated (r .network) s ≡ evaluated n s
-  ran-outputs = run-evaluated n (r .network) slots words k h (told .1)
+  ran-outputs = run-evaluated n (r .network) shape k h (told .1)
 
   -- each step listed takes the best divisor of the network that it is made on
   pub ran-leads : Leads (first (netOf n)) (stepsOf r) (netOf (r .network))
@@ -182,13 +181,13 @@ module _ (k : ℕ) (n : Network) (r : Ran) (slots : length (n .counts) ≡ 96) (
   ran-literals = (
     rw h,
     rw ran-rules,
-    ap (λ z. pos (literalCount z)) ran-network ∙ run-literals k (netOf n) (rules-good n slots words h) ∙ ap (λ l. pos (literalCount (netOf n)) -ℤ fall l) (sym ran-steps),
+    ap (λ z. pos (literalCount z)) ran-network ∙ run-literals k (netOf n) (rules-good n shape h) ∙ ap (λ l. pos (literalCount (netOf n)) -ℤ fall l) (sym ran-steps),
   )
 
   -- each step listed carries the number of its node, and the literals of the network after it: those before it less the weight
   pub ran-counts : (s : extraction.Made) → s ∈ stepsOf r
       → (p : Net) × Worth p (s .divisor) × (s ≡ making p (s .divisor)) × (pos (s .literals) ≡ pos (literalCount p) -ℤ s .weight)
-  ran-counts = leads-counts ran-leads (first-good (netOf n) (rules-good n slots words h))
+  ran-counts = leads-counts ran-leads (first-good (netOf n) (rules-good n shape h))
 
   -- a run of k steps makes at most k
   pub ran-few : length (stepsOf r) ≤ k
@@ -209,21 +208,21 @@ module _ (k : ℕ) (n : Network) (r : Ran) (slots : length (n .counts) ≡ 96) (
       )
 
 -- runs of s then t steps on one network end in the network of a run of s + t, and for t above 0 with its stop reason
-module _ (s t : ℕ) (n : Network) (r q p : Ran) (slots : length (n .counts) ≡ 96) (words : length (n .words) ≡ 2176) (h : rules n ≡ true)
+module _ (s t : ℕ) (n : Network) (r q p : Ran) (shape : Shaped n) (h : rules n ≡ true)
     (a : Told (runOn s n) r) (b : Told (runOn t (r .network)) q) (c : Told (runOn (s + t) n) p) where
   first-is : netOf (r .network) ≡ run s (netOf n) .network
-  first-is = ran-network s n r slots words h a
+  first-is = ran-network s n r shape h a
 
   then-told : Told (some (run t (run s (netOf n) .network))) q
   then-told =
-      subst (λ (m : Net). Told (some (run t m)) q) first-is (ran-told t (r .network) q (ran-rules s n r slots words h a) b)
+      subst (λ (m : Net). Told (some (run t m)) q) first-is (ran-told t (r .network) q (ran-rules s n r shape h a) b)
 
   whole-told : Told (some (run (s + t) (netOf n))) p
   whole-told = ran-told (s + t) n p h c
 
   pub ran-network-add : FitRan q → FitRan p → p .network ≡ q .network
   ran-network-add f g =
-      holds-one (p .network) (q .network) (run (s + t) (netOf n) .network) (g .network .places) (f .network .places) (g .network .fits) (f .network .fits)
+      holds-one (p .network) (q .network) (run (s + t) (netOf n) .network) (g .network) (f .network)
       (whole-told .1) (subst (Holds (q .network)) (sym (run-network-add s (netOf n) t)) (then-told .1))
 
   pub ran-stop-add : 0 < t → p .answer ≡ q .answer

@@ -1,9 +1,9 @@
 // Runs: the best divisor again and again, until the first reason to stop.
 use cube::Variable;
+use expression::Verdict;
 use extract_divisor::Divisor;
 use extract_divisor::Step;
 use extract_step::Outcome;
-use network::Judged;
 use network::Network;
 ghost use mathlib.Core.Path.{_≡_};
 ghost use mathlib.Core.Option.{some};
@@ -153,7 +153,7 @@ pub fn run(n: Network, steps: u64) -> Ran
     let t = extract_tidy::in_order(n);
     let answer = t.answer;
     let network = t.network;
-    let Judged::Accepted = answer else {
+    let Verdict::Accepted = answer else {
         return Ran {
             answer: Answer::Refused(10),
             network,

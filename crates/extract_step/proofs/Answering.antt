@@ -13,15 +13,14 @@ use Rattle.sets.proofs.Lists.{total-append, total-map}
 use Rattle.expression.specs.Expression.{ordered, literalsOf}
 use Rattle.expression.specs.Words.{cubesOf}
 use Rattle.expression.specs.Answers.{capped}
-use Rattle.expression.proofs.Words.{fit}
 use Rattle.network.specs.Net.{Net, nodes, variables, cubeCount, literalCount}
 use Rattle.network.specs.Held.{netOf, mostVariables, mostCubes, mostLiterals}
-use Rattle.network.specs.Handed.{flat, cubeSlots, Holds}
-use Rattle.network.specs.Parts.{nodesOf, heldIn, netAt, Sized}
+use Rattle.network.specs.Handed.{flat, cubeSlots, Shaped, Holds}
+use Rattle.network.specs.Parts.{nodesOf, heldIn, netAt, Limited}
 use Rattle.network.specs.declared.Network.{Network}
 use Rattle.network.proofs.Holding.{nodes-held, outputs-held, divisors-held}
 use Rattle.network_nodes.proofs.Cutting.{cut-total}
-use Rattle.network.proofs.Handing.{cut-flat, flat-length, holds-one, blank-one}
+use Rattle.network.proofs.Handing.{Typed, cut-flat, flat-length, holds-one, blank-one}
 use Rattle.extract_laws.specs.Divisor.{own, rewrite}
 use Rattle.extract_laws.specs.Divisor as extraction
 use Rattle.extract_laws.specs.Extract.{redo, nextFree, step}
@@ -57,11 +56,11 @@ module _ (n m k : ℕ) (words counts : List ℕ) (s : SourceNodes words counts (
   abbrev net : Net
   net = netAt n m k counts words
 
-  few : m + k ≤ 96
-  few = omega (arith, s .free)
+  few : m + k ≤ length counts
+  few = omega (arith, s .slots, s .free)
 
   numbered : variables net ≡ n + k
-  numbered = ap (n +_) (divisors-held (heldIn n m k counts words) (s .slots) few)
+  numbered = ap (n +_) (divisors-held (heldIn n m k counts words) few)
 
   -- the new node's number
   pub next : nextFree net ≡ n + k
@@ -90,15 +89,18 @@ module _ (n m k : ℕ) (words counts : List ℕ) (s : SourceNodes words counts (
     pub laid-holds : {ws sizes : List ℕ} {t : ℕ} → LaidNodes ws sizes t (nodes (step net d)) → Holds (heldIn n m (k + 1) sizes ws) (step net d)
     laid-holds l = record {
       inputs = refl;
-      outputs = sym (length-map (net .outputs) (rewrite (2 * nextFree net) d) ∙ outputs-held (heldIn n m k counts words) (s .slots) few);
+      outputs = sym (length-map (net .outputs) (rewrite (2 * nextFree net) d) ∙ outputs-held (heldIn n m k counts words) few);
       divisors = omega (
         arith,
         length-append (map (redo (2 * nextFree net) d) (net .divisors)) (record { number = nextFree net; cubes = own d } ∷ []),
         length-map (net .divisors) (redo (2 * nextFree net) d),
-        divisors-held (heldIn n m k counts words) (s .slots) few,
+        divisors-held (heldIn n m k counts words) few,
       );
-      counts = l .counted;
-      cubes = l .front .cubes ∙ ap (λ (z : ℕ). flat (nodes (step net d)) ++ replicate (cubeSlots - z) []) (l .front .number ∙ flat-length (nodes (step net d)));
+      laid = record {
+        place = refl;
+        counts = l .counted;
+        cubes = l .front .cubes ∙ ap (λ (z : ℕ). flat (nodes (step net d)) ++ replicate (cubeSlots - z) []) (l .front .number ∙ flat-length (nodes (step net d)));
+      };
     }
 
     module _ (h : n + k < mostVariables) where
@@ -123,20 +125,20 @@ module _ (n m k : ℕ) (words counts : List ℕ) (s : SourceNodes words counts (
 
 -- ---- the cases of an answer
 
-module _ (n : Network) (slots : length (n .counts) ≡ 96) (places : length (n .words) ≡ 2176) (a : arranged n ≡ true) where
-  within : Sized (n .inputs) (n .outputs) (n .divisors) (n .words) (n .counts)
-  within = arranged-sized n a slots places
+module _ (n : Network) (shape : Shaped n) (a : arranged n ≡ true) where
+  within : Limited n
+  within = arranged-sized n a shape
 
   pub arranged-source : n .inputs + n .divisors < mostVariables → SourceNodes (n .words) (n .counts) (n .outputs + n .divisors)
   arranged-source h = record {
-    slots = slots;
+    slots = shape .slots;
     free = omega (arith, within .narrow);
     cubes = within .cubes;
     order = ap (all ordered) (sym (nodes-held n)) ∙ arranged-parts n a .1;
   }
 
   pub arranged-variables : variables (netOf n) ≡ n .inputs + n .divisors
-  arranged-variables = ap (n .inputs +_) (divisors-held n slots (omega (arith, within .narrow, within .variables)))
+  arranged-variables = ap (n .inputs +_) (divisors-held n (within .counted))
 
   pub room-full : (d : extraction.Divisor) → mostVariables ≤ n .inputs + n .divisors → roomFor (netOf n) d ≡ stuck numbers
   unfolding roomFor
@@ -163,8 +165,7 @@ stepped-as n r p h = subst (λ o. Stepped n o r) (sym p) h
 -- ---- one answer
 
 -- two answers to one step are the same, where their words are words
-module _ (n : Network) (d : Divisor) (r t : Next)
-    (lr : length (r .network .words) ≡ 2176) (lt : length (t .network .words) ≡ 2176) (fr : fit (r .network .words) ≡ true) (ft : fit (t .network .words) ≡ true) where
+module _ (n : Network) (d : Divisor) (r t : Next) (x : Typed (r .network)) (y : Typed (t .network)) where
   pub stepped-one : Stepped n (outcome n d) r → Stepped n (outcome n d) t → r ≡ t
   stepped-one = go (outcome n d)
     where
@@ -176,7 +177,7 @@ module _ (n : Network) (d : Divisor) (r t : Next)
 
       go : (o : Option Move) → Stepped n o r → Stepped n o t → r ≡ t
       go (some (makes e)) (p, h) (q, k) =
-          join (p ∙ sym q) (holds-one (r .network) (t .network) (step (netOf n) e) lr lt fr ft (h .held) (k .held))
+          join (p ∙ sym q) (holds-one (r .network) (t .network) (step (netOf n) e) x y (h .held) (k .held))
           (h .number ∙ sym (k .number)) (h .literals ∙ sym (k .literals))
       go (some (stuck numbers)) (p, h) (q, k) = zeros (p ∙ sym q) h k
       go (some (stuck rows)) (p, h) (q, k) = zeros (p ∙ sym q) h k

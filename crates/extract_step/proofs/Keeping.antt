@@ -11,6 +11,7 @@ use Rattle.sets.proofs.Truth.{both}
 use Rattle.sets.proofs.Lists.{_∈_}
 use Rattle.network.specs.Net.{Net, nodes, variables, cubeCount, literalCount}
 use Rattle.network.specs.Held.{netOf, rules, mostVariables, mostCubes, mostLiterals}
+use Rattle.network.specs.Handed.{Shaped}
 use Rattle.network.specs.declared.Network.{Network}
 use Rattle.network.proofs.Ruling.{rules-lawful}
 use Rattle.network.proofs.Handing.{holds-net}
@@ -71,10 +72,10 @@ stepped-takes n d t s q =
 
 -- ---- from a network by the rules
 
-module _ (n : Network) (slots : length (n .counts) ≡ 96) (words : length (n .words) ≡ 2176) (r : rules n ≡ true)
+module _ (n : Network) (shape : Shaped n) (r : rules n ≡ true)
     (d : extraction.Divisor) (x : Next) (t : Takes (netOf n) d x) where
   good : Good (step (netOf n) d)
-  good = step-good (netOf n) (rules-good n slots words r) d (t .fit)
+  good = step-good (netOf n) (rules-good n shape r) d (t .fit)
 
   -- it means the network after the step
   pub takes-is : netOf (x .network) ≡ step (netOf n) d
@@ -82,18 +83,18 @@ module _ (n : Network) (slots : length (n .counts) ≡ 96) (words : length (n .w
 
   pub takes-rules : rules (x .network) ≡ true
   takes-rules =
-      let w = rules-lawful n slots words r in
+      let w = rules-lawful n shape r in
       holds-rules (x .network) (step (netOf n) d) (t .after .held) good
       (record { variables = omega (arith, step-variables (netOf n) d, t .number); cubes = t .rows; literals = t .literals }) (w .inputs)
       (omega (arith, w .outputs, length-map ((netOf n) .outputs) (rewrite (2 * nextFree (netOf n)) d)))
 
   pub takes-arranged : arranged (x .network) ≡ true
   takes-arranged = arranged-in (x .network) takes-rules (λ f m.
-    step-ordered (netOf n) (rules-good n slots words r) d (t .fit) f (subst (λ (z : Net). f ∈ nodes z) takes-is m))
+    step-ordered (netOf n) (rules-good n shape r) d (t .fit) f (subst (λ (z : Net). f ∈ nodes z) takes-is m))
 
 -- what a step hands back, where it is made
-pub made-rules : (n : Network) (d : Divisor) (t : Next) → length (n .counts) ≡ 96 → length (n .words) ≡ 2176 → rules n ≡ true
+pub made-rules : (n : Network) (d : Divisor) (t : Next) → Shaped n → rules n ≡ true
     → Stepped n (outcome n d) t → t .outcome ≡ Made → (rules (t .network) ≡ true) × (arranged (t .network) ≡ true)
-made-rules n d t slots words r s q =
+made-rules n d t shape r s q =
     let k = stepped-takes n d t s q in
-    (takes-rules n slots words r (divisorOf d) t k, takes-arranged n slots words r (divisorOf d) t k)
+    (takes-rules n shape r (divisorOf d) t k, takes-arranged n shape r (divisorOf d) t k)

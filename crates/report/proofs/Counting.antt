@@ -14,7 +14,7 @@ use mir.ValLaws.{toZ-ofZ}
 use Rattle.network.specs.Net.{Net, literalCount}
 use Rattle.extract_laws.specs.Divisor.{Divisor}
 use Rattle.extract_laws.specs.Extract.{weight, step}
-use Rattle.extract_laws.specs.Run.{Made, Result, Move, move, made, runFrom, inOrder, run}
+use Rattle.extract_laws.specs.Run.{Made, Result, Move, move, making, prepare, runFrom, inOrder, run}
 use Rattle.extract_laws.specs.Meaning.{Good, Worth, Leads, Allows, fall}
 use Rattle.extract_laws.specs.Meaning.Allows.{nothing, noNumber, noRows, next}
 use Rattle.extract_laws.specs.Meaning.Leads.{stay, onward}
@@ -22,7 +22,7 @@ use Rattle.extract_laws.proofs.Weighing.{step-literals}
 use Rattle.extract_laws.proofs.Stepping.{step-good}
 use Rattle.extract_laws.proofs.Arranging.{in-order-literals, in-order-good}
 use Rattle.extract_laws.proofs.Moving.{move-iff}
-use Rattle.extract_laws.proofs.Running.{from-none, from-finished, from-stuck, from-take, run-leads}
+use Rattle.extract_laws.proofs.Running.{from-none, from-finished, from-stuck, from-make, run-leads}
 use Rattle.extract_laws.proofs.Keeping.{worth-fit, run-literals}
 use Rattle.report.specs.Report.{stepLine, stepLines}
 use Rattle.report.specs.Meaning.{countsOf, linesWith}
@@ -70,6 +70,7 @@ pub step-falls : (n : Net) → Good n → (d : Divisor) → Worth n d → litera
 step-falls n g d w s = taken (literalCount (step n d)) (literalCount n) s (weight n d) (w .above) (step-literals n g d (worth-fit g w .whole))
 
 leads-falls : {n m : Net} {l : List Made} → Leads n l m → Good n → literalCount n < 2147483648 → Falls (literalCount n) l
+unfolding prepare
 leads-falls stay g s = none
 leads-falls (onward {n = n} {l = l} d w a b t) g s =
     let f = step-falls n g d w s in
@@ -77,6 +78,7 @@ leads-falls (onward {n = n} {l = l} d w a b t) g s =
 
 -- every weight of a run can be taken off the count before it
 pub run-falls : (k : ℕ) (n : Net) → Good n → literalCount n < 2147483648 → Falls (literalCount n) (run k n .steps)
+unfolding prepare
 run-falls k n g s = subst (λ c. Falls c (run k n .steps)) (in-order-literals n) (leads-falls (run-leads k n) (in-order-good n g) (omega (arith, in-order-literals n)))
 
 -- ---- the counts that are printed
@@ -92,7 +94,7 @@ abbrev counts : Net → List Made → List ℤ
 counts n l = countsOf (pos (literalCount n)) l
 
 from-count : (k : ℕ) (n : Net) → Good n → (i : ℕ) → i < length (runFrom k n .steps) → getD (counts n (runFrom k n .steps)) i (pos 0) ≡ pos (literalCount (runFrom (suc i) n .network))
-unfolding countsOf
+unfolding countsOf prepare
 from-count zero n g i h = let e : length (runFrom 0 n .steps) ≡ 0 = ap (λ (r : Result). length (r .steps)) (from-none n) in absurd (omega arith)
 from-count (suc k) n g i h = go (move n) refl ((move-iff n (move n)) .0 refl) (λ d w. from-count k (step n d) (step-good n g d (worth-fit g w)))
   where
@@ -102,14 +104,14 @@ from-count (suc k) n g i h = go (move n) refl ((move-iff n (move n)) .0 refl) (�
     go m e (nothing w) f = let z : length (runFrom (suc k) n .steps) ≡ 0 = ap (λ (r : Result). length (r .steps)) (from-finished k n e) in absurd (omega arith)
     go m e (noNumber w l) f = let z : length (runFrom (suc k) n .steps) ≡ 0 = ap (λ (r : Result). length (r .steps)) (from-stuck k n _ e) in absurd (omega arith)
     go m e (noRows w l r) f = let z : length (runFrom (suc k) n .steps) ≡ 0 = ap (λ (r : Result). length (r .steps)) (from-stuck k n _ e) in absurd (omega arith)
-    go m e (next {d = d} w l r) f = ap (λ (r : Result). getD (counts n (r .steps)) i (pos 0)) (from-take k n d e) ∙ turn i (subst (λ (r : Result). i < length (r .steps)) (from-take k n d e) h)
+    go m e (next {d = d} w l r) f = ap (λ (r : Result). getD (counts n (r .steps)) i (pos 0)) (from-make k n d e) ∙ turn i (subst (λ (r : Result). i < length (r .steps)) (from-make k n d e) h)
       where
         after : pos (literalCount n) -ℤ weight n d ≡ pos (literalCount (step n d))
         after = sym (step-literals n g d (worth-fit g w .whole))
 
-        turn : (i : ℕ) → i < suc (length (runFrom k (step n d) .steps)) → getD (counts n (made n d ∷ runFrom k (step n d) .steps)) i (pos 0) ≡ pos (literalCount (runFrom (suc i) n .network))
-        turn zero j = after ∙ ap (λ (r : Result). pos (literalCount (r .network))) (sym (from-take 0 n d e ∙ ap (λ (r : Result). record { network = r .network; stop = r .stop; steps = made n d ∷ r .steps }) (from-none (step n d))))
-        turn (suc i) j = ap (λ c. getD (countsOf c (runFrom k (step n d) .steps)) i (pos 0)) after ∙ f d w i (omega arith) ∙ ap (λ (r : Result). pos (literalCount (r .network))) (sym (from-take (suc i) n d e))
+        turn : (i : ℕ) → i < suc (length (runFrom k (step n d) .steps)) → getD (counts n (making n d ∷ runFrom k (step n d) .steps)) i (pos 0) ≡ pos (literalCount (runFrom (suc i) n .network))
+        turn zero j = after ∙ ap (λ (r : Result). pos (literalCount (r .network))) (sym (from-make 0 n d e ∙ ap (λ (r : Result). record { network = r .network; stop = r .stop; steps = making n d ∷ r .steps }) (from-none (step n d))))
+        turn (suc i) j = ap (λ c. getD (countsOf c (runFrom k (step n d) .steps)) i (pos 0)) after ∙ f d w i (omega arith) ∙ ap (λ (r : Result). pos (literalCount (r .network))) (sym (from-make (suc i) n d e))
 
 -- the last of them
 counts-last : (c : ℤ) (m : Made) (l : List Made) → getD (countsOf c (m ∷ l)) (length l) (pos 0) ≡ c -ℤ fall (m ∷ l)
@@ -123,7 +125,7 @@ counts-last c m (x ∷ l) = counts-last (c -ℤ m .weight) x l ∙ less c (m .we
 module _ (k : ℕ) (n : Net) (g : Good n) where
   -- the count printed after a step is the literal count of the network after that many steps
   pub now-count : (i : ℕ) → i < length (run k n .steps) → getD (countsOf (pos (literalCount n)) (run k n .steps)) i (pos 0) ≡ pos (literalCount (run (suc i) n .network))
-  unfolding run
+  unfolding run prepare
   now-count i h = ap (λ c. getD (countsOf (pos c) (runFrom k (inOrder n) .steps)) i (pos 0)) (sym (in-order-literals n)) ∙ from-count k (inOrder n) (in-order-good n g) i h
 
   -- and so the last one is the count at the end

@@ -19,9 +19,8 @@ use Rattle.extract_laws.specs.Meaning.{Good, Within}
 use Rattle.extract_laws.proofs.Running.{run-few}
 use Rattle.extract_laws.proofs.Keeping.{run-good}
 use Rattle.extract_laws.proofs.Following.{rules-good, rules-within, run-rules}
-use Rattle.extract_divisor.specs.Divisor.{madeOf}
 use Rattle.extract.specs.Answers as extract
-use Rattle.extract.specs.Answers.{stopOf, Lists, ran}
+use Rattle.extract.specs.Answers.{stopOf, madeOf, Lists, runOn}
 use Rattle.extract.specs.declared.Stop.{Stop}
 use Rattle.extract.specs.declared.Answer.the-variants.{Stopped, Refused}
 use Rattle.extract.specs.declared.Steps.{Steps}
@@ -37,8 +36,8 @@ pub counted-rules : (n : Network) → rules n ≡ true → counted n ≡ Is (lit
 unfolding counted
 counted-rules n h = rw h
 
-ran-rules : (k : ℕ) (n : Network) → rules n ≡ true → ran k n ≡ some (run k (netOf n))
-unfolding ran
+ran-rules : (k : ℕ) (n : Network) → rules n ≡ true → runOn k n ≡ some (run k (netOf n))
+unfolding runOn
 ran-rules k n h = rw h
 
 steps-are : (s : Steps) (l : List Made) → Lists s l → madeIn s ≡ l
@@ -58,7 +57,7 @@ module _ (n : Network) (shape : Shaped n) (h : rules n ≡ true) where
   pub first-few : n .inputs + n .divisors ≤ 64
   first-few = omega (arith, first-number, within .variables)
 
-  module _ (r : Ran) (t : extract.Told (ran 64 n) r) where
+  module _ (r : Ran) (t : extract.Told (runOn 64 n) r) where
     abbrev result : Result
     result = run 64 (netOf n)
 

@@ -10,7 +10,7 @@ use borrow.Author.Tests.{lt-ltb, le-ltb}
 use Rattle.network.specs.Held.{rules}
 use Rattle.network.specs.Net.{Net}
 use Rattle.extract_laws.specs.Run.{run}
-use Rattle.extract_divisor.specs.Divisor.{madeOf}
+use Rattle.extract.specs.Answers.{madeOf}
 use Rattle.table.specs.Table.{readText}
 use Rattle.table.specs.Answers as table
 use Rattle.table.specs.declared.Refusal.{Refusal}

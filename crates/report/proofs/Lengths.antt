@@ -22,7 +22,7 @@ use Rattle.table.proofs.Keeping.{table-lawful}
 use Rattle.table_lines.specs.Text.{onto, linesOf}
 use Rattle.extract_laws.specs.Divisor.{Divisor, pair, sum, own, small}
 use Rattle.extract_laws.specs.Extract.{weight, step}
-use Rattle.extract_laws.specs.Run.{Stop, done, asked, numbers, rows, Made, made, run, inOrder}
+use Rattle.extract_laws.specs.Run.{Stop, done, asked, numbers, rows, Made, making, prepare, run, inOrder}
 use Rattle.extract_laws.specs.Meaning.{Good, Within, Fit, Leads}
 use Rattle.extract_laws.specs.Meaning.Leads.{stay, onward}
 use Rattle.extract_laws.proofs.Using.{sum-parts}
@@ -84,13 +84,14 @@ step-length v d w c hv hd hw hc =
 -- ---- the lines of all steps
 
 leads-length : {n m : Net} {l : List Made} → Leads n l m → Good n → literalCount n ≤ 32768 → length (report.stepLines (variables n) (pos (literalCount n)) l) ≤ 55 * length l
+unfolding prepare
 leads-length (stay {n = n}) g s = rw (lines-none (variables n) (pos (literalCount n))) (omega arith)
 leads-length (onward {n = n} {l = l} d w a b t) g s =
     let f = step-falls n g d w (omega arith) in
     let k = f .0 .size in
     let c : pos (literalCount n) -ℤ weight n d ≡ pos (literalCount (step n d)) = off-left (f .0) ∙ ap pos (f .1) in
-    let e : report.stepLines (variables n) (pos (literalCount n)) (made n d ∷ l) ≡ stepLine (variables n) d (pos k) (pos (literalCount (step n d))) ++ report.stepLines (variables (step n d)) (pos (literalCount (step n d))) l =
-    lines-first (variables n) (pos (literalCount n)) (made n d) l
+    let e : report.stepLines (variables n) (pos (literalCount n)) (making n d ∷ l) ≡ stepLine (variables n) d (pos k) (pos (literalCount (step n d))) ++ report.stepLines (variables (step n d)) (pos (literalCount (step n d))) l =
+    lines-first (variables n) (pos (literalCount n)) (making n d) l
     ∙ ap₂ (λ y z. stepLine (variables n) d y z ++ report.stepLines (suc (variables n)) z l) (f .0 .is) c
     ∙ ap (λ v. stepLine (variables n) d (pos k) (pos (literalCount (step n d))) ++ report.stepLines v (pos (literalCount (step n d))) l) (sym (step-variables n d)) in
     omega (
@@ -127,7 +128,7 @@ run-length n a l e r ha he hl hk =
 
 -- a run of 64 steps on a good network within the limits
 pub ran-length : (n : Net) → Good n → Within n → length (ranText n (run 64 n)) ≤ 4096
-unfolding ranText
+unfolding ranText prepare
 ran-length n g w =
     let o : report.stepLines (variables (inOrder n)) (pos (literalCount (inOrder n))) (run 64 n .steps) ≡ report.stepLines (variables n) (pos (literalCount n)) (run 64 n .steps) =
     ap₂ (λ v c. report.stepLines v (pos c) (run 64 n .steps)) (in-order-variables n) (in-order-literals n) in

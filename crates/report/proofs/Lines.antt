@@ -11,8 +11,8 @@ use Rattle.letters.specs.Letters.{decimal}
 use Rattle.letters_products.specs.Products.{literalText, cubeText}
 use Rattle.extract_laws.specs.Divisor.{Divisor, pair, sum}
 use Rattle.extract_laws.specs.Run.{Stop, done, asked, numbers, rows, Made}
-use Rattle.extract_divisor.specs.Divisor.{madeOf, noStep}
-use Rattle.extract_divisor.specs.declared.Step.{Step}
+use Rattle.extract.specs.Answers.{madeOf, noMade}
+use Rattle.extract.specs.declared.Made as extract
 use Rattle.extract.specs.Answers.{stopOf}
 use Rattle.table.specs.declared.Refusal.{Refusal}
 use Rattle.table.specs.declared.Answer.the-variants.{Read, Refused}
@@ -88,14 +88,14 @@ lines-next v i c m l {w} {r} e f =
     ∙ ap (λ n. stepLine (v + i) (m .divisor) (pos w) (pos r) ++ stepLines n (pos r) l) k
 
 -- the steps from i on, of those that are counted
-pub made-next : (s : List Step) (n i : ℕ) → i < n → n ≤ length s → drop i (map madeOf (take n s)) ≡ madeOf (getD s i noStep) ∷ drop (i + 1) (map madeOf (take n s))
+pub made-next : (s : List extract.Made) (n i : ℕ) → i < n → n ≤ length s → drop i (map madeOf (take n s)) ≡ madeOf (getD s i noMade) ∷ drop (i + 1) (map madeOf (take n s))
 made-next s n i h k =
     let e : length (take n s) ≡ n = length-take-le n s k in
     let j : i < length (map madeOf (take n s)) = omega (arith, length-map (take n s) madeOf) in
-    drop-next (map madeOf (take n s)) i (madeOf noStep) j
-    ∙ ap (_∷ drop (i + 1) (map madeOf (take n s))) (getD-map (take n s) i ∙ ap madeOf (getD-take n s i noStep h))
+    drop-next (map madeOf (take n s)) i (madeOf noMade) j
+    ∙ ap (_∷ drop (i + 1) (map madeOf (take n s))) (getD-map (take n s) i ∙ ap madeOf (getD-take n s i noMade h))
   where
-    getD-map : (l : List Step) (i : ℕ) → getD (map madeOf l) i (madeOf noStep) ≡ madeOf (getD l i noStep)
+    getD-map : (l : List extract.Made) (i : ℕ) → getD (map madeOf l) i (madeOf noMade) ≡ madeOf (getD l i noMade)
     getD-map [] i = refl
     getD-map (x ∷ l) zero = refl
     getD-map (x ∷ l) (suc i) = getD-map l i

@@ -14,12 +14,12 @@ use Rattle.table.specs.declared.Answer.the-variants.{Read}
 use Rattle.table.specs.declared.Table.{Table}
 use Rattle.table.proofs.Keeping.{read-rules, read-outputs}
 use Rattle.extract.specs.Answers as extract
-use Rattle.extract.specs.Answers.{ran}
+use Rattle.extract.specs.Answers.{runOn}
 use Rattle.extract.specs.declared.Ran.{Ran}
 use Rattle.extract.proofs.Telling.{ran-outputs}
 
 module _ (text : List ℕ) (t : Table) (o : table.Told (readText text) t) (e : t .answer ≡ Read)
-    (shape : Shaped (t .network)) (k : ℕ) (r : Ran) (q : extract.Told (ran k (t .network)) r) where
+    (shape : Shaped (t .network)) (k : ℕ) (r : Ran) (q : extract.Told (runOn k (t .network)) r) where
   -- output j of the resulting network is on exactly when some cube line of the text with a `1` for output j covers the setting; other bits are zero
   pub run-table-outputs : (x : ℕ) → (y : ℕ) × (evaluated (r .network) x ≡ Is y)
       × ((j : ℕ) → j < outputsOf text → bit y j ≡ someCovers (cubeLinesOf text) x j)

@@ -7,7 +7,7 @@ use lib.ListN.{take}
 use Rattle.network.specs.Held.{netOf, mostVariables}
 use Rattle.network.specs.declared.Network.{Network}
 use Rattle.extract_laws.specs.Run.{Made, run}
-use Rattle.extract_divisor.specs.Divisor.{madeOf}
+use Rattle.extract.specs.Answers.{madeOf}
 use Rattle.extract.specs.Answers.{stopOf}
 use Rattle.extract.specs.declared.Steps.{Steps}
 use Rattle.table.specs.declared.Answer.{Answer}

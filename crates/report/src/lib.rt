@@ -1,9 +1,7 @@
 // The report on a table text: the literal count at the start, a line for each step, the count at the end and the stop reason; or the refusal.
-use cube::Literal;
 use extract::Steps;
 use extract::Stop;
 use extract_divisor::Divisor;
-use extract_divisor::Step;
 use network::Network;
 use network::Number;
 use table::Answer;
@@ -176,19 +174,11 @@ fn put_findings(o: &mut [u8], f: Findings) -> usize
 fn refused(answer: Answer) -> Findings
     ensures { λ r. ⌜ (r .answer ≡ answer) × (r .first ≡ 0) × (r .steps .count ≡ 0) ⌝ }
 {
-    let none = Step {
-        divisor: Divisor::Pair(Literal(0), Literal(0)),
-        weight: 0,
-        uses: 0,
-    };
     Findings {
         answer,
         first: 0,
         start: 0,
-        steps: Steps {
-            count: 0,
-            list: [none; 64],
-        },
+        steps: extract::no_steps(),
         end: 0,
         stop: Stop::Done,
     }

@@ -8,12 +8,14 @@ use mathlib.Core.Option.{some}
 use native.Mathlib.Omega.{arith}
 use borrow.Author.Needs.{needs}
 use lib.IntN.{pos}
-use lib.ListN.{length, set}
+use lib.ListN.{set}
 use lib.Signed.{leZ, ltZ}
 use mir.Syntax.{w32}
 use mir.Val.{toZ, ofZ}
 use mir.Facts.{toZ-ofZ}
 use Rattle.network.specs.Held.{netOf, mostVariables}
+use Rattle.network.specs.Handed.{Shaped}
+use Rattle.network.proofs.Handing.{shape-of}
 use Rattle.extract_laws.specs.Run.{runFrom}
 use Rattle.extract_step.specs.declared.Outcome.the-variants as Outcome
 use Rattle.extract.specs.Answers.{Told}
@@ -68,8 +70,8 @@ above : (c : tie.Else2 Inv-loop μ-loop) → ltZ (pos 0) (weighed c .loop .s .we
 above c = not-le (weighed c .loop .s .weight) (ap (λ w. leZ w (pos 0)) (sym (read (c .before))) ∙ c .if2 .left)
 
 -- the next network has the slots of its type
-slots : (c : tie.After-step Inv-loop μ-loop) → let n = c .step .result .network in (length (n .counts) ≡ 96) × (length (n .words) ≡ 2176)
-slots c = search needs
+shape : (c : tie.After-step Inv-loop μ-loop) → Shaped (c .step .result .network)
+shape c = shape-of _ (search needs) (search needs)
 
 -- the step is listed, and the network has one variable more
 on : (c : tie.After-best2 Inv-loop μ-loop) → let t = made (c .before) in let l = head (c .before) in let n = t .step .result .network in
@@ -79,7 +81,7 @@ on : (c : tie.After-best2 Inv-loop μ-loop) → let t = made (c .before) in let 
 on c =
     let m = c .before in
     let t = made m in
-    going-on (head m .loop .inv) (above (t .before)) (omega arith) (t .step .result) (t .step .ensures) (slots t .0) (slots t .1)
+    going-on (head m .loop .inv) (above (t .before)) (omega arith) (t .step .result) (t .step .ensures) (shape t)
     (m .made-by .result) (m .made-by .ensures) (c .best2 .result) (c .best2 .ensures) (m .before .before .enum-told .given .1)
 
 no-list-requires : tie.Need-no-list-requires Inv-loop μ-loop
@@ -91,7 +93,7 @@ best-requires c κs = search needs
 loop-holds : tie.Need-loop-holds Inv-loop μ-loop
 loop-holds c =
     let s = c .before .before in
-    going-first (s .args .steps) (s .args .n) (c .before .no-list .result) (c .best .result) (search needs) (search needs) (s .pre)
+    going-first (s .args .steps) (s .args .n) (c .before .no-list .result) (c .best .result) (shape-of _ (search needs) (search needs)) (s .pre)
     (c .before .no-list .ensures) (c .best .ensures)
 
 ended-requires : tie.Need-ended-requires Inv-loop μ-loop

@@ -10,7 +10,7 @@ use mir.Syntax.{w32}
 use mir.Val.{toZ, ofZ}
 use Rattle.letters.proofs.Laying.{Due, due-all, due-as, due-next, due-done, due-countable}
 use Rattle.extract_laws.specs.Run.{Made}
-use Rattle.extract_divisor.specs.Divisor.{madeOf, noStep}
+use Rattle.extract.specs.Answers.{madeOf, noMade}
 use Rattle.report.specs.Report.{stepLines, stepLine}
 use Rattle.report.specs.Parts.{Off, Falls}
 use Rattle.report.proofs.Lines.{lines-none, lines-next, made-next}
@@ -48,7 +48,7 @@ array-copy-out-s c = omega (arith, c .before .before .before .before .pre .0 .fe
 -- step i and those after it
 module _ (c : tie.In-loop Inv-loop μ-loop) where
   abbrev step : Made
-  step = madeOf (getD (c .before .before .before .before .args .steps .list) (c .before .loop .i) noStep)
+  step = madeOf (getD (c .before .before .before .before .args .steps .list) (c .before .loop .i) noMade)
 
   abbrev others : List Made
   others = drop (c .before .loop .i + 1) (steps (c .before .before .before .before))
