@@ -15,8 +15,13 @@ use Rattle.network.proofs.Handing.{holds-net}
 use Rattle.extract_laws.specs.Run.{runFrom, inOrder, run}
 use Rattle.extract_laws.specs.Meaning.{Good, Within}
 use Rattle.extract_laws.proofs.Arranging.{
-  in-order-inputs, in-order-outputs, in-order-variables, in-order-cubes, in-order-literals,
-  in-order-good, in-order-ordered,
+  in-order-inputs,
+  in-order-outputs,
+  in-order-variables,
+  in-order-cubes,
+  in-order-literals,
+  in-order-good,
+  in-order-ordered,
 }
 use Rattle.extract_laws.proofs.Preparing.{prepare-same}
 use Rattle.extract_laws.proofs.Following.{rules-good, rules-within, holds-rules}
@@ -53,7 +58,7 @@ module _ (n p : Network) (shape : Shaped n)
   start-ready = record {
     lawful = lawful;
     tidy = arranged-in p lawful (λ f m.
-      in-order-ordered (netOf n) (rules-good n shape r) f (subst (λ (z : Net). f ∈ nodes z) start-is m));
+        in-order-ordered (netOf n) (rules-good n shape r) f (subst (λ (z : Net). f ∈ nodes z) start-is m));
     held = subst (Holds p) (sym start-is) h;
   }
 

@@ -24,8 +24,14 @@ use Rattle.extract_laws.proofs.Offering.{candidate-fit}
 use Rattle.extract_laws.proofs.Making.{step-variables}
 use Rattle.extract_laws.proofs.Stepping.{step-good, step-evaluate}
 use Rattle.extract_laws.proofs.Arranging.{
-  in-order-literals, in-order-cubes, in-order-inputs, in-order-outputs, in-order-variables,
-  in-order-evaluate, in-order-good, in-order-ordered,
+  in-order-literals,
+  in-order-cubes,
+  in-order-inputs,
+  in-order-outputs,
+  in-order-variables,
+  in-order-evaluate,
+  in-order-good,
+  in-order-ordered,
 }
 use Rattle.extract_laws.proofs.Preparing.{prepare-same, prepares}
 use Rattle.extract_laws.proofs.Running.{first, run-leads, run-arranged}

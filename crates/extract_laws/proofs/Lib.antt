@@ -13,4 +13,3 @@ pub mod Preparing
 pub mod Running
 pub mod Keeping
 pub mod Following
-pub mod Reordering

@@ -77,9 +77,6 @@ ran (suc k) n = go (move n) refl ((move-iff n (move n)) .0 refl) (λ d. ran k (p
     go m e (noRows w l h) t = rw (from-stuck k n rows e) (record { leads = stay; ends = isRows (omega arith) w l h })
     go m e (next {d = d} w l h) t = rw (from-make k n d e) (record { leads = onward d w l h (t d .leads); ends = ends-more (t d .ends) })
 
-ends-done : {k j : ℕ} {n : Net} → Ends k j n done → Done n
-ends-done (isDone l h) = h
-
 -- two reasons do not apply at once
 ends-one : (k j : ℕ) (n : Net) {r s : Stop} → Ends k j n r → Ends k j n s → r ≡ s
 ends-one k j n (isDone l h) (isDone i g) = refl
@@ -122,10 +119,6 @@ module _ (k : ℕ) (n : Net) where
   -- no more steps than asked
   pub run-few : length (run k n .steps) ≤ k
   run-few = ends-few (run-ran .ends)
-
-  -- done: no divisor has a weight above 0
-  pub run-done : (run k n .stop ≡ done) ↔ Done (run k n .network)
-  run-done = (λ e. ends-done (run-stop done .0 e), λ h. run-stop done .1 (isDone run-few h))
 
 -- ---- runs add up
 

@@ -90,7 +90,7 @@ module _ (n : Network) (shape : Shaped n) (r : rules n ≡ true)
 
   pub takes-arranged : arranged (x .network) ≡ true
   takes-arranged = arranged-in (x .network) takes-rules (λ f m.
-    step-ordered (netOf n) (rules-good n shape r) d (t .fit) f (subst (λ (z : Net). f ∈ nodes z) takes-is m))
+      step-ordered (netOf n) (rules-good n shape r) d (t .fit) f (subst (λ (z : Net). f ∈ nodes z) takes-is m))
 
 -- what a step hands back, where it is made
 pub made-rules : (n : Network) (d : Divisor) (t : Next) → Shaped n → rules n ≡ true

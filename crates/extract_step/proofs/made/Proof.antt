@@ -151,12 +151,14 @@ returns-3 c =
     let w = l .before .before .before .before in
     let s = begun w in
     let a = s .args in
-    stepped-as _ _ (room-made (a .n) (a .m) (a .k) (a .words .now) (a .counts .now) (s .pre .0) (divisorOf (a .d)) (s .pre .1) (rows w) _ (counted l) (c .if2 .left))
-    (refl, record {
-      held = laid-holds (a .n) (a .m) (a .k) (a .words .now) (a .counts .now) (s .pre .0) (divisorOf (a .d)) (whole w);
-      number = omega (arith, next (a .n) (a .m) (a .k) (a .words .now) (a .counts .now) (s .pre .0), s .pre .1);
-      literals = room-literals (a .n) (a .m) (a .k) (a .words .now) (a .counts .now) (s .pre .0) (divisorOf (a .d)) (s .pre .1) (rows w) _ (counted l) (c .if2 .left);
-    })
+    stepped-as _ _ (room-made (a .n) (a .m) (a .k) (a .words .now) (a .counts .now) (s .pre .0) (divisorOf (a .d)) (s .pre .1) (rows w) _ (counted l) (c .if2 .left)) (
+      refl,
+      record {
+        held = laid-holds (a .n) (a .m) (a .k) (a .words .now) (a .counts .now) (s .pre .0) (divisorOf (a .d)) (whole w);
+        number = omega (arith, next (a .n) (a .m) (a .k) (a .words .now) (a .counts .now) (s .pre .0), s .pre .1);
+        literals = room-literals (a .n) (a .m) (a .k) (a .words .now) (a .counts .now) (s .pre .0) (divisorOf (a .d)) (s .pre .1) (rows w) _ (counted l) (c .if2 .left);
+      },
+    )
 
 pub made-spec : {M : Type 1} → statement M
 made-spec =
