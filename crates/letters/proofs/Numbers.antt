@@ -1,10 +1,9 @@
--- Numbers in decimal: case by case as they are written, what they mean, and how long they are. Assumes nothing.
-use Prim.Native.Nat.{ℕ, zero, suc, _+_, _-_, _*_, _/_, _%_, _^_, _<_, _≤_}
+-- Numbers in decimal: case by case as they are written, and what they mean. Assumes nothing.
+use Prim.Native.Nat.{ℕ, zero, suc, _+_, _-_, _*_, _/_, _%_, _<_, _≤_}
 use mathlib.Core.Path.{_≡_, refl, sym, _∙_, ap}
 use mathlib.Core.Bool.{true, false}
 use mathlib.Core.List.{List, [], _∷_, _++_, List·Memᴰ·append-cases}
 use mathlib.Core.Logic.{_⊎_, inl, inr}
-use native.Mathlib.Nat.{pow-suc, div-lt-iff-lt-mul}
 use native.Mathlib.Omega.{arith}
 use lib.Dec.{ltb}
 use lib.ListN.{length, getD, length-append, List·getD-append}
@@ -35,7 +34,8 @@ digits-enough zero k n h i = digits-one zero n (omega arith) ∙ sym (digits-one
 digits-enough (suc j) zero n h i = digits-one (suc j) n (omega arith) ∙ sym (digits-one zero n (omega arith))
 digits-enough (suc j) (suc k) n h i = go (decided (ltb n 10)) (digits-enough j k (n / 10))
   where
-    go : (ltb n 10 ≡ true) ⊎ (ltb n 10 ≡ false) → (n / 10 ≤ j → n / 10 ≤ k → digits j (n / 10) ≡ digits k (n / 10)) → digits (suc j) n ≡ digits (suc k) n
+    go : (ltb n 10 ≡ true) ⊎ (ltb n 10 ≡ false)
+        → (n / 10 ≤ j → n / 10 ≤ k → digits j (n / 10) ≡ digits k (n / 10)) → digits (suc j) n ≡ digits (suc k) n
     go (inl t) f = digits-one (suc j) n (ltb-true n 10 t) ∙ sym (digits-one (suc k) n (ltb-true n 10 t))
     go (inr t) f =
         let l : 10 ≤ n = ltb-false n 10 t in
@@ -76,38 +76,37 @@ read-one n d = omega arith
 
 -- read back in base 10, the text of a number is the number
 pub decimal-value : (n : ℕ) → readBack 0 (decimal n) ≡ n
-decimal-value = by-digits (λ n h. ap (readBack 0) (decimal-one n h) ∙ read-one 0 n ∙ omega arith)
+decimal-value =
+    by-digits
+    (λ n h. ap (readBack 0) (decimal-one n h) ∙ read-one 0 n ∙ omega arith)
     (λ n h e. ap (readBack 0) (decimal-more n h) ∙ read-append (decimal (n / 10)) _ 0 ∙ read-one (readBack 0 (decimal (n / 10))) (n % 10) ∙ omega (arith, e))
-
--- so two numbers have two texts
-pub decimal-injective : (m n : ℕ) → decimal m ≡ decimal n → m ≡ n
-decimal-injective m n e = sym (decimal-value m) ∙ ap (readBack 0) e ∙ decimal-value n
 
 -- every byte of it is a digit
 pub decimal-digits : (n : ℕ) → all isDigit (decimal n) ≡ true
-decimal-digits = by-digits (λ n h. ap (all isDigit) (decimal-one n h) ∙ digit n h)
-    (λ n h e. ap (all isDigit) (decimal-more n h) ∙ all-in isDigit (decimal (n / 10) ++ last n) (λ x m. elim (List·Memᴰ·append-cases (decimal (n / 10)) {t = last n} m) [ inl i ↦ all-out isDigit i e | inr j ↦ all-out isDigit j (digit (n % 10) (omega arith)) ]))
+decimal-digits =
+    by-digits
+    (λ n h. ap (all isDigit) (decimal-one n h) ∙ digit n h)
+    (λ n h e. ap (all isDigit) (decimal-more n h)
+        ∙ all-in isDigit (decimal (n / 10) ++ last n) (λ x m. elim (List·Memᴰ·append-cases (decimal (n / 10)) {t = last n} m) [
+          | inl i ↦ all-out isDigit i e
+          | inr j ↦ all-out isDigit j (digit (n % 10) (omega arith))
+        ]))
   where
     digit : (d : ℕ) → d < 10 → all isDigit ((48 + d) ∷ []) ≡ true
     digit d h = rw (le-leb 48 (48 + d) (omega arith), le-leb (48 + d) 57 (omega arith))
 
 -- there is a first one, and it is no `0` but for the number 0
 pub decimal-some : (n : ℕ) → 1 ≤ length (decimal n)
-decimal-some = by-digits (λ n h. omega (arith, ap length (decimal-one n h))) (λ n h e. omega (arith, ap length (decimal-more n h), length-append (decimal (n / 10)) (last n)))
+decimal-some =
+    by-digits
+    (λ n h. omega (arith, ap length (decimal-one n h)))
+    (λ n h e. omega (arith, ap length (decimal-more n h), length-append (decimal (n / 10)) (last n)))
 
 pub decimal-lead : (n : ℕ) → getD (decimal n) 0 0 ≡ 48 → n ≡ 0
-decimal-lead = by-digits (λ n h e. let f : 48 + n ≡ 48 = sym (ap (λ t. getD t 0 0) (decimal-one n h)) ∙ e in omega arith)
-    (λ n h f e. let z : n / 10 ≡ 0 = f (sym (List·getD-append (decimal (n / 10)) (last n) 0 0 (decimal-some (n / 10))) ∙ sym (ap (λ t. getD t 0 0) (decimal-more n h)) ∙ e) in absurd (omega arith))
-
--- ---- how long they are
-
--- a number below 10 to the k has at most k digits
-pub decimal-length : (k n : ℕ) → n < 10 ^ suc k → length (decimal n) ≤ suc k
-decimal-length zero n h = omega (arith, ap length (decimal-one n h))
-decimal-length (suc k) n h = go (decided (ltb n 10)) (decimal-length k (n / 10))
-  where
-    go : (ltb n 10 ≡ true) ⊎ (ltb n 10 ≡ false) → (n / 10 < 10 ^ suc k → length (decimal (n / 10)) ≤ suc k) → length (decimal n) ≤ suc (suc k)
-    go (inl t) f = omega (arith, ap length (decimal-one n (ltb-true n 10 t)))
-    go (inr t) f =
-        let e : n < 10 ^ suc k * 10 = rw (pow-suc 10 (suc k)) at h in
-        omega (arith, ap length (decimal-more n (ltb-false n 10 t)), length-append (decimal (n / 10)) (last n), f (div-lt-iff-lt-mul (omega arith) .1 e))
+decimal-lead =
+    by-digits
+    (λ n h e. let f : 48 + n ≡ 48 = sym (ap (λ t. getD t 0 0) (decimal-one n h)) ∙ e in omega arith)
+    (λ n h f e.
+        let same = List·getD-append (decimal (n / 10)) (last n) 0 0 (decimal-some (n / 10)) in
+        let z : n / 10 ≡ 0 = f (sym same ∙ sym (ap (λ t. getD t 0 0) (decimal-more n h)) ∙ e) in
+        absurd (omega arith))

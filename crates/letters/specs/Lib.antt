@@ -1,3 +1,4 @@
 pub mod Letters
 pub mod Laid
+pub mod Told
 pub mod Meaning

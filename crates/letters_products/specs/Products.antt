@@ -5,11 +5,11 @@ use mathlib.Core.List.{List, [], _∷_, _++_}
 use mathlib.Core.Option.{Option, none, some}
 use lib.Dec.{eqb}
 use Rattle.cube.specs.Cube.{width}
-use Rattle.letters.specs.Letters.{decimal}
+use Rattle.letters.specs.Letters.{nameText}
 
 -- `x3` and `x3'`
 unfoldable pub literalText : ℕ → List ℕ
-literalText l = 120 ∷ (decimal (l / 2) ++ cond (eqb (l % 2) 0) [] (39 ∷ []))
+literalText l = nameText 120 (l / 2) ++ cond (eqb (l % 2) 0) [] (39 ∷ [])
 
 -- literals with `*` between them; the empty cube is `1`
 unfoldable pub cubeText : List ℕ → List ℕ

@@ -7,12 +7,11 @@ ghost use mathlib.Core.Bool.{cond};
 ghost use mathlib.Core.List.{[], _∷_};
 ghost use Rattle.sets.specs.Sets.{firstFrom};
 ghost use Rattle.cube.specs.Cube.{lits};
-ghost use Rattle.letters.specs.Laid.{Countable, Laid};
+ghost use Rattle.letters.specs.Laid.{Laid};
 ghost use Rattle.letters_products.specs.Products.{literalText, cubeText, numberOf};
 
 // One byte, if it is wanted.
 fn put_if(o: &mut [u8], at: usize, b: u8, wanted: bool) -> usize
-    requires { ⌜ Countable at (cond wanted (b ∷ []) []) ⌝ }
     ensures { λ r. ⌜ Laid (now (o .entry)) (now (o .exit)) at r (cond wanted (b ∷ []) []) ⌝ }
 {
     if wanted {
@@ -23,13 +22,11 @@ fn put_if(o: &mut [u8], at: usize, b: u8, wanted: bool) -> usize
 
 // `x3`, and `x3'` where it is negated.
 pub fn put_literal(o: &mut [u8], at: usize, l: Literal) -> usize
-    requires { ⌜ Countable at (literalText (l .0)) ⌝ }
     ensures { λ r. ⌜ Laid (now (o .entry)) (now (o .exit)) at r (literalText (l .0)) ⌝ }
 {
     let v = cube::variable_of(l);
-    let p = letters::put(o, at, b'x');
-    let q = letters::put_number(o, p, v.0 as u64);
-    put_if(o, q, b'\'', cube::is_negated(l))
+    let p = letters::put_name(o, at, b'x', v.0 as u64);
+    put_if(o, p, b'\'', cube::is_negated(l))
 }
 
 // The number of the smallest literal that is not below a number; past the last literal where there is none.
@@ -45,7 +42,6 @@ fn next(c: Cube, from: u32) -> u32
 
 // Literals with `*` between them; the empty cube is `1`.
 pub fn put_product(o: &mut [u8], at: usize, c: Cube) -> usize
-    requires { ⌜ Countable at (cubeText (lits c)) ⌝ }
     ensures { λ r. ⌜ Laid (now (o .entry)) (now (o .exit)) at r (cubeText (lits c)) ⌝ }
 {
     let mut l = next(c, 0);

@@ -6,7 +6,7 @@ use borrow.Author.Needs.{needs}
 use borrow.Fn.Kinds.{In}
 use borrow.Fn.PlainCycle.{Measures, is, falls, and}
 use Rattle.letters.specs.Letters.{decimal}
-use Rattle.letters.proofs.Laying.{Due, due-all, due-next, due-last, due-countable, due-rest}
+use Rattle.letters.proofs.Laying.{Due, due-all, due-next, due-last}
 use Rattle.letters.proofs.Numbers.{decimal-one, decimal-more}
 use Rattle.letters.proofs.put_number.Reads as reads
 use Rattle.letters.proofs.put_number.Kinds as kinds
@@ -36,20 +36,21 @@ module _ (t : ℕ) where
   cast-put c = omega arith
 
   put-requires : lts.Need-put-requires (known t) (at t) reads.Post
-  put-requires c κs = let s = c .before .before .before in due-rest (due-all (s .args .o .now) (s .args .at) (decimal-one (s .args .n) (c .before .if1 .taken))) (s .pre .1)
+  put-requires c κs = search needs
 
   same-length : lts.Need-same-length (known t) (at t) reads.Post
   same-length c = search needs
 
   returns : lts.Need-returns (known t) (at t) reads.Post
-  returns c = due-last (due-all _ _ (decimal-one _ (c .before .before .before .before .if1 .taken))) (c .before .before .put .ensures)
+  returns c = due-last (due-all _ _ (omega arith) (omega arith) (decimal-one _ (c .before .before .before .before .if1 .taken))) (c .before .before .put .ensures)
 
   -- the digits of a tenth are due, then the last one
-  digits : (c : lts.Else1 (known t) (at t) reads.Post) → let s = c .before .before .args in Due (s .o .now) (s .at) (decimal (s .n)) (s .o .now) (s .at) (decimal (s .n / 10) ++ ((48 + s .n % 10) ∷ []))
-  digits c = due-all _ _ (decimal-more _ (c .if1 .left))
+  digits : (c : lts.Else1 (known t) (at t) reads.Post) → let s = c .before .before .args in
+      Due (s .o .now) (s .at) (decimal (s .n)) (s .o .now) (s .at) (decimal (s .n / 10) ++ ((48 + s .n % 10) ∷ []))
+  digits c = due-all _ _ (omega arith) (omega arith) (decimal-more _ (c .if1 .left))
 
   put-number-requires : lts.Need-put-number-requires (known t) (at t) reads.Post
-  put-number-requires c κs = (omega arith, due-countable (decimal (c .before .before .before .args .n / 10)) _ (digits (c .before)) (c .before .before .before .pre .1))
+  put-number-requires c κs = omega arith
 
   add-put-2 : lts.Need-add-put-2 (known t) (at t) reads.Post
   add-put-2 c = omega arith
@@ -57,11 +58,12 @@ module _ (t : ℕ) where
   cast-put-2 : lts.Need-cast-put-2 (known t) (at t) reads.Post
   cast-put-2 c = omega arith
 
-  last : (c : lts.After-put-number (known t) (at t) reads.Post) → let s = c .before .before .before .before .args in Due (s .o .now) (s .at) (decimal (s .n)) (c .put-number .last .0) (c .put-number .result) ((48 + s .n % 10) ∷ [])
+  last : (c : lts.After-put-number (known t) (at t) reads.Post) → let s = c .before .before .before .before .args in
+      Due (s .o .now) (s .at) (decimal (s .n)) (c .put-number .last .0) (c .put-number .result) ((48 + s .n % 10) ∷ [])
   last c = due-next (digits (c .before .before)) (c .put-number .ensures)
 
   put-requires-2 : lts.Need-put-requires-2 (known t) (at t) reads.Post
-  put-requires-2 c κs = due-rest (last (c .before .before .before)) (c .before .before .before .before .before .before .before .pre .1)
+  put-requires-2 c κs = search needs
 
   same-length-2 : lts.Need-same-length-2 (known t) (at t) reads.Post
   same-length-2 c = search needs

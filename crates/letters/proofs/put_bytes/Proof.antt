@@ -3,10 +3,11 @@ use mathlib.Core.Path.{_≡_, refl, _∙_, ap}
 use mathlib.Core.List.{[], _∷_}
 use Prim.Native.Nat.{_+_, _-_, _≤_}
 use native.Mathlib.Omega.{arith}
+use borrow.Author.Needs.{needs}
 use lib.ListN.{length, getD, drop}
 use lib.Seq.{drop-length}
 use Rattle.sets.proofs.Places.{drop-next}
-use Rattle.letters.proofs.Laying.{Due, due-all, due-as, due-next, due-done, due-countable}
+use Rattle.letters.proofs.Laying.{Due, due-all, due-as, due-next, due-done}
 use Rattle.letters.proofs.put_bytes.Statement.{statement}
 use Rattle.letters.proofs.put_bytes.Tie as tie
 
@@ -17,18 +18,22 @@ abbrev μ-loop : tie.MeasureT-loop
 μ-loop o₀ at s p₀ i₀ o p i = length s - i
 
 loop-holds : tie.Need-loop-holds Inv-loop μ-loop
-loop-holds c = (omega arith, due-all _ _ refl, refl)
+loop-holds c = (omega arith, due-all _ _ (omega arith) (omega arith) refl, refl)
 
 shared-slice-read-put : tie.Need-shared-slice-read-put Inv-loop μ-loop
 shared-slice-read-put c = omega arith
 
--- the byte at i is due, then those after it
-next : (c : tie.In-loop Inv-loop μ-loop) → let s = c .before .before .before .before .args in
-    Due (s .o .now) (s .at) (s .s .now) (c .before .loop .o) (c .before .loop .p) (getD (s .s .now) (c .before .loop .i) 0 ∷ drop (c .before .loop .i + 1) (s .s .now))
-next c = due-as (c .before .loop .inv .1) (drop-next (c .before .before .before .before .args .s .now) (c .before .loop .i) 0 (c .loop-test .taken))
+module _ (c : tie.In-loop Inv-loop μ-loop) where
+  abbrev start : tie.Start Inv-loop μ-loop
+  start = c .before .before .before .before
+
+  -- the byte at i is due, then those after it
+  next : let s = start .args in
+      Due (s .o .now) (s .at) (s .s .now) (c .before .loop .o) (c .before .loop .p) (getD (s .s .now) (c .before .loop .i) 0 ∷ drop (c .before .loop .i + 1) (s .s .now))
+  next = due-as (c .before .loop .inv .1) (drop-next (start .args .s .now) (c .before .loop .i) 0 (c .loop-test .taken))
 
 put-requires : tie.Need-put-requires Inv-loop μ-loop
-put-requires c κs = due-countable (_ ∷ []) _ (next (c .before .before)) (c .before .before .before .before .before .before .pre)
+put-requires c κs = search needs
 
 add-i : tie.Need-add-i Inv-loop μ-loop
 add-i c = omega arith
@@ -37,7 +42,9 @@ loop-less : tie.Need-loop-less Inv-loop μ-loop
 loop-less c = omega arith
 
 loop-again : tie.Need-loop-again Inv-loop μ-loop
-loop-again c = (omega arith, due-next (next (c .before .before .before .before .before)) (c .before .before .put .ensures), c .before .before .put .kept .0 ∙ c .before .before .before .before .before .before .loop .inv .2)
+loop-again c =
+    let i = c .before .before .before .before .before in
+    (omega arith, due-next (next i) (c .before .before .put .ensures), c .before .before .put .kept .0 ∙ i .before .loop .inv .2)
 
 same-length : tie.Need-same-length Inv-loop μ-loop
 same-length c = c .before .loop .inv .2

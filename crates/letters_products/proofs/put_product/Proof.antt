@@ -9,7 +9,7 @@ use lib.Dec.{ltb, leb}
 use lib.ListN.{length}
 use Rattle.sets.specs.Sets.{firstFrom}
 use Rattle.cube.specs.Cube.{lits}
-use Rattle.letters.proofs.Laying.{Due, due-all, due-as, due-next, due-done, due-trans, due-countable}
+use Rattle.letters.proofs.Laying.{Due, due-all, due-as, due-next, due-done, due-trans, laid-next}
 use Rattle.letters_products.specs.Products.{literalText, cubeText, numberOf}
 use Rattle.letters_products.proofs.Turns.{textFrom, text-done, text-start, text-next, next-past}
 use Rattle.letters_products.proofs.put_product.Statement.{statement}
@@ -37,10 +37,10 @@ module _ (c : tie.After-next Inv-loop μ-loop) where
 
   -- `1`, or the literals from the first one on
   whole : Owed start (start .args .o .now) (start .args .at) (cond (leb 128 (c .next .result)) (49 ∷ []) [] ++ textFrom (c .next .result) (held start))
-  whole = due-all _ _ (text-start (start .args .c .plain) (start .args .c .negated) (c .next .result) (c .next .ensures))
+  whole = due-all _ _ (omega arith) (omega arith) (text-start (start .args .c .plain) (start .args .c .negated) (c .next .result) (c .next .ensures))
 
 put-if-requires : tie.Need-put-if-requires Inv-loop μ-loop
-put-if-requires c κs = due-countable (cond (leb 128 (c .before .next .result)) (49 ∷ []) []) _ (whole (c .before)) (start (c .before) .pre)
+put-if-requires c κs = search needs
 
 module _ (c : tie.After-put-if Inv-loop μ-loop) where
   abbrev first : tie.After-next Inv-loop μ-loop
@@ -50,7 +50,7 @@ module _ (c : tie.After-put-if Inv-loop μ-loop) where
   begun = due-next (whole first) (c .put-if .ensures)
 
 loop-holds : tie.Need-loop-holds Inv-loop μ-loop
-loop-holds c = (due-all _ _ refl, refl)
+loop-holds c = (due-all _ _ (omega arith) (laid-next (c .before .before .put-if .ensures)) refl, refl)
 
 module _ (c : tie.At-loop Inv-loop μ-loop) where
   abbrev entry : tie.After-put-if Inv-loop μ-loop
@@ -70,9 +70,7 @@ module _ (c : tie.In-loop Inv-loop μ-loop) (m : ℕ) (e : m ≡ numberOf (first
       due-as (c .before .loop .inv .0) (text-next (x .plain) (x .negated) (c .before .loop .l) m (c .loop-test .taken) e)
 
 put-literal-requires : tie.Need-put-literal-requires Inv-loop μ-loop
-put-literal-requires c κs =
-    let h = c .before in
-    due-countable (literalText (h .before .loop .l)) _ (due-trans (begun (entry (h .before))) (turn h _ refl)) (origin (h .before) .pre)
+put-literal-requires c κs = search needs
 
 add-next : tie.Need-add-next Inv-loop μ-loop
 add-next c = omega (arith, c .before .before .before .before .loop-test .taken)
@@ -91,9 +89,7 @@ module _ (c : tie.After-next2 Inv-loop μ-loop) where
   star = due-next (turn inside (c .next2 .result) (c .next2 .ensures)) (wrote .put-literal .ensures)
 
 put-if-requires-2 : tie.Need-put-if-requires-2 Inv-loop μ-loop
-put-if-requires-2 c κs =
-    let h = inside (c .before) .before in
-    due-countable (cond (ltb (c .before .next2 .result) 128) (42 ∷ []) []) _ (due-trans (begun (entry h)) (star (c .before))) (origin h .pre)
+put-if-requires-2 c κs = search needs
 
 loop-less : tie.Need-loop-less Inv-loop μ-loop
 loop-less c =
