@@ -1,26 +1,18 @@
 -- The text of a sum as the writers make it: the cubes as they stand, or a product, and after a `+` the rest; and how long it is at most. Assumes nothing.
-use Prim.Native.Nat.{ℕ, zero, suc, _+_, _-_, _*_, _<_, _≤_}
-use mathlib.Core.Path.{_≡_, refl, sym, _∙_, ap, ap₂, subst}
-use mathlib.Core.Bool.{true, false, not, true≢false, false≢true}
-use mathlib.Core.List.{List, [], _∷_, _++_, append-assoc, append-nil, List·Memᴰ·head as here, List·Memᴰ·tail as there}
+use Prim.Native.Nat.{ℕ, suc, _-_, _<_, _≤_}
+use mathlib.Core.Path.{_≡_, refl, sym, _∙_, ap, ap₂}
+use mathlib.Core.Bool.{true, false, true≢false, false≢true}
+use mathlib.Core.List.{List, [], _∷_, _++_, append-assoc, append-nil}
 use mathlib.Core.Logic.{_⊎_, inl, inr}
 use native.Mathlib.Omega.{arith}
-use lib.Dec.{ltb}
-use lib.ListN.{length, length-append}
-use borrow.Author.Tests.{ltb-true, ltb-false}
-use Rattle.sets.specs.Lists.{keep, isNil}
-use Rattle.sets.specs.Sets.{mem, without}
+use Rattle.sets.specs.Lists.{isNil}
 use Rattle.sets.proofs.Truth.{decided}
-use Rattle.sets.proofs.Lists.{_∈_, keep-out, map-out}
-use Rattle.cube.specs.Cube.{width}
-use Rattle.letters_products.specs.Products.{literalText, cubeText}
-use Rattle.letters_products.proofs.Texts.{literal-short, cube-length}
+use Rattle.letters_products.specs.Products.{literalText}
 use Rattle.expression.specs.Expression.{literalsOf}
 use Rattle.factor.specs.Form.{usedIn, mostUsed, over, rest, formBy}
 use Rattle.factor.specs.Text.{sumText, formText}
 use Rattle.factor.specs.Parts.{writtenSum, productOf}
-use Rattle.factor.proofs.Falling.{literals-fall, cubes-split, over-length, over-less, rest-less, form-plain, form-times, form-plus, form-enough}
-use Rattle.factor.proofs.Choosing.{mostUsed-inside}
+use Rattle.factor.proofs.Falling.{literals-fall, over-less, rest-less, form-plain, form-times, form-plus, form-enough}
 
 abbrev Cubes : Type 0
 Cubes = List (List ℕ)
@@ -89,58 +81,3 @@ sum-parted f l q r h many a b = rw (a, b, h) (go (decided (isNil (rest (mostUsed
 pub product-start : (l : ℕ) (f : Cubes) → productOf l f ≡ literalText l ++ (42 ∷ 40 ∷ (writtenSum f ++ (41 ∷ [])))
 unfolding productOf
 product-start l f = refl
-
--- ---- at most five bytes for each literal, two for each cube and one more
-
--- every literal is one that a cube has places for, also in F/l and in the rest
-abbrev pub Inside : Cubes → Type 0
-Inside f = (c : List ℕ) → c ∈ f → (l : ℕ) → l ∈ c → l < 2 * width
-
-over-inside : (l : ℕ) (f : Cubes) → Inside f → Inside (over l f)
-unfolding without
-over-inside l f h c i x j =
-    let o = map-out (λ d. without d (l ∷ [])) (keep (mem l) f) i in
-    h (o .0) (keep-out (mem l) f (o .1) .0) x (keep-out (λ y. not (mem y (l ∷ []))) (o .0) (subst (λ d. x ∈ d) (o .2) j) .0)
-
-rest-inside : (l : ℕ) (f : Cubes) → Inside f → Inside (rest l f)
-rest-inside l f h c i = h c (keep-out (λ d. not (mem l d)) f i .0)
-
-plain-length : (f : Cubes) → Inside f → length (sumText f) ≤ 5 * literalsOf f + 2 * length f + 1
-unfolding sumText
-plain-length [] h = omega arith
-plain-length (c ∷ []) h = omega (arith, cube-length c (h c (here refl)))
-plain-length (c ∷ d ∷ f) h = omega (arith, cube-length c (h c (here refl)), plain-length (d ∷ f) (λ x i. h x (there i)), length-append (cubeText c) (43 ∷ sumText (d ∷ f)))
-
-product-length : (l : ℕ) (f : Cubes) → l < 2 * width → length (productOf l f) ≤ length (writtenSum f) + 7
-unfolding productOf
-product-length l f h = omega (arith, literal-short l h, length-append (literalText l) (42 ∷ 40 ∷ (writtenSum f ++ (41 ∷ []))), length-append (writtenSum f) (41 ∷ []))
-
--- by the number of literals
-pub sum-length : (k : ℕ) (f : Cubes) → literalsOf f ≤ k → Inside f → length (writtenSum f) ≤ 5 * literalsOf f + 2 * length f + 1
-sum-length zero f h n = rw (sum-plain f (omega (arith, literals-fall (mostUsed f) f))) (plain-length f n)
-sum-length (suc k) f h n =
-    go (decided (ltb (usedIn (mostUsed f) f) 2)) (decided (isNil (rest (mostUsed f) f)))
-    (λ i. sum-length k (over (mostUsed f) f) i (over-inside (mostUsed f) f n)) (λ i. sum-length k (rest (mostUsed f) f) i (rest-inside (mostUsed f) f n))
-  where
-    go : (ltb (usedIn (mostUsed f) f) 2 ≡ true) ⊎ (ltb (usedIn (mostUsed f) f) 2 ≡ false) → (isNil (rest (mostUsed f) f) ≡ true) ⊎ (isNil (rest (mostUsed f) f) ≡ false)
-        → (literalsOf (over (mostUsed f) f) ≤ k → length (writtenSum (over (mostUsed f) f)) ≤ 5 * literalsOf (over (mostUsed f) f) + 2 * length (over (mostUsed f) f) + 1)
-        → (literalsOf (rest (mostUsed f) f) ≤ k → length (writtenSum (rest (mostUsed f) f)) ≤ 5 * literalsOf (rest (mostUsed f) f) + 2 * length (rest (mostUsed f) f) + 1)
-        → length (writtenSum f) ≤ 5 * literalsOf f + 2 * length f + 1
-    go (inl t) e q r = rw (sum-plain f (ltb-true _ _ t)) (plain-length f n)
-    go (inr t) (inl e) q r =
-        let many : 2 ≤ usedIn (mostUsed f) f = ltb-false _ _ t in
-        rw (sum-times f many e)
-        (omega (arith, product-length (mostUsed f) (over (mostUsed f) f) (mostUsed-inside f), q (omega (arith, over-less (mostUsed f) f many)), literals-fall (mostUsed f) f, cubes-split (mostUsed f) f, over-length (mostUsed f) f))
-    go (inr t) (inr e) q r =
-        let many : 2 ≤ usedIn (mostUsed f) f = ltb-false _ _ t in
-        rw (sum-plus f many e)
-        (omega (
-          arith,
-          length-append (productOf (mostUsed f) (over (mostUsed f) f)) (43 ∷ writtenSum (rest (mostUsed f) f)),
-          product-length (mostUsed f) (over (mostUsed f) f) (mostUsed-inside f),
-          q (omega (arith, over-less (mostUsed f) f many)),
-          r (omega (arith, rest-less (mostUsed f) f many)),
-          literals-fall (mostUsed f) f,
-          cubes-split (mostUsed f) f,
-          over-length (mostUsed f) f,
-        ))

@@ -2,26 +2,23 @@
 // The writers count every byte, so that the length is known before a byte is written.
 use cube::Literal;
 use expression::Verdict;
+use letters::Wrote;
 ghost use mathlib.Core.Path.{_≡_};
 ghost use Prim.Native.Nat.{_*_, _<_, _≤_};
 ghost use lib.ListN.{length};
 ghost use Rattle.cube.specs.Cube.{width};
-ghost use Rattle.letters.specs.Laid.{Countable, Laid};
+ghost use Rattle.letters.specs.Laid.{Laid};
+ghost use Rattle.letters.specs.Told.{Told};
+ghost use Rattle.expression.specs.Answers.{refusal};
 ghost use Rattle.factor.specs.Form.{usedIn, mostUsed};
 ghost use Rattle.factor.specs.Text.{sumText, textOf};
 ghost use Rattle.factor.specs.Parts.{cubesFrom, HasCubes, Spared, Parted, Gathered, Refilled, writtenSum, productOf, Wrought};
-ghost use Rattle.factor.specs.Answers.{refusedBy, Told};
-
-pub enum Wrote {
-    Bytes(usize),
-    Refused(u32),
-}
 
 // ---- the cubes as they stand
 
 // Cubes a up to e with `+` between them; no cubes is `0`.
 fn put_cubes(o: &mut [u8], at: usize, w: &[u64], a: usize, e: usize) -> usize
-    requires { ⌜ HasCubes (now w) a e × Countable at (sumText (cubesFrom a e (now w))) ⌝ }
+    requires { ⌜ HasCubes (now w) a e ⌝ }
     ensures { λ r. ⌜ Laid (now (o .entry)) (now (o .exit)) at r (sumText (cubesFrom a e (now (w .entry)))) ⌝ }
 {
     if a == e {
@@ -121,7 +118,7 @@ fn split(w: &mut [u64], spare: &mut [u64], a: usize, e: usize, l: Literal) -> us
 
 // The text of the cubes from a up to e; what stands there afterwards is of no use.
 fn sum(w: &mut [u64], spare: &mut [u64], a: usize, e: usize, o: &mut [u8], at: usize) -> usize
-    requires { ⌜ Spared (now w) (now spare) a e × Countable at (writtenSum (cubesFrom a e (now w))) ⌝ }
+    requires { ⌜ Spared (now w) (now spare) a e ⌝ }
     ensures { λ r. ⌜ Wrought (now (w .entry)) (now (w .exit)) (now (o .entry)) (now (o .exit)) a e at r (writtenSum (cubesFrom a e (now (w .entry)))) ⌝ }
 {
     let l = most_used(w, a, e);
@@ -147,7 +144,7 @@ fn product(
     o: &mut [u8],
     at: usize,
 ) -> usize
-    requires { ⌜ Spared (now w) (now spare) a e × Countable at (productOf (l .0) (cubesFrom a e (now w))) ⌝ }
+    requires { ⌜ Spared (now w) (now spare) a e ⌝ }
     ensures { λ r. ⌜ Wrought (now (w .entry)) (now (w .exit)) (now (o .entry)) (now (o .exit)) a e at r (productOf (l .0) (cubesFrom a e (now (w .entry)))) ⌝ }
 {
     let p = letters_products::put_literal(o, at, l);
@@ -172,9 +169,9 @@ fn text(f: &[u64], o: &mut [u8]) -> usize
     sum(&mut w, &mut spare, 0, n, o, 0)
 }
 
-// The factored text of f into the room o, and its length.
+// The factored text of f into the room o, and its length: 6, 7, then 9.
 pub fn factored(f: &[u64], o: &mut [u8]) -> Wrote
-    ensures { λ a. ⌜ Told (refusedBy (now (f .entry)) (now (o .entry))) (now (f .entry)) (now (o .entry)) (now (o .exit)) a ⌝ }
+    ensures { λ a. ⌜ Told (refusal (now (f .entry))) (textOf (now (f .entry))) (now (o .entry)) (now (o .exit)) a ⌝ }
 {
     let v = expression_accept::accept(f);
     if let Verdict::Refused(k) = v {

@@ -6,9 +6,9 @@ use mathlib.Core.Logic.{_⊎_, inl, inr}
 use mathlib.Core.List.{List, [], _∷_, _++_}
 use native.Mathlib.Omega.{arith}
 use lib.Dec.{ltb}
-use lib.ListN.{length, set, drop, length-append, length-set}
+use lib.ListN.{length, set, drop, length-append}
 use lib.Seq.{sets, sets-eq, length-sets, set-out}
-use borrow.Author.Tests.{lt-ltb, le-ltb, ltb-true, ltb-false}
+use borrow.Author.Tests.{le-ltb, ltb-true, ltb-false}
 use Rattle.sets.proofs.Truth.{decided}
 use Rattle.letters.specs.Laid.{largest, counted, Laid}
 
@@ -68,6 +68,10 @@ laid-next {t = t} {at} r = elim (either (at + length t)) [
   | inl (h, e) ↦ omega (arith, r .place)
   | inr (_, e) ↦ omega (arith, r .place)
 ]
+
+-- the same, written otherwise
+pub laid-as : {old new s t : List ℕ} {at next : ℕ} → Laid old new at next s → s ≡ t → Laid old new at next t
+laid-as {old} {new} {at = at} {next} r e = subst (λ t. Laid old new at next t) e r
 
 -- a whole text at the front
 pub laid-whole : {old new t : List ℕ} {next : ℕ} → Laid old new 0 next t → length t ≤ length old → new ≡ t ++ drop (length t) old

@@ -1,4 +1,4 @@
--- What a writer of a text or of bytes answers, for every room.
+-- What a writer of bytes answers, for every room.
 use Prim.Native.Nat.{ℕ}
 use mathlib.Core.Path.{_≡_}
 use mathlib.Core.Bool.{cond}
@@ -9,12 +9,16 @@ use lib.ListN.{length, drop}
 use Rattle.letters.specs.declared.Wrote.{Wrote}
 use Rattle.letters.specs.declared.Wrote.the-variants.{Bytes, Refused}
 
--- 9 comes last: where the text is longer than the room, and nothing was refused before
+-- 9 comes last: where nothing was refused before, and the text is longer than the room
 unfoldable pub orLong : Option ℕ → List ℕ → List ℕ → Option ℕ
 orLong (some k) t o = some k
 orLong none t o = cond (ltb (length o) (length t)) (some 9) none
 
 -- the answer and the room: a refusal leaves it as it was; else the text, whole, and then what stood there
+abbrev pub Answered : Option ℕ → List ℕ → List ℕ → List ℕ → Wrote → Type 0
+Answered (some k) t o o′ a = (a ≡ Refused k) × (o′ ≡ o)
+Answered none t o o′ a = (a ≡ Bytes (length t)) × (o′ ≡ t ++ drop (length t) o)
+
+-- what is told of a text and a room, where q says what was refused before
 abbrev pub Told : Option ℕ → List ℕ → List ℕ → List ℕ → Wrote → Type 0
-Told (some k) t o o′ a = (a ≡ Refused k) × (o′ ≡ o)
-Told none t o o′ a = (a ≡ Bytes (length t)) × (o′ ≡ t ++ drop (length t) o)
+Told q t o o′ a = Answered (orLong q t o) t o o′ a

@@ -1,5 +1,5 @@
 -- What a run on the network of a table leaves: the counts, steps and reason are those of the definitions. Assumes nothing.
-use Prim.Native.Nat.{ℕ, _+_, _-_, _/_, _<_, _≤_}
+use Prim.Native.Nat.{ℕ, _+_, _/_, _<_, _≤_}
 use mathlib.Core.Path.{_≡_, refl, sym, ap, _∙_, subst}
 use mathlib.Core.Bool.{true}
 use mathlib.Core.List.{List, [], map, append-nil, List·Memᴰ·not-nil}

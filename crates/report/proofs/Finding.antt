@@ -1,12 +1,10 @@
--- What is found of a table text has the report's text: a refusal, or the run on its network. And the answer that the length and the room decide. Assumes nothing.
-use Prim.Native.Nat.{ℕ, _<_, _≤_}
+-- What is found of a table text has the report's text: a refusal, or the run on its network. Assumes nothing.
+use Prim.Native.Nat.{ℕ}
 use mathlib.Core.Path.{_≡_, refl, sym, ap, _∙_, subst}
-use mathlib.Core.Bool.{Bool, true, false}
-use mathlib.Core.List.{List, _++_, map}
+use mathlib.Core.Bool.{true}
+use mathlib.Core.List.{List, map}
 use native.Mathlib.Omega.{arith}
-use lib.Dec.{ltb}
-use lib.ListN.{length, take, drop}
-use borrow.Author.Tests.{lt-ltb, le-ltb}
+use lib.ListN.{take}
 use Rattle.network.specs.Held.{rules}
 use Rattle.network.specs.Net.{Net}
 use Rattle.extract_laws.specs.Run.{run}
@@ -21,10 +19,7 @@ use Rattle.table.proofs.Keeping.{read-net, read-rules}
 use Rattle.report.specs.Report.{ranText, outcomeText, reportOf}
 use Rattle.report.specs.Parts.{Falls, foundText, Steady, Explored}
 use Rattle.report.specs.Parts.Falls.{none}
-use Rattle.report.specs.Answers.{Told}
 use Rattle.report.specs.declared.Findings.{Findings}
-use Rattle.report.specs.declared.Wrote as wrote
-use Rattle.report.specs.declared.Wrote.{Wrote}
 use Rattle.report.proofs.Lines.{found-read, found-refused}
 
 -- ---- a table that was read
@@ -50,20 +45,3 @@ module _ (t : List ℕ) (r : Table) (h : table.Told (readText t) r) where
     unfolding reportOf outcomeText
     found-run f x = let s = read-net t r h e in
         (x .steady, found-read f (x .answer) ∙ x .text ∙ ap (λ (n : Net). ranText n (run 64 n)) (s .2) ∙ sym (ap outcomeText (s .1)))
-
--- ---- the answers
-
-module _ (t o : List ℕ) where
-  pub told-long : (o′ : List ℕ) → length o < length t → o′ ≡ o → Told (ltb (length o) (length t)) t o o′ (wrote.the-variants.Refused 9)
-  told-long o′ h e = rw (lt-ltb (length o) (length t) h) (refl, e)
-
-  pub told-whole : (o′ : List ℕ) (n : ℕ) → length t ≤ length o → n ≡ length t → o′ ≡ t ++ drop (length t) o → Told (ltb (length o) (length t)) t o o′ (wrote.the-variants.Bytes n)
-  told-whole o′ n h e w = rw (le-ltb (length o) (length t) h) (ap wrote.the-variants.Bytes e, w)
-
--- an answer and a room that were told are the only ones
-pub told-one : (t o o₁ o₂ : List ℕ) (a b : Wrote) → Told (ltb (length o) (length t)) t o o₁ a → Told (ltb (length o) (length t)) t o o₂ b → (a ≡ b) × (o₁ ≡ o₂)
-told-one t o o₁ o₂ a b p q = go (ltb (length o) (length t)) p q
-  where
-    go : (x : Bool) → Told x t o o₁ a → Told x t o o₂ b → (a ≡ b) × (o₁ ≡ o₂)
-    go true p q = (p .0 ∙ sym (q .0), p .1 ∙ sym (q .1))
-    go false p q = (p .0 ∙ sym (q .0), p .1 ∙ sym (q .1))

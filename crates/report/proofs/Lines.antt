@@ -7,10 +7,10 @@ use lib.IntN.{ℤ, pos, _-ℤ_}
 use lib.ListN.{length, getD, take, drop, length-map}
 use lib.Seq.{length-take-le, getD-take}
 use Rattle.sets.proofs.Places.{drop-next}
-use Rattle.letters.specs.Letters.{decimal}
+use Rattle.letters.specs.Letters.{decimal, nameText}
 use Rattle.letters_products.specs.Products.{literalText, cubeText}
 use Rattle.extract_laws.specs.Divisor.{Divisor, pair, sum}
-use Rattle.extract_laws.specs.Run.{Stop, done, asked, numbers, rows, Made}
+use Rattle.extract_laws.specs.Run.{Stop, Made}
 use Rattle.extract.specs.Answers.{madeOf, noMade}
 use Rattle.extract.specs.declared.Made as extract
 use Rattle.extract.specs.Answers.{stopOf}
@@ -27,12 +27,9 @@ field w n = w ++ decimal n
 abbrev pub lineEnd : List ℕ
 lineEnd = 10 ∷ []
 
--- ` + `, `x`, ` = `, ` weight `, ` now `
+-- ` + `, ` = `, ` weight `, ` now `
 abbrev pub plusWord : List ℕ
 plusWord = 32 ∷ 43 ∷ 32 ∷ []
-
-abbrev pub variableWord : List ℕ
-variableWord = 120 ∷ []
 
 abbrev pub equalsWord : List ℕ
 equalsWord = 32 ∷ 61 ∷ 32 ∷ []
@@ -66,7 +63,7 @@ pub sum-start : (a b : List ℕ) → divisorText (sum a b) ≡ cubeText a ++ (pl
 unfolding divisorText
 sum-start a b = refl
 
-pub step-start : (v : ℕ) (d : Divisor) (w n : ℕ) → stepLine v d (pos w) (pos n) ≡ field variableWord v ++ (equalsWord ++ (divisorText d ++ (field weightWord w ++ (field nowWord n ++ lineEnd))))
+pub step-start : (v : ℕ) (d : Divisor) (w n : ℕ) → stepLine v d (pos w) (pos n) ≡ nameText 120 v ++ (equalsWord ++ (divisorText d ++ (field weightWord w ++ (field nowWord n ++ lineEnd))))
 unfolding stepLine integer
 step-start v d w n = refl
 
@@ -107,24 +104,6 @@ run-start n a l e r = refl
 pub refusal-start : (q : Refusal) → refusalText q ≡ field refusedWord (q .number) ++ (field lineWord (q .line) ++ lineEnd)
 unfolding refusalText
 refusal-start q = refl
-
--- the stop reasons
-
-pub stop-done : stopText done ≡ 32 ∷ 100 ∷ 111 ∷ 110 ∷ 101 ∷ 10 ∷ []
-unfolding stopText
-stop-done = refl
-
-pub stop-asked : stopText asked ≡ 32 ∷ 97 ∷ 115 ∷ 107 ∷ 101 ∷ 100 ∷ 10 ∷ []
-unfolding stopText
-stop-asked = refl
-
-pub stop-numbers : stopText numbers ≡ 32 ∷ 110 ∷ 117 ∷ 109 ∷ 98 ∷ 101 ∷ 114 ∷ 115 ∷ 10 ∷ []
-unfolding stopText
-stop-numbers = refl
-
-pub stop-rows : stopText rows ≡ 32 ∷ 114 ∷ 111 ∷ 119 ∷ 115 ∷ 10 ∷ []
-unfolding stopText
-stop-rows = refl
 
 -- ---- what was found
 

@@ -1,4 +1,3 @@
 pub mod Report
-pub mod Answers
 pub mod Parts
 pub mod Meaning

@@ -2,6 +2,7 @@
 use extract::Steps;
 use extract::Stop;
 use extract_divisor::Divisor;
+use letters::Wrote;
 use network::Network;
 use network::Number;
 use table::Answer;
@@ -9,26 +10,20 @@ use table::Refusal;
 ghost use mathlib.Core.Path.{_≡_};
 ghost use mathlib.Core.Bool.{true};
 ghost use mathlib.Core.List.{_++_};
-ghost use lib.Dec.{ltb};
+ghost use mathlib.Core.Option.{none};
 ghost use lib.IntN.{pos, _-ℤ_};
 ghost use lib.Signed.{_≤ℤ_};
-ghost use lib.ListN.{length};
 ghost use Rattle.letters.specs.Letters.{decimal};
-ghost use Rattle.letters.specs.Laid.{Countable, Laid};
+ghost use Rattle.letters.specs.Laid.{Laid};
+ghost use Rattle.letters.specs.Told.{Told};
 ghost use Rattle.extract_divisor.specs.Divisor.{divisorOf};
 ghost use Rattle.network.specs.Held.{rules};
 ghost use Rattle.extract.specs.Answers.{stopOf};
 ghost use Rattle.report.specs.Report.{divisorText, stepLine, stepLines, stopText, refusalText, reportOf};
 ghost use Rattle.report.specs.Parts.{Off, Falls, Numbered, madeIn, runOf, foundText, Steady, Explored};
-ghost use Rattle.report.specs.Answers.{Told};
 
 // The program asks for 64 steps.
 const ASKED: u64 = 64;
-
-pub enum Wrote {
-    Bytes(usize),
-    Refused(u32),
-}
 
 // What a report tells: the number of the first divisor, the counts, the steps and the reason; of a refused table the answer alone.
 struct Findings {
@@ -44,7 +39,6 @@ struct Findings {
 
 // A word and a number after it.
 fn put_field(o: &mut [u8], at: usize, word: &[u8], n: u64) -> usize
-    requires { ⌜ Countable at (now word ++ decimal n) ⌝ }
     ensures { λ r. ⌜ Laid (now (o .entry)) (now (o .exit)) at r (now (word .entry) ++ decimal n) ⌝ }
 {
     let p = letters::put_bytes(o, at, word);
@@ -53,7 +47,6 @@ fn put_field(o: &mut [u8], at: usize, word: &[u8], n: u64) -> usize
 
 // A pair as a product, a sum with ` + ` between its parts.
 fn put_divisor(o: &mut [u8], at: usize, d: Divisor) -> usize
-    requires { ⌜ Countable at (divisorText (divisorOf d)) ⌝ }
     ensures { λ r. ⌜ Laid (now (o .entry)) (now (o .exit)) at r (divisorText (divisorOf d)) ⌝ }
 {
     match d {
@@ -88,10 +81,9 @@ fn size(weight: i32) -> u64
 
 // The line of a step: its number, its divisor and weight, and the count after it, which the weight was taken off.
 fn put_step(o: &mut [u8], at: usize, v: u64, d: Divisor, weight: u64, left: u64) -> usize
-    requires { ⌜ Countable at (stepLine v (divisorOf d) (pos weight) (pos left)) ⌝ }
     ensures { λ r. ⌜ Laid (now (o .entry)) (now (o .exit)) at r (stepLine v (divisorOf d) (pos weight) (pos left)) ⌝ }
 {
-    let p = put_field(o, at, b"x", v);
+    let p = letters::put_name(o, at, b'x', v);
     let q = letters::put_bytes(o, p, b" = ");
     let r = put_divisor(o, q, d);
     let s = put_field(o, r, b" weight ", weight);
@@ -101,7 +93,7 @@ fn put_step(o: &mut [u8], at: usize, v: u64, d: Divisor, weight: u64, left: u64)
 
 // The lines of all steps, from a number and a count on.
 fn put_steps(o: &mut [u8], at: usize, v: u64, count: u64, steps: Steps) -> usize
-    requires { ⌜ Numbered v steps × Falls count (madeIn steps) × Countable at (stepLines v (pos count) (madeIn steps)) ⌝ }
+    requires { ⌜ Numbered v steps × Falls count (madeIn steps) ⌝ }
     ensures { λ r. ⌜ Laid (now (o .entry)) (now (o .exit)) at r (stepLines v (pos count) (madeIn steps)) ⌝ }
 {
     let n = steps.count;
@@ -121,7 +113,6 @@ fn put_steps(o: &mut [u8], at: usize, v: u64, count: u64, steps: Steps) -> usize
 
 // The stop reason ends the last line.
 fn put_stop(o: &mut [u8], at: usize, stop: Stop) -> usize
-    requires { ⌜ Countable at (stopText (stopOf stop)) ⌝ }
     ensures { λ r. ⌜ Laid (now (o .entry)) (now (o .exit)) at r (stopText (stopOf stop)) ⌝ }
 {
     match stop {
@@ -136,7 +127,7 @@ fn put_stop(o: &mut [u8], at: usize, stop: Stop) -> usize
 
 // `start`, the steps, `end`.
 fn put_run(o: &mut [u8], f: Findings) -> usize
-    requires { ⌜ Steady f × Countable 0 (runOf f) ⌝ }
+    requires { ⌜ Steady f ⌝ }
     ensures { λ r. ⌜ Laid (now (o .entry)) (now (o .exit)) 0 r (runOf f) ⌝ }
 {
     let p = put_field(o, 0, b"start ", f.start);
@@ -150,7 +141,6 @@ fn put_run(o: &mut [u8], f: Findings) -> usize
 
 // `refused 2 at line 3`.
 fn put_refusal(o: &mut [u8], refusal: Refusal) -> usize
-    requires { ⌜ Countable 0 (refusalText refusal) ⌝ }
     ensures { λ r. ⌜ Laid (now (o .entry)) (now (o .exit)) 0 r (refusalText refusal) ⌝ }
 {
     let p = put_field(o, 0, b"refused ", refusal.number as u64);
@@ -160,7 +150,7 @@ fn put_refusal(o: &mut [u8], refusal: Refusal) -> usize
 
 // What was found, as far as there is room, and its length.
 fn put_findings(o: &mut [u8], f: Findings) -> usize
-    requires { ⌜ Steady f × Countable 0 (foundText f) ⌝ }
+    requires { ⌜ Steady f ⌝ }
     ensures { λ r. ⌜ Laid (now (o .entry)) (now (o .exit)) 0 r (foundText f) ⌝ }
 {
     let answer = f.answer;
@@ -226,7 +216,7 @@ fn find(text: &[u8]) -> Findings
 
 // The report into the lent room, and its length; 9 where it is longer than the room.
 pub fn report(text: &[u8], room: &mut [u8]) -> Wrote
-    ensures { λ a. ⌜ Told (ltb (length (now (room .entry))) (length (reportOf (now (text .entry))))) (reportOf (now (text .entry))) (now (room .entry)) (now (room .exit)) a ⌝ }
+    ensures { λ a. ⌜ Told none (reportOf (now (text .entry))) (now (room .entry)) (now (room .exit)) a ⌝ }
 {
     let f = find(text);
     let none = 0;

@@ -1,18 +1,19 @@
--- The proof of the cycle of calls {product, sum}: the sum's measure is the number of literals of its part, the product's one more; a sum is its cubes as they stand, or l times F/l and then the sum of the rest, as `split` parts the cubes. Assumes nothing.
+-- The proof of the cycle of calls {product, sum}: the sum's measure is the number of literals of its part, the product's one more;
+-- a sum is its cubes as they stand, or l times F/l and then the sum of the rest, as `split` parts the cubes. Assumes nothing.
 use mathlib.Core.Path.{_≡_, sym, _∙_, ap, subst}
 use mathlib.Core.List.{List, [], _∷_, _++_}
-use Prim.Native.Nat.{ℕ, suc, _≤_, _<_}
+use Prim.Native.Nat.{ℕ, suc, _*_, _≤_, _<_}
 use native.Mathlib.Omega.{arith}
 use borrow.Author.Needs.{needs}
 use lib.ListN.{length}
 use Rattle.sets.specs.Lists.{isNil}
+use Rattle.cube.specs.Cube.{width}
 use Rattle.expression.specs.Words.{cubesOf}
 use Rattle.expression.specs.Expression.{literalsOf}
 use Rattle.factor.specs.Form.{usedIn, mostUsed}
-use Rattle.letters_products.specs.Products.{literalText}
 use Rattle.factor.specs.Text.{sumText}
 use Rattle.factor.specs.Parts.{cubesFrom, Elsewhere, writtenSum, productOf}
-use Rattle.letters.proofs.Laying.{Due, due-all, due-as, due-next, due-done, due-last, due-countable, due-rest}
+use Rattle.letters.proofs.Laying.{Due, due-all, due-as, due-next, due-done, due-last}
 use Rattle.factor.proofs.Choosing.{mostUsed-inside}
 use Rattle.factor.proofs.Parting.{cubes-kept, part-after, part-some, slice-none, outside-none, outside-join}
 use Rattle.factor.proofs.Falling.{literals-fall}
@@ -56,255 +57,301 @@ sum-below t = and 3 sum-kinds.ps (falls 3 sum-kinds.ps _<_ μ-sum t) sum.Pre
 
 -- ---- the product
 
--- the cubes of the part, and what is due of the product's text
-abbrev factors : (t : ℕ) → product-lts.Start (put-literal-reads.Asked, put-literal-reads.Learnt, put-reads.Asked, put-reads.Learnt, sum-below t, sum.Post) (product-at t) product.Post → List (List ℕ)
-factors t s = cubesFrom (s .args .a) (s .args .e) (s .args .w .now)
+module _ (t : ℕ) where
+  abbrev product-known : product-lts.Claims
+  product-known = (put-literal-reads.Asked, put-literal-reads.Learnt, put-reads.Asked, put-reads.Learnt, sum-below t, sum.Post)
 
-abbrev Owed : (t : ℕ) → product-lts.Start (put-literal-reads.Asked, put-literal-reads.Learnt, put-reads.Asked, put-reads.Learnt, sum-below t, sum.Post) (product-at t) product.Post → List ℕ → ℕ → List ℕ → Type 0
-Owed t s o at u = Due (s .args .o .now) (s .args .at) (productOf (s .args .l .0) (factors t s)) o at u
+  -- the states of the walk: at the start, after the literal, after `*`, after `(`, after the sum
+  abbrev Begun : Type 0
+  Begun = product-lts.Start product-known (product-at t) product.Post
 
-product-put-literal-requires : (t : ℕ) → product-lts.Need-put-literal-requires (put-literal-reads.Asked, put-literal-reads.Learnt, put-reads.Asked, put-reads.Learnt, sum-below t, sum.Post) (product-at t) product.Post
-product-put-literal-requires t c κs =
-    let s = c .before .before .before .before in
-    due-countable (literalText (s .args .l .0)) _ (due-all (s .args .o .now) (s .args .at) (product-start (s .args .l .0) _)) (s .pre .1 .1)
+  abbrev Lettered : Type 0
+  Lettered = product-lts.After-put-literal product-known (product-at t) product.Post
 
--- after the literal `*` is due, then `(`, the sum and `)`
-star-due : (t : ℕ) (c : product-lts.After-put-literal (put-literal-reads.Asked, put-literal-reads.Learnt, put-reads.Asked, put-reads.Learnt, sum-below t, sum.Post) (product-at t) product.Post) → Owed t (c .before .before .before .before .before) (c .put-literal .last .0) (c .put-literal .result) (42 ∷ 40 ∷ (writtenSum (factors t (c .before .before .before .before .before)) ++ (41 ∷ [])))
-star-due t c = due-next (due-all _ _ (product-start (c .before .before .before .before .before .args .l .0) _)) (c .put-literal .ensures)
+  abbrev Starred : Type 0
+  Starred = product-lts.After-put product-known (product-at t) product.Post
 
-product-put-requires : (t : ℕ) → product-lts.Need-put-requires (put-literal-reads.Asked, put-literal-reads.Learnt, put-reads.Asked, put-reads.Learnt, sum-below t, sum.Post) (product-at t) product.Post
-product-put-requires t c κs = due-countable (_ ∷ []) _ (star-due t (c .before .before .before)) (c .before .before .before .before .before .before .before .before .pre .1 .1)
+  abbrev Opened : Type 0
+  Opened = product-lts.After-put2 product-known (product-at t) product.Post
 
-open-due : (t : ℕ) (c : product-lts.After-put (put-literal-reads.Asked, put-literal-reads.Learnt, put-reads.Asked, put-reads.Learnt, sum-below t, sum.Post) (product-at t) product.Post) → Owed t (c .before .before .before .before .before .before .before .before .before) (c .put .last .0) (c .put .result) (40 ∷ (writtenSum (factors t (c .before .before .before .before .before .before .before .before .before)) ++ (41 ∷ [])))
-open-due t c = due-next (star-due t (c .before .before .before .before)) (c .put .ensures)
+  abbrev Summed : Type 0
+  Summed = product-lts.After-sum product-known (product-at t) product.Post
 
-product-put-requires-2 : (t : ℕ) → product-lts.Need-put-requires-2 (put-literal-reads.Asked, put-literal-reads.Learnt, put-reads.Asked, put-reads.Learnt, sum-below t, sum.Post) (product-at t) product.Post
-product-put-requires-2 t c κs = due-countable (_ ∷ []) _ (open-due t (c .before .before .before)) (c .before .before .before .before .before .before .before .before .before .before .before .before .pre .1 .1)
+  abbrev begun : Lettered → Begun
+  begun c = c .before .before .before .before .before
 
-inner-due : (t : ℕ) (c : product-lts.After-put2 (put-literal-reads.Asked, put-literal-reads.Learnt, put-reads.Asked, put-reads.Learnt, sum-below t, sum.Post) (product-at t) product.Post) → Owed t (c .before .before .before .before .before .before .before .before .before .before .before .before .before) (c .put2 .last .0) (c .put2 .result) (writtenSum (factors t (c .before .before .before .before .before .before .before .before .before .before .before .before .before)) ++ (41 ∷ []))
-inner-due t c = due-next (open-due t (c .before .before .before .before)) (c .put2 .ensures)
+  abbrev lettered : Starred → Lettered
+  lettered c = c .before .before .before .before
 
-product-sum-requires : (t : ℕ) → product-lts.Need-sum-requires (put-literal-reads.Asked, put-literal-reads.Learnt, put-reads.Asked, put-reads.Learnt, sum-below t, sum.Post) (product-at t) product.Post
-product-sum-requires t c κs =
-    let s = c .before .before .before .before .before .before .before .before .before .before .before .before .before .before .before .before .before .before in
-    (omega (arith, s .pre .0), (s .pre .1 .0, due-countable (writtenSum (factors t s)) (41 ∷ []) (inner-due t (c .before .before .before .before .before)) (s .pre .1 .1)))
+  abbrev starred : Opened → Starred
+  starred c = c .before .before .before .before
 
-close-due : (t : ℕ) (c : product-lts.After-sum (put-literal-reads.Asked, put-literal-reads.Learnt, put-reads.Asked, put-reads.Learnt, sum-below t, sum.Post) (product-at t) product.Post) → Owed t (c .before .before .before .before .before .before .before .before .before .before .before .before .before .before .before .before .before .before .before) (c .sum .last .1 .1 .1 .1 .0) (c .sum .result) (41 ∷ [])
-close-due t c = due-next (inner-due t (c .before .before .before .before .before .before)) (c .sum .ensures .laid)
+  abbrev opened : Summed → Opened
+  opened c = c .before .before .before .before .before .before
 
-product-put-requires-3 : (t : ℕ) → product-lts.Need-put-requires-3 (put-literal-reads.Asked, put-literal-reads.Learnt, put-reads.Asked, put-reads.Learnt, sum-below t, sum.Post) (product-at t) product.Post
-product-put-requires-3 t c κs = due-rest (close-due t (c .before .before .before .before .before .before .before)) (c .before .before .before .before .before .before .before .before .before .before .before .before .before .before .before .before .before .before .before .before .before .before .before .before .before .before .pre .1 .1)
+  -- the cubes of the part, and what is due of the product's text
+  abbrev factors : Begun → List (List ℕ)
+  factors s = cubesFrom (s .args .a) (s .args .e) (s .args .w .now)
 
-product-same-length : (t : ℕ) → product-lts.Need-same-length (put-literal-reads.Asked, put-literal-reads.Learnt, put-reads.Asked, put-reads.Learnt, sum-below t, sum.Post) (product-at t) product.Post
-product-same-length t c = search needs
+  abbrev Owed : Begun → List ℕ → ℕ → List ℕ → Type 0
+  Owed s o at u = Due (s .args .o .now) (s .args .at) (productOf (s .args .l .0) (factors s)) o at u
 
-product-same-length-2 : (t : ℕ) → product-lts.Need-same-length-2 (put-literal-reads.Asked, put-literal-reads.Learnt, put-reads.Asked, put-reads.Learnt, sum-below t, sum.Post) (product-at t) product.Post
-product-same-length-2 t c = search needs
+  -- after the literal `*` is due, then `(`, the sum and `)`
+  star-due : (c : Lettered) → Owed (begun c) (c .put-literal .last .0) (c .put-literal .result) (42 ∷ 40 ∷ (writtenSum (factors (begun c)) ++ (41 ∷ [])))
+  star-due c = due-next (due-all _ _ (omega arith) (omega arith) (product-start (begun c .args .l .0) _)) (c .put-literal .ensures)
 
-product-same-length-3 : (t : ℕ) → product-lts.Need-same-length-3 (put-literal-reads.Asked, put-literal-reads.Learnt, put-reads.Asked, put-reads.Learnt, sum-below t, sum.Post) (product-at t) product.Post
-product-same-length-3 t c = search needs
+  open-due : (c : Starred) → Owed (begun (lettered c)) (c .put .last .0) (c .put .result) (40 ∷ (writtenSum (factors (begun (lettered c))) ++ (41 ∷ [])))
+  open-due c = due-next (star-due (lettered c)) (c .put .ensures)
 
-product-returns : (t : ℕ) → product-lts.Need-returns (put-literal-reads.Asked, put-literal-reads.Learnt, put-reads.Asked, put-reads.Learnt, sum-below t, sum.Post) (product-at t) product.Post
-product-returns t c = record { laid = due-last (close-due t (c .before .before .before .before .before .before .before .before .before .before)) (c .before .before .put3 .ensures); outside = c .before .before .before .before .before .before .before .before .before .before .sum .ensures .outside }
+  inner-due : (c : Opened) → let s = begun (lettered (starred c)) in Owed s (c .put2 .last .0) (c .put2 .result) (writtenSum (factors s) ++ (41 ∷ []))
+  inner-due c = due-next (open-due (starred c)) (c .put2 .ensures)
+
+  close-due : (c : Summed) → Owed (begun (lettered (starred (opened c)))) (c .sum .last .1 .1 .1 .1 .0) (c .sum .result) (41 ∷ [])
+  close-due c = due-next (inner-due (opened c)) (c .sum .ensures .laid)
+
+  product-put-literal-requires : product-lts.Need-put-literal-requires product-known (product-at t) product.Post
+  product-put-literal-requires c κs = search needs
+
+  product-put-requires : product-lts.Need-put-requires product-known (product-at t) product.Post
+  product-put-requires c κs = search needs
+
+  product-put-requires-2 : product-lts.Need-put-requires-2 product-known (product-at t) product.Post
+  product-put-requires-2 c κs = search needs
+
+  product-sum-requires : product-lts.Need-sum-requires product-known (product-at t) product.Post
+  product-sum-requires c κs = let s = begun (lettered (starred (c .before .before .before .before .before))) in (omega (arith, s .pre .0), s .pre .1)
+
+  product-put-requires-3 : product-lts.Need-put-requires-3 product-known (product-at t) product.Post
+  product-put-requires-3 c κs = search needs
+
+  product-same-length : product-lts.Need-same-length product-known (product-at t) product.Post
+  product-same-length c = search needs
+
+  product-same-length-2 : product-lts.Need-same-length-2 product-known (product-at t) product.Post
+  product-same-length-2 c = search needs
+
+  product-same-length-3 : product-lts.Need-same-length-3 product-known (product-at t) product.Post
+  product-same-length-3 c = search needs
+
+  product-returns : product-lts.Need-returns product-known (product-at t) product.Post
+  product-returns c =
+      let s : Summed = c .before .before .before .before .before .before .before .before .before .before in
+      record { laid = due-last (close-due s) (c .before .before .put3 .ensures); outside = s .sum .ensures .outside }
 
 -- ---- the sum
 
--- the cubes of the part, and what is due of the sum's text
-abbrev terms : (t : ℕ) → sum-lts.Start (most-used-reads.Asked, most-used-reads.Learnt, uses-reads.Asked, uses-reads.Learnt, put-cubes-reads.Asked, put-cubes-reads.Learnt, split-reads.Asked, split-reads.Learnt, product-below t, product.Post, put-reads.Asked, put-reads.Learnt, sum-below t, sum.Post) (sum-at t) sum.Post → List (List ℕ)
-terms t s = cubesFrom (s .args .a) (s .args .e) (s .args .w .now)
+module _ (t : ℕ) where
+  abbrev sum-known : sum-lts.Claims
+  sum-known = (
+    most-used-reads.Asked,
+    most-used-reads.Learnt,
+    uses-reads.Asked,
+    uses-reads.Learnt,
+    put-cubes-reads.Asked,
+    put-cubes-reads.Learnt,
+    split-reads.Asked,
+    split-reads.Learnt,
+    product-below t,
+    product.Post,
+    put-reads.Asked,
+    put-reads.Learnt,
+    sum-below t,
+    sum.Post,
+  )
 
-abbrev Due-of : (t : ℕ) → sum-lts.Start (most-used-reads.Asked, most-used-reads.Learnt, uses-reads.Asked, uses-reads.Learnt, put-cubes-reads.Asked, put-cubes-reads.Learnt, split-reads.Asked, split-reads.Learnt, product-below t, product.Post, put-reads.Asked, put-reads.Learnt, sum-below t, sum.Post) (sum-at t) sum.Post → List ℕ → ℕ → List ℕ → Type 0
-Due-of t s o at u = Due (s .args .o .now) (s .args .at) (writtenSum (terms t s)) o at u
+  -- the states of the walk: at the start, after the literal is chosen, after its cubes are counted, after the cubes are parted, after the product
+  abbrev Entered : Type 0
+  Entered = sum-lts.Start sum-known (sum-at t) sum.Post
 
-sum-most-used-requires : (t : ℕ) → sum-lts.Need-most-used-requires (most-used-reads.Asked, most-used-reads.Learnt, uses-reads.Asked, uses-reads.Learnt, put-cubes-reads.Asked, put-cubes-reads.Learnt, split-reads.Asked, split-reads.Learnt, product-below t, product.Post, put-reads.Asked, put-reads.Learnt, sum-below t, sum.Post) (sum-at t) sum.Post
-sum-most-used-requires t c κs = c .before .before .before .before .pre .1 .0 .held
+  abbrev Chosen : Type 0
+  Chosen = sum-lts.After-most-used sum-known (sum-at t) sum.Post
 
-sum-uses-requires : (t : ℕ) → sum-lts.Need-uses-requires (most-used-reads.Asked, most-used-reads.Learnt, uses-reads.Asked, uses-reads.Learnt, put-cubes-reads.Asked, put-cubes-reads.Learnt, split-reads.Asked, split-reads.Learnt, product-below t, product.Post, put-reads.Asked, put-reads.Learnt, sum-below t, sum.Post) (sum-at t) sum.Post
-sum-uses-requires t c κs = c .before .before .before .before .before .before .pre .1 .0 .held
+  abbrev Used : Type 0
+  Used = sum-lts.After-uses sum-known (sum-at t) sum.Post
 
--- no literal is in two cubes: the cubes are due as they stand
-plain-due : (t : ℕ) (c : sum-lts.Then1 (most-used-reads.Asked, most-used-reads.Learnt, uses-reads.Asked, uses-reads.Learnt, put-cubes-reads.Asked, put-cubes-reads.Learnt, split-reads.Asked, split-reads.Learnt, product-below t, product.Post, put-reads.Asked, put-reads.Learnt, sum-below t, sum.Post) (sum-at t) sum.Post) → Due-of t (c .before .before .before .before .before .before .before .before) (c .before .before .before .before .before .before .before .before .args .o .now) (c .before .before .before .before .before .before .before .before .args .at) (sumText (terms t (c .before .before .before .before .before .before .before .before)))
-plain-due t c =
-    let f = terms t (c .before .before .before .before .before .before .before .before) in
-    let n : c .before .uses .result ≡ usedIn (mostUsed f) f = c .before .uses .ensures ∙ ap (λ l. usedIn l f) (c .before .before .before .most-used .ensures) in
-    due-all _ _ (sum-plain f (omega (arith, n, c .if1 .taken)))
+  abbrev Split : Type 0
+  Split = sum-lts.After-split sum-known (sum-at t) sum.Post
 
-sum-put-cubes-requires : (t : ℕ) → sum-lts.Need-put-cubes-requires (most-used-reads.Asked, most-used-reads.Learnt, uses-reads.Asked, uses-reads.Learnt, put-cubes-reads.Asked, put-cubes-reads.Learnt, split-reads.Asked, split-reads.Learnt, product-below t, product.Post, put-reads.Asked, put-reads.Learnt, sum-below t, sum.Post) (sum-at t) sum.Post
-sum-put-cubes-requires t c κs = (c .before .before .before .before .before .before .before .before .before .before .pre .1 .0 .held, due-rest (plain-due t (c .before .before)) (c .before .before .before .before .before .before .before .before .before .before .pre .1 .1))
+  abbrev Multiplied : Type 0
+  Multiplied = sum-lts.After-product sum-known (sum-at t) sum.Post
 
-sum-same-length : (t : ℕ) → sum-lts.Need-same-length (most-used-reads.Asked, most-used-reads.Learnt, uses-reads.Asked, uses-reads.Learnt, put-cubes-reads.Asked, put-cubes-reads.Learnt, split-reads.Asked, split-reads.Learnt, product-below t, product.Post, put-reads.Asked, put-reads.Learnt, sum-below t, sum.Post) (sum-at t) sum.Post
-sum-same-length t c = search needs
+  abbrev More : Type 0
+  More = sum-lts.Else2 sum-known (sum-at t) sum.Post
 
-sum-same-length-2 : (t : ℕ) → sum-lts.Need-same-length-2 (most-used-reads.Asked, most-used-reads.Learnt, uses-reads.Asked, uses-reads.Learnt, put-cubes-reads.Asked, put-cubes-reads.Learnt, split-reads.Asked, split-reads.Learnt, product-below t, product.Post, put-reads.Asked, put-reads.Learnt, sum-below t, sum.Post) (sum-at t) sum.Post
-sum-same-length-2 t c = search needs
+  abbrev entered : Chosen → Entered
+  entered c = c .before .before .before .before .before
 
-sum-returns : (t : ℕ) → sum-lts.Need-returns (most-used-reads.Asked, most-used-reads.Learnt, uses-reads.Asked, uses-reads.Learnt, put-cubes-reads.Asked, put-cubes-reads.Learnt, split-reads.Asked, split-reads.Learnt, product-below t, product.Post, put-reads.Asked, put-reads.Learnt, sum-below t, sum.Post) (sum-at t) sum.Post
-sum-returns t c = record { laid = due-last (plain-due t (c .before .before .before .before .before)) (c .before .before .put-cubes .ensures); outside = outside-none _ _ _ }
+  abbrev chosen : Used → Chosen
+  chosen c = c .before .before
 
--- the literal is one of a cube's
-inside : (t : ℕ) (c : sum-lts.After-most-used (most-used-reads.Asked, most-used-reads.Learnt, uses-reads.Asked, uses-reads.Learnt, put-cubes-reads.Asked, put-cubes-reads.Learnt, split-reads.Asked, split-reads.Learnt, product-below t, product.Post, put-reads.Asked, put-reads.Learnt, sum-below t, sum.Post) (sum-at t) sum.Post) → c .most-used .result .0 < 128
-inside t c = subst (λ l. l < 128) (sym (c .most-used .ensures)) (mostUsed-inside _)
+  abbrev used : Split → Used
+  used c = c .before .before .before .before
 
-sum-split-requires : (t : ℕ) → sum-lts.Need-split-requires (most-used-reads.Asked, most-used-reads.Learnt, uses-reads.Asked, uses-reads.Learnt, put-cubes-reads.Asked, put-cubes-reads.Learnt, split-reads.Asked, split-reads.Learnt, product-below t, product.Post, put-reads.Asked, put-reads.Learnt, sum-below t, sum.Post) (sum-at t) sum.Post
-sum-split-requires t c κs = (inside t (c .before .before .before .before .before), c .before .before .before .before .before .before .before .before .before .before .pre .1 .0)
+  abbrev divided : Multiplied → Split
+  divided c = c .before .before .before .before .before .before .before .before
 
--- the literal, the cubes with it and the rest, as they are parted
-abbrev chosen : (t : ℕ) → sum-lts.After-split (most-used-reads.Asked, most-used-reads.Learnt, uses-reads.Asked, uses-reads.Learnt, put-cubes-reads.Asked, put-cubes-reads.Learnt, split-reads.Asked, split-reads.Learnt, product-below t, product.Post, put-reads.Asked, put-reads.Learnt, sum-below t, sum.Post) (sum-at t) sum.Post → ℕ
-chosen t c = c .before .before .before .before .before .before .most-used .result .0
+  abbrev multiplied : More → Multiplied
+  multiplied c = c .before .before .before .before .before .before .before
 
-abbrev quotient : (t : ℕ) → sum-lts.After-split (most-used-reads.Asked, most-used-reads.Learnt, uses-reads.Asked, uses-reads.Learnt, put-cubes-reads.Asked, put-cubes-reads.Learnt, split-reads.Asked, split-reads.Learnt, product-below t, product.Post, put-reads.Asked, put-reads.Learnt, sum-below t, sum.Post) (sum-at t) sum.Post → List (List ℕ)
-quotient t c = cubesFrom (c .before .before .before .before .before .before .before .before .before .before .before .args .a) (c .split .result) (c .split .last .0)
+  abbrev origin : Split → Entered
+  origin c = entered (chosen (used c))
 
-abbrev others : (t : ℕ) → sum-lts.After-split (most-used-reads.Asked, most-used-reads.Learnt, uses-reads.Asked, uses-reads.Learnt, put-cubes-reads.Asked, put-cubes-reads.Learnt, split-reads.Asked, split-reads.Learnt, product-below t, product.Post, put-reads.Asked, put-reads.Learnt, sum-below t, sum.Post) (sum-at t) sum.Post → List ℕ → List (List ℕ)
-others t c ws = cubesFrom (c .split .result) (c .before .before .before .before .before .before .before .before .before .before .before .args .e) ws
+  -- the cubes of the part, and what is due of the sum's text
+  abbrev terms : Entered → List (List ℕ)
+  terms s = cubesFrom (s .args .a) (s .args .e) (s .args .w .now)
 
-many : (t : ℕ) (c : sum-lts.After-split (most-used-reads.Asked, most-used-reads.Learnt, uses-reads.Asked, uses-reads.Learnt, put-cubes-reads.Asked, put-cubes-reads.Learnt, split-reads.Asked, split-reads.Learnt, product-below t, product.Post, put-reads.Asked, put-reads.Learnt, sum-below t, sum.Post) (sum-at t) sum.Post) → 2 ≤ usedIn (chosen t c) (terms t (c .before .before .before .before .before .before .before .before .before .before .before))
-many t c = omega (arith, c .before .before .before .before .uses .ensures, c .before .before .before .if1 .left)
+  abbrev Due-of : Entered → List ℕ → ℕ → List ℕ → Type 0
+  Due-of s o at u = Due (s .args .o .now) (s .args .at) (writtenSum (terms s)) o at u
 
--- the product is due, then the rest
-parted-due : (t : ℕ) (c : sum-lts.After-split (most-used-reads.Asked, most-used-reads.Learnt, uses-reads.Asked, uses-reads.Learnt, put-cubes-reads.Asked, put-cubes-reads.Learnt, split-reads.Asked, split-reads.Learnt, product-below t, product.Post, put-reads.Asked, put-reads.Learnt, sum-below t, sum.Post) (sum-at t) sum.Post) → Due-of t (c .before .before .before .before .before .before .before .before .before .before .before) (c .before .before .before .before .before .before .before .before .before .before .before .args .o .now) (c .before .before .before .before .before .before .before .before .before .before .before .args .at) (productOf (chosen t c) (quotient t c) ++ after (others t c (c .split .last .0)))
-parted-due t c = due-all _ _ (sum-parted _ _ _ _ (c .before .before .before .before .before .before .most-used .ensures) (many t c) (c .split .ensures .first) (c .split .ensures .second))
+  sum-most-used-requires : sum-lts.Need-most-used-requires sum-known (sum-at t) sum.Post
+  sum-most-used-requires c κs = c .before .before .before .before .pre .1 .held
 
-held : (t : ℕ) (c : sum-lts.After-split (most-used-reads.Asked, most-used-reads.Learnt, uses-reads.Asked, uses-reads.Learnt, put-cubes-reads.Asked, put-cubes-reads.Learnt, split-reads.Asked, split-reads.Learnt, product-below t, product.Post, put-reads.Asked, put-reads.Learnt, sum-below t, sum.Post) (sum-at t) sum.Post) → c .before .before .before .before .before .before .before .before .before .before .before .args .e ≤ length (cubesOf (c .split .last .0))
-held t c = omega (arith, cubes-kept (c .split .last .0) (c .before .before .before .before .before .before .before .before .before .before .before .args .w .now) (c .split .kept .0), c .before .before .before .before .before .before .before .before .before .before .before .pre .1 .0 .held .inside)
+  sum-uses-requires : sum-lts.Need-uses-requires sum-known (sum-at t) sum.Post
+  sum-uses-requires c κs = entered (c .before) .pre .1 .held
 
-places : (t : ℕ) (c : sum-lts.After-split (most-used-reads.Asked, most-used-reads.Learnt, uses-reads.Asked, uses-reads.Learnt, put-cubes-reads.Asked, put-cubes-reads.Learnt, split-reads.Asked, split-reads.Learnt, product-below t, product.Post, put-reads.Asked, put-reads.Learnt, sum-below t, sum.Post) (sum-at t) sum.Post) → c .before .before .before .before .before .before .before .before .before .before .before .args .e ≤ length (cubesOf (c .split .last .1 .0))
-places t c = omega (arith, cubes-kept (c .split .last .1 .0) (c .before .before .before .before .before .before .before .before .before .before .before .args .spare .now) (c .split .kept .1 .0), c .before .before .before .before .before .before .before .before .before .before .before .pre .1 .0 .places)
+  sum-put-cubes-requires : sum-lts.Need-put-cubes-requires sum-known (sum-at t) sum.Post
+  sum-put-cubes-requires c κs = entered (chosen (c .before .before .before)) .pre .1 .held
 
-sum-product-requires : (t : ℕ) → sum-lts.Need-product-requires (most-used-reads.Asked, most-used-reads.Learnt, uses-reads.Asked, uses-reads.Learnt, put-cubes-reads.Asked, put-cubes-reads.Learnt, split-reads.Asked, split-reads.Learnt, product-below t, product.Post, put-reads.Asked, put-reads.Learnt, sum-below t, sum.Post) (sum-at t) sum.Post
-sum-product-requires t c κs =
-    let s = c .before .before .before .before .before .before .before .before .before .before .before .before .before .before .before .before .before .before in
-    let d = c .before .before .before .before .before .before .before in
-    let p = d .split .ensures in (
-      omega (arith, s .pre .0, ap literalsOf (p .first), literals-fall (chosen t d) (terms t s), many t d),
-      (
-        record { held = record { forth = p .least; inside = omega (arith, p .most, held t d) }; places = omega (arith, p .most, places t d) },
-        due-countable (productOf (chosen t d) (quotient t d)) _ (parted-due t d) (s .pre .1 .1),
-      ),
-    )
+  sum-same-length : sum-lts.Need-same-length sum-known (sum-at t) sum.Post
+  sum-same-length c = search needs
 
-rest-due : (t : ℕ) (c : sum-lts.After-product (most-used-reads.Asked, most-used-reads.Learnt, uses-reads.Asked, uses-reads.Learnt, put-cubes-reads.Asked, put-cubes-reads.Learnt, split-reads.Asked, split-reads.Learnt, product-below t, product.Post, put-reads.Asked, put-reads.Learnt, sum-below t, sum.Post) (sum-at t) sum.Post) → Due-of t (c .before .before .before .before .before .before .before .before .before .before .before .before .before .before .before .before .before .before .before) (c .product .last .1 .1 .1 .1 .1 .0) (c .product .result) (after (others t (c .before .before .before .before .before .before .before .before) (c .before .before .before .before .before .before .before .before .split .last .0)))
-rest-due t c = due-next (parted-due t (c .before .before .before .before .before .before .before .before)) (c .product .ensures .laid)
+  sum-same-length-2 : sum-lts.Need-same-length-2 sum-known (sum-at t) sum.Post
+  sum-same-length-2 c = search needs
 
--- what the product leaves
-left : (t : ℕ) (c : sum-lts.After-product (most-used-reads.Asked, most-used-reads.Learnt, uses-reads.Asked, uses-reads.Learnt, put-cubes-reads.Asked, put-cubes-reads.Learnt, split-reads.Asked, split-reads.Learnt, product-below t, product.Post, put-reads.Asked, put-reads.Learnt, sum-below t, sum.Post) (sum-at t) sum.Post) → Elsewhere (c .before .before .before .before .before .before .before .before .before .before .before .before .before .before .before .before .before .before .before .args .w .now) (c .product .last .1 .0) (c .before .before .before .before .before .before .before .before .before .before .before .before .before .before .before .before .before .before .before .args .a) (c .before .before .before .before .before .before .before .before .before .before .before .before .before .before .before .before .before .before .before .args .e)
-left t c = outside-join (c .before .before .before .before .before .before .before .before .split .ensures .outside) (c .product .ensures .outside) (omega arith) (c .before .before .before .before .before .before .before .before .split .ensures .most)
+  -- no literal is in two cubes: the cubes are due as they stand
+  plain-due : (c : sum-lts.Then1 sum-known (sum-at t) sum.Post) → let s = entered (chosen (c .before)) in
+      Due-of s (s .args .o .now) (s .args .at) (sumText (terms s))
+  plain-due c =
+      let f = terms (entered (chosen (c .before))) in
+      let n : c .before .uses .result ≡ usedIn (mostUsed f) f = c .before .uses .ensures ∙ ap (λ l. usedIn l f) (chosen (c .before) .most-used .ensures) in
+      due-all _ _ (omega arith) (omega arith) (sum-plain f (omega (arith, n, c .if1 .taken)))
 
-sum-same-length-3 : (t : ℕ) → sum-lts.Need-same-length-3 (most-used-reads.Asked, most-used-reads.Learnt, uses-reads.Asked, uses-reads.Learnt, put-cubes-reads.Asked, put-cubes-reads.Learnt, split-reads.Asked, split-reads.Learnt, product-below t, product.Post, put-reads.Asked, put-reads.Learnt, sum-below t, sum.Post) (sum-at t) sum.Post
-sum-same-length-3 t c = search needs
+  sum-returns : sum-lts.Need-returns sum-known (sum-at t) sum.Post
+  sum-returns c =
+      record { laid = due-last (plain-due (c .before .before .before .before .before)) (c .before .before .put-cubes .ensures); outside = outside-none _ _ _ }
 
-sum-same-length-4 : (t : ℕ) → sum-lts.Need-same-length-4 (most-used-reads.Asked, most-used-reads.Learnt, uses-reads.Asked, uses-reads.Learnt, put-cubes-reads.Asked, put-cubes-reads.Learnt, split-reads.Asked, split-reads.Learnt, product-below t, product.Post, put-reads.Asked, put-reads.Learnt, sum-below t, sum.Post) (sum-at t) sum.Post
-sum-same-length-4 t c = search needs
+  sum-split-requires : sum-lts.Need-split-requires sum-known (sum-at t) sum.Post
+  sum-split-requires c κs =
+      let k = chosen (c .before .before .before) in
+      (subst (λ l. l < 2 * width) (sym (k .most-used .ensures)) (mostUsed-inside _), entered k .pre .1)
 
-sum-same-length-5 : (t : ℕ) → sum-lts.Need-same-length-5 (most-used-reads.Asked, most-used-reads.Learnt, uses-reads.Asked, uses-reads.Learnt, put-cubes-reads.Asked, put-cubes-reads.Learnt, split-reads.Asked, split-reads.Learnt, product-below t, product.Post, put-reads.Asked, put-reads.Learnt, sum-below t, sum.Post) (sum-at t) sum.Post
-sum-same-length-5 t c = search needs
+  -- the literal, the cubes with it and the rest, as they are parted
+  abbrev literal : Split → ℕ
+  literal c = chosen (used c) .most-used .result .0
 
-sum-returns-2 : (t : ℕ) → sum-lts.Need-returns-2 (most-used-reads.Asked, most-used-reads.Learnt, uses-reads.Asked, uses-reads.Learnt, put-cubes-reads.Asked, put-cubes-reads.Learnt, split-reads.Asked, split-reads.Learnt, product-below t, product.Post, put-reads.Asked, put-reads.Learnt, sum-below t, sum.Post) (sum-at t) sum.Post
-sum-returns-2 t c =
-    let none = slice-none (cubesOf (c .before .before .before .before .before .before .before .before .before .before .before .before .before .before .before .split .last .0)) (c .before .before .before .before .before .before .before .before .before .before .before .before .before .before .before .split .result) (c .before .before .before .before .before .before .before .before .before .before .before .before .before .before .before .before .before .before .before .before .before .before .before .before .before .before .args .e) (c .if2 .taken) in
-    record { laid = due-done (due-as (rest-due t (c .before .before .before .before .before .before .before)) (after-none _ (ap isNil none))); outside = left t (c .before .before .before .before .before .before .before) }
+  abbrev quotient : Split → List (List ℕ)
+  quotient c = cubesFrom (origin c .args .a) (c .split .result) (c .split .last .0)
 
--- the rest is as it was parted
-kept : (t : ℕ) (c : sum-lts.After-product (most-used-reads.Asked, most-used-reads.Learnt, uses-reads.Asked, uses-reads.Learnt, put-cubes-reads.Asked, put-cubes-reads.Learnt, split-reads.Asked, split-reads.Learnt, product-below t, product.Post, put-reads.Asked, put-reads.Learnt, sum-below t, sum.Post) (sum-at t) sum.Post) → others t (c .before .before .before .before .before .before .before .before) (c .product .last .1 .0) ≡ others t (c .before .before .before .before .before .before .before .before) (c .before .before .before .before .before .before .before .before .split .last .0)
-kept t c = part-after (c .product .ensures .outside) (c .before .before .before .before .before .before .before .before .before .before .before .before .before .before .before .before .before .before .before .args .e) (c .before .before .before .before .before .before .before .before .split .ensures .most)
+  abbrev others : Split → List ℕ → List (List ℕ)
+  others c ws = cubesFrom (c .split .result) (origin c .args .e) ws
 
--- `+` and the sum of the rest are due
-plus-due : (t : ℕ) (c : sum-lts.Else2 (most-used-reads.Asked, most-used-reads.Learnt, uses-reads.Asked, uses-reads.Learnt, put-cubes-reads.Asked, put-cubes-reads.Learnt, split-reads.Asked, split-reads.Learnt, product-below t, product.Post, put-reads.Asked, put-reads.Learnt, sum-below t, sum.Post) (sum-at t) sum.Post) → Due-of t (c .before .before .before .before .before .before .before .before .before .before .before .before .before .before .before .before .before .before .before .before .before .before .before .before .before .before) (c .before .before .before .before .before .before .before .product .last .1 .1 .1 .1 .1 .0) (c .before .before .before .before .before .before .before .product .result) (43 ∷ writtenSum (others t (c .before .before .before .before .before .before .before .before .before .before .before .before .before .before .before) (c .before .before .before .before .before .before .before .product .last .1 .0)))
-plus-due t c =
-    let d = c .before .before .before .before .before .before .before .before .before .before .before .before .before .before .before in
-    let some = part-some (d .split .last .0) (d .split .result) (c .before .before .before .before .before .before .before .before .before .before .before .before .before .before .before .before .before .before .before .before .before .before .before .before .before .before .args .e) (omega (arith, d .split .ensures .most, c .if2 .left)) (held t d) in
-    due-as (rest-due t (c .before .before .before .before .before .before .before)) (after-some _ some ∙ ap (λ g. 43 ∷ writtenSum g) (sym (kept t (c .before .before .before .before .before .before .before))))
+  many : (c : Split) → 2 ≤ usedIn (literal c) (terms (origin c))
+  many c = omega (arith, used c .uses .ensures, c .before .before .before .if1 .left)
 
-sum-put-requires : (t : ℕ) → sum-lts.Need-put-requires (most-used-reads.Asked, most-used-reads.Learnt, uses-reads.Asked, uses-reads.Learnt, put-cubes-reads.Asked, put-cubes-reads.Learnt, split-reads.Asked, split-reads.Learnt, product-below t, product.Post, put-reads.Asked, put-reads.Learnt, sum-below t, sum.Post) (sum-at t) sum.Post
-sum-put-requires t c κs = due-countable (_ ∷ []) _ (plus-due t (c .before)) (c .before .before .before .before .before .before .before .before .before .before .before .before .before .before .before .before .before .before .before .before .before .before .before .before .before .before .before .pre .1 .1)
+  -- the product is due, then the rest
+  parted-due : (c : Split) → let s = origin c in
+      Due-of s (s .args .o .now) (s .args .at) (productOf (literal c) (quotient c) ++ after (others c (c .split .last .0)))
+  parted-due c =
+      due-all _ _ (omega arith) (omega arith)
+      (sum-parted _ _ _ _ (chosen (used c) .most-used .ensures) (many c) (c .split .ensures .first) (c .split .ensures .second))
 
-sum-sum-requires : (t : ℕ) → sum-lts.Need-sum-requires (most-used-reads.Asked, most-used-reads.Learnt, uses-reads.Asked, uses-reads.Learnt, put-cubes-reads.Asked, put-cubes-reads.Learnt, split-reads.Asked, split-reads.Learnt, product-below t, product.Post, put-reads.Asked, put-reads.Learnt, sum-below t, sum.Post) (sum-at t) sum.Post
-sum-sum-requires t c κs =
-    let s = c .before .before .before .before .before .before .before .before .before .before .before .before .before .before .before .before .before .before .before .before .before .before .before .before .before .before .before .before .before .before .before .before .before in
-    let d = c .before .before .before .before .before .before .before .before .before .before .before .before .before .before .before .before .before .before .before .before .before .before in
-    let p = c .before .before .before .before .before .before .before .before .before .before .before .before .before .before in (
-      omega (arith, s .pre .0, ap literalsOf (kept t p), ap literalsOf (d .split .ensures .second), literals-fall (chosen t d) (terms t s), many t d),
-      (
+  -- there are as many cubes and as many spare places as before
+  held : (c : Split) → origin c .args .e ≤ length (cubesOf (c .split .last .0))
+  held c = omega (arith, cubes-kept (c .split .last .0) (origin c .args .w .now) (c .split .kept .0), origin c .pre .1 .held .inside)
+
+  places : (c : Split) → origin c .args .e ≤ length (cubesOf (c .split .last .1 .0))
+  places c = omega (arith, cubes-kept (c .split .last .1 .0) (origin c .args .spare .now) (c .split .kept .1 .0), origin c .pre .1 .places)
+
+  sum-product-requires : sum-lts.Need-product-requires sum-known (sum-at t) sum.Post
+  sum-product-requires c κs =
+      let d : Split = c .before .before .before .before .before .before .before in
+      let s = origin d in
+      let p = d .split .ensures in (
+        omega (arith, s .pre .0, ap literalsOf (p .first), literals-fall (literal d) (terms s), many d),
+        record { held = record { forth = p .least; inside = omega (arith, p .most, held d) }; places = omega (arith, p .most, places d) },
+      )
+
+  rest-due : (c : Multiplied) → let d = divided c in
+      Due-of (origin d) (c .product .last .1 .1 .1 .1 .1 .0) (c .product .result) (after (others d (d .split .last .0)))
+  rest-due c = due-next (parted-due (divided c)) (c .product .ensures .laid)
+
+  -- what the product leaves
+  left : (c : Multiplied) → let s = origin (divided c) in Elsewhere (s .args .w .now) (c .product .last .1 .0) (s .args .a) (s .args .e)
+  left c = let d = divided c in outside-join (d .split .ensures .outside) (c .product .ensures .outside) (omega arith) (d .split .ensures .most)
+
+  sum-same-length-3 : sum-lts.Need-same-length-3 sum-known (sum-at t) sum.Post
+  sum-same-length-3 c = search needs
+
+  sum-same-length-4 : sum-lts.Need-same-length-4 sum-known (sum-at t) sum.Post
+  sum-same-length-4 c = search needs
+
+  sum-same-length-5 : sum-lts.Need-same-length-5 sum-known (sum-at t) sum.Post
+  sum-same-length-5 c = search needs
+
+  sum-returns-2 : sum-lts.Need-returns-2 sum-known (sum-at t) sum.Post
+  sum-returns-2 c =
+      let m : Multiplied = c .before .before .before .before .before .before .before in
+      let d = divided m in
+      let none = slice-none (cubesOf (d .split .last .0)) (d .split .result) (origin d .args .e) (c .if2 .taken) in
+      record { laid = due-done (due-as (rest-due m) (after-none _ (ap isNil none))); outside = left m }
+
+  -- the rest is as it was parted
+  kept : (c : Multiplied) → others (divided c) (c .product .last .1 .0) ≡ others (divided c) (divided c .split .last .0)
+  kept c = part-after (c .product .ensures .outside) (origin (divided c) .args .e) (divided c .split .ensures .most)
+
+  -- `+` and the sum of the rest are due
+  plus-due : (c : More) → let m = multiplied c in
+      Due-of (origin (divided m)) (m .product .last .1 .1 .1 .1 .1 .0) (m .product .result) (43 ∷ writtenSum (others (divided m) (m .product .last .1 .0)))
+  plus-due c =
+      let m = multiplied c in
+      let d = divided m in
+      let some = part-some (d .split .last .0) (d .split .result) (origin d .args .e) (omega (arith, d .split .ensures .most, c .if2 .left)) (held d) in
+      due-as (rest-due m) (after-some _ some ∙ ap (λ g. 43 ∷ writtenSum g) (sym (kept m)))
+
+  sum-put-requires : sum-lts.Need-put-requires sum-known (sum-at t) sum.Post
+  sum-put-requires c κs = search needs
+
+  sum-sum-requires : sum-lts.Need-sum-requires sum-known (sum-at t) sum.Post
+  sum-sum-requires c κs =
+      let m = multiplied (c .before .before .before .before .before .before .before) in
+      let d = divided m in
+      let s = origin d in (
+        omega (arith, s .pre .0, ap literalsOf (kept m), ap literalsOf (d .split .ensures .second), literals-fall (literal d) (terms s), many d),
         record {
           held = record {
             forth = d .split .ensures .most;
-            inside = omega (arith, cubes-kept (p .product .last .1 .0) (d .split .last .0) (p .product .kept .1 .0), held t d);
+            inside = omega (arith, cubes-kept (m .product .last .1 .0) (d .split .last .0) (m .product .kept .1 .0), held d);
           };
-          places = omega (arith, cubes-kept (p .product .last .1 .1 .0) (d .split .last .1 .0) (p .product .kept .1 .1 .0), places t d);
+          places = omega (arith, cubes-kept (m .product .last .1 .1 .0) (d .split .last .1 .0) (m .product .kept .1 .1 .0), places d);
         },
-        due-rest (due-next (plus-due t (c .before .before .before .before .before .before .before)) (c .before .before .before .before .before .put .ensures)) (s .pre .1 .1),
-      ),
-    )
+      )
 
-sum-same-length-6 : (t : ℕ) → sum-lts.Need-same-length-6 (most-used-reads.Asked, most-used-reads.Learnt, uses-reads.Asked, uses-reads.Learnt, put-cubes-reads.Asked, put-cubes-reads.Learnt, split-reads.Asked, split-reads.Learnt, product-below t, product.Post, put-reads.Asked, put-reads.Learnt, sum-below t, sum.Post) (sum-at t) sum.Post
-sum-same-length-6 t c = search needs
+  sum-same-length-6 : sum-lts.Need-same-length-6 sum-known (sum-at t) sum.Post
+  sum-same-length-6 c = search needs
 
-sum-same-length-7 : (t : ℕ) → sum-lts.Need-same-length-7 (most-used-reads.Asked, most-used-reads.Learnt, uses-reads.Asked, uses-reads.Learnt, put-cubes-reads.Asked, put-cubes-reads.Learnt, split-reads.Asked, split-reads.Learnt, product-below t, product.Post, put-reads.Asked, put-reads.Learnt, sum-below t, sum.Post) (sum-at t) sum.Post
-sum-same-length-7 t c = search needs
+  sum-same-length-7 : sum-lts.Need-same-length-7 sum-known (sum-at t) sum.Post
+  sum-same-length-7 c = search needs
 
-sum-same-length-8 : (t : ℕ) → sum-lts.Need-same-length-8 (most-used-reads.Asked, most-used-reads.Learnt, uses-reads.Asked, uses-reads.Learnt, put-cubes-reads.Asked, put-cubes-reads.Learnt, split-reads.Asked, split-reads.Learnt, product-below t, product.Post, put-reads.Asked, put-reads.Learnt, sum-below t, sum.Post) (sum-at t) sum.Post
-sum-same-length-8 t c = search needs
+  sum-same-length-8 : sum-lts.Need-same-length-8 sum-known (sum-at t) sum.Post
+  sum-same-length-8 c = search needs
 
-sum-returns-3 : (t : ℕ) → sum-lts.Need-returns-3 (most-used-reads.Asked, most-used-reads.Learnt, uses-reads.Asked, uses-reads.Learnt, put-cubes-reads.Asked, put-cubes-reads.Learnt, split-reads.Asked, split-reads.Learnt, product-below t, product.Post, put-reads.Asked, put-reads.Learnt, sum-below t, sum.Post) (sum-at t) sum.Post
-sum-returns-3 t c =
-    record {
-      laid = due-last (due-next (plus-due t (c .before .before .before .before .before .before .before .before .before .before .before .before .before .before)) (c .before .before .before .before .before .before .before .before .before .before .before .before .put .ensures)) (c .before .before .before .before .before .before .sum .ensures .laid);
-      outside = outside-join (left t (c .before .before .before .before .before .before .before .before .before .before .before .before .before .before .before .before .before .before .before .before .before)) (c .before .before .before .before .before .before .sum .ensures .outside) (c .before .before .before .before .before .before .before .before .before .before .before .before .before .before .before .before .before .before .before .before .before .before .before .before .before .before .before .before .before .split .ensures .least) (omega arith);
-    }
+  sum-returns-3 : sum-lts.Need-returns-3 sum-known (sum-at t) sum.Post
+  sum-returns-3 c =
+      let r = c .before .before .before .before .before .before in
+      let p = r .before .before .before .before .before .before in
+      let m = multiplied (p .before .before) in
+      record {
+        laid = due-last (due-next (plus-due (p .before .before)) (p .put .ensures)) (r .sum .ensures .laid);
+        outside = outside-join (left m) (r .sum .ensures .outside) (divided m .split .ensures .least) (omega arith);
+      }
 
 pub +product+sum-spec : {M : Type 1} → statement M
-+product+sum-spec = close μ-product μ-sum (λ t. product-lts.spec (
-  put-literal-reads.Asked,
-  put-literal-reads.Learnt,
-  put-reads.Asked,
-  put-reads.Learnt,
-  sum-below t,
-  sum.Post,
-)
-    (product-at t)
-    product.Post
-    (product-put-literal-requires t)
-    (product-put-requires t)
-    (product-put-requires-2 t)
-    (product-sum-requires t)
-    (product-put-requires-3 t)
-    (product-same-length t)
-    (product-same-length-2 t)
-    (product-same-length-3 t)
-    (product-returns t))
-    λ t. sum-lts.spec (
-      most-used-reads.Asked,
-      most-used-reads.Learnt,
-      uses-reads.Asked,
-      uses-reads.Learnt,
-      put-cubes-reads.Asked,
-      put-cubes-reads.Learnt,
-      split-reads.Asked,
-      split-reads.Learnt,
-      product-below t,
-      product.Post,
-      put-reads.Asked,
-      put-reads.Learnt,
-      sum-below t,
-      sum.Post,
-    )
-    (sum-at t)
-    sum.Post
-    (sum-most-used-requires t)
-    (sum-uses-requires t)
-    (sum-put-cubes-requires t)
-    (sum-same-length t)
-    (sum-same-length-2 t)
-    (sum-returns t)
-    (sum-split-requires t)
-    (sum-product-requires t)
-    (sum-same-length-3 t)
-    (sum-same-length-4 t)
-    (sum-same-length-5 t)
-    (sum-returns-2 t)
-    (sum-put-requires t)
-    (sum-sum-requires t)
-    (sum-same-length-6 t)
-    (sum-same-length-7 t)
-    (sum-same-length-8 t)
-    (sum-returns-3 t)
++product+sum-spec =
+    close μ-product μ-sum
+    (λ t. product-lts.spec (product-known t) (product-at t) product.Post
+        (product-put-literal-requires t) (product-put-requires t) (product-put-requires-2 t) (product-sum-requires t) (product-put-requires-3 t)
+        (product-same-length t) (product-same-length-2 t) (product-same-length-3 t) (product-returns t))
+    (λ t. sum-lts.spec (sum-known t) (sum-at t) sum.Post
+        (sum-most-used-requires t) (sum-uses-requires t) (sum-put-cubes-requires t) (sum-same-length t) (sum-same-length-2 t) (sum-returns t)
+        (sum-split-requires t) (sum-product-requires t) (sum-same-length-3 t) (sum-same-length-4 t) (sum-same-length-5 t) (sum-returns-2 t)
+        (sum-put-requires t) (sum-sum-requires t) (sum-same-length-6 t) (sum-same-length-7 t) (sum-same-length-8 t) (sum-returns-3 t))

@@ -11,7 +11,7 @@ use Rattle.expression.proofs.Words.{cubes-length}
 use Rattle.letters_products.specs.Products.{cubeText}
 use Rattle.factor.specs.Text.{sumText}
 use Rattle.factor.specs.Parts.{cubesFrom}
-use Rattle.letters.proofs.Laying.{Due, due-all, due-as, due-next, due-done, due-last, due-trans, due-countable, due-rest}
+use Rattle.letters.proofs.Laying.{Due, due-all, due-as, due-next, due-done, due-last, due-trans, laid-next}
 use Rattle.factor.proofs.Texts.{marked-nil, marked-cons, plussed, sum-first, sum-none}
 use Rattle.factor.proofs.Parting.{slice-next, slice-none}
 use Rattle.factor.proofs.put_cubes.Statement.{statement}
@@ -23,101 +23,136 @@ Inv-loop o₀ at w a e p₀ i₀ o p i = (i ≤ e) × Due o₀ p₀ (plussed (cu
 abbrev μ-loop : tie.MeasureT-loop
 μ-loop o₀ at w a e p₀ i₀ o p i = e - i
 
+-- the states of the walk: at the start, after the first cube is read, after it is written, in the loop
+abbrev Begun : Type 0
+Begun = tie.Start Inv-loop μ-loop
+
+abbrev begun : tie.After-cube-at Inv-loop μ-loop → Begun
+begun c = c .before .before .before .before .before
+
+abbrev wrote : tie.At-loop Inv-loop μ-loop → tie.After-put-product Inv-loop μ-loop
+wrote c = c .before .before .before
+
+abbrev origin : tie.At-loop Inv-loop μ-loop → Begun
+origin c = begun (wrote c .before)
+
+abbrev plus : tie.After-cube-at2 Inv-loop μ-loop → tie.After-put2 Inv-loop μ-loop
+plus c = c .before .before .before .before
+
+abbrev inside : tie.After-cube-at2 Inv-loop μ-loop → tie.In-loop Inv-loop μ-loop
+inside c = plus c .before .before
+
+abbrev turned : tie.After-slice-known5 Inv-loop μ-loop → tie.After-cube-at2 Inv-loop μ-loop
+turned c = c .before .before .before
+
 -- the cubes from one on, and their text with `+` before each
-abbrev from : tie.Start Inv-loop μ-loop → ℕ → List (List ℕ)
+abbrev from : Begun → ℕ → List (List ℕ)
 from s i = cubesFrom i (s .args .e) (s .args .w .now)
 
-abbrev others : tie.Start Inv-loop μ-loop → ℕ → List ℕ
+abbrev others : Begun → ℕ → List ℕ
 others s i = plussed (from s i)
 
 -- what is due of the text of all
-abbrev Owed : tie.Start Inv-loop μ-loop → List ℕ → ℕ → List ℕ → Type 0
+abbrev Owed : Begun → List ℕ → ℕ → List ℕ → Type 0
 Owed s o at t = Due (s .args .o .now) (s .args .at) (sumText (from s (s .args .a))) o at t
 
--- no cubes: `0` is due
-none : (c : tie.Then1 Inv-loop μ-loop) → Owed (c .before .before .before) (c .before .before .before .args .o .now) (c .before .before .before .args .at) (48 ∷ [])
-none c =
-    let s = c .before .before .before .args in
-    due-all _ _ (ap sumText (slice-none (cubesOf (s .w .now)) (s .a) (s .e) (c .if1 .taken)) ∙ sum-none)
-
 put-requires : tie.Need-put-requires Inv-loop μ-loop
-put-requires c κs = due-rest (none (c .before)) (c .before .before .before .before .pre .1)
+put-requires c κs = search needs
 
 same-length : tie.Need-same-length Inv-loop μ-loop
 same-length c = search needs
 
+-- no cubes: `0` is due
 returns : tie.Need-returns Inv-loop μ-loop
-returns c = due-last (none (c .before .before .before .before)) (c .before .before .put .ensures)
+returns c =
+    let t = c .before .before .before .before in
+    let s = t .before .before .before .args in
+    let none = slice-none (cubesOf (s .w .now)) (s .a) (s .e) (t .if1 .taken) in
+    due-last (due-all _ _ (omega arith) (omega arith) (ap sumText none ∙ sum-none)) (c .before .before .put .ensures)
 
 cube-at-requires : tie.Need-cube-at-requires Inv-loop μ-loop
 cube-at-requires c κs = search needs
 
+put-product-requires : tie.Need-put-product-requires Inv-loop μ-loop
+put-product-requires c κs = search needs
+
 -- the cube at a place and those after it
-next : (s : tie.Start Inv-loop μ-loop) (i : ℕ) → i < s .args .e → from s i ≡ getD (cubesOf (s .args .w .now)) i [] ∷ from s (i + 1)
-next s i h = slice-next (cubesOf (s .args .w .now)) i (s .args .e) [] h (s .pre .0 .inside)
+next : (s : Begun) (i : ℕ) → i < s .args .e → from s i ≡ getD (cubesOf (s .args .w .now)) i [] ∷ from s (i + 1)
+next s i h = slice-next (cubesOf (s .args .w .now)) i (s .args .e) [] h (s .pre .inside)
 
 -- the first cube is due, then the others
-first : (c : tie.After-cube-at Inv-loop μ-loop) → Owed (c .before .before .before .before .before) (c .before .before .before .before .before .args .o .now) (c .before .before .before .before .before .args .at) (cubeText (lits (c .cube-at .result)) ++ others (c .before .before .before .before .before) (c .before .before .before .before .before .args .a + 1))
+first : (c : tie.After-cube-at Inv-loop μ-loop) → let s = begun c in
+    Owed s (s .args .o .now) (s .args .at) (cubeText (lits (c .cube-at .result)) ++ others s (s .args .a + 1))
 first c =
-    let s = c .before .before .before .before .before in
-    let h = next s (s .args .a) (omega (arith, s .pre .0 .forth, c .before .before .if1 .left)) in
-    due-all _ _ (ap sumText h ∙ sum-first _ _ ∙ ap (λ x. cubeText x ++ others s (s .args .a + 1)) (sym (c .cube-at .ensures)))
-
-put-product-requires : tie.Need-put-product-requires Inv-loop μ-loop
-put-product-requires c κs = due-countable (cubeText (lits (c .cube-at .result))) _ (first c) (c .before .before .before .before .before .pre .1)
+    let s = begun c in
+    let h = next s (s .args .a) (omega (arith, s .pre .forth, c .before .before .if1 .left)) in
+    due-all _ _ (omega arith) (omega arith) (ap sumText h ∙ sum-first _ _ ∙ ap (λ x. cubeText x ++ others s (s .args .a + 1)) (sym (c .cube-at .ensures)))
 
 add-i : tie.Need-add-i Inv-loop μ-loop
-add-i c = let s = c .before .before .before .before .before .before .before .before in omega (arith, s .pre .0 .forth, c .before .before .before .before .before .if1 .left, s .pre .0 .inside, cubes-length (s .args .w .now))
+add-i c =
+    let k = c .before .before .before in
+    let s = begun k in
+    omega (arith, s .pre .forth, k .before .before .if1 .left, s .pre .inside, cubes-length (s .args .w .now))
 
 loop-holds : tie.Need-loop-holds Inv-loop μ-loop
-loop-holds c = (omega (arith, c .before .before .before .before .before .before .before .before .pre .0 .forth, c .before .before .before .before .before .if1 .left), due-all _ _ refl, refl)
-
-begun : (c : tie.After-put-product Inv-loop μ-loop) → Owed (c .before .before .before .before .before .before) (c .put-product .last .0) (c .put-product .result) (others (c .before .before .before .before .before .before) (c .before .before .before .before .before .before .args .a + 1))
-begun c = due-next (first (c .before)) (c .put-product .ensures)
+loop-holds c =
+    let w = c .before .before in
+    let k = w .before in
+    (omega (arith, begun k .pre .forth, k .before .before .if1 .left), due-all _ _ (omega arith) (laid-next (w .put-product .ensures)) refl, refl)
 
 -- what is due of the text of the others
-abbrev Left : tie.In-loop Inv-loop μ-loop → List ℕ → ℕ → List ℕ → Type 0
-Left c o at t = Due (c .before .before .before .before .put-product .last .0) (c .before .before .before .before .put-product .result) (others (c .before .before .before .before .before .before .before .before .before .before) (c .before .before .before .before .before .before .before .before .before .before .args .a + 1)) o at t
+abbrev Left : tie.At-loop Inv-loop μ-loop → List ℕ → ℕ → List ℕ → Type 0
+Left c o at t = Due (wrote c .put-product .last .0) (wrote c .put-product .result) (others (origin c) (origin c .args .a + 1)) o at t
 
-plus-due : (c : tie.In-loop Inv-loop μ-loop) → Left c (c .before .loop .o) (c .before .loop .p) (43 ∷ (cubeText (getD (cubesOf (c .before .before .before .before .before .before .before .before .before .before .args .w .now)) (c .before .loop .i) []) ++ others (c .before .before .before .before .before .before .before .before .before .before) (c .before .loop .i + 1)))
+plus-due : (c : tie.In-loop Inv-loop μ-loop) → let h = c .before in let s = origin h in
+    Left h (h .loop .o) (h .loop .p) (43 ∷ (cubeText (getD (cubesOf (s .args .w .now)) (h .loop .i) []) ++ others s (h .loop .i + 1)))
 plus-due c =
     let h = c .before in
-    due-as (h .loop .inv .1) (ap plussed (next (c .before .before .before .before .before .before .before .before .before .before) (h .loop .i) (c .loop-test .taken)) ∙ marked-cons cubeText 43 _ _)
+    due-as (h .loop .inv .1) (ap plussed (next (origin h) (h .loop .i) (c .loop-test .taken)) ∙ marked-cons cubeText 43 _ _)
 
 put-requires-2 : tie.Need-put-requires-2 Inv-loop μ-loop
-put-requires-2 c κs = due-countable (_ ∷ []) _ (due-trans (begun (c .before .before .before .before .before)) (plus-due (c .before))) (c .before .before .before .before .before .before .before .before .before .before .before .pre .1)
+put-requires-2 c κs = search needs
 
 cube-at-requires-2 : tie.Need-cube-at-requires-2 Inv-loop μ-loop
 cube-at-requires-2 c κs = search needs
 
-cube-due : (c : tie.After-cube-at2 Inv-loop μ-loop) → Left (c .before .before .before .before .before .before) (c .before .before .before .before .put2 .last .0) (c .before .before .before .before .put2 .result) (cubeText (lits (c .cube-at2 .result)) ++ others (c .before .before .before .before .before .before .before .before .before .before .before .before .before .before .before .before) (c .before .before .before .before .before .before .before .loop .i + 1))
-cube-due c = due-as (due-next (plus-due (c .before .before .before .before .before .before)) (c .before .before .before .before .put2 .ensures)) (ap (λ x. cubeText x ++ others (c .before .before .before .before .before .before .before .before .before .before .before .before .before .before .before .before) (c .before .before .before .before .before .before .before .loop .i + 1)) (sym (c .cube-at2 .ensures)))
+cube-due : (c : tie.After-cube-at2 Inv-loop μ-loop) → let h = inside c .before in
+    Left h (plus c .put2 .last .0) (plus c .put2 .result) (cubeText (lits (c .cube-at2 .result)) ++ others (origin h) (h .loop .i + 1))
+cube-due c =
+    let h = inside c .before in
+    due-as (due-next (plus-due (inside c)) (plus c .put2 .ensures)) (ap (λ x. cubeText x ++ others (origin h) (h .loop .i + 1)) (sym (c .cube-at2 .ensures)))
 
 put-product-requires-2 : tie.Need-put-product-requires-2 Inv-loop μ-loop
-put-product-requires-2 c κs = due-countable (cubeText (lits (c .cube-at2 .result))) _ (due-trans (begun (c .before .before .before .before .before .before .before .before .before .before)) (cube-due c)) (c .before .before .before .before .before .before .before .before .before .before .before .before .before .before .before .before .pre .1)
+put-product-requires-2 c κs = search needs
 
 add-i-2 : tie.Need-add-i-2 Inv-loop μ-loop
-add-i-2 c = let s = c .before .before .before .before .before .before .before .before .before .before .before .before .before .before .before .before .before .before .before in omega (arith, c .before .before .before .before .before .before .before .before .before .loop-test .taken, s .pre .0 .inside, cubes-length (s .args .w .now))
+add-i-2 c =
+    let i = inside (turned c) in
+    let s = origin (i .before) in
+    omega (arith, i .loop-test .taken, s .pre .inside, cubes-length (s .args .w .now))
 
 loop-less : tie.Need-loop-less Inv-loop μ-loop
-loop-less c = omega (arith, c .before .before .before .before .before .before .before .before .before .loop-test .taken)
+loop-less c = omega (arith, inside (turned c) .loop-test .taken)
 
 loop-again : tie.Need-loop-again Inv-loop μ-loop
-loop-again c = (
-  omega (arith, c .before .before .before .before .before .before .before .before .before .loop-test .taken),
-  due-next (cube-due (c .before .before .before)) (c .before .before .put-product2 .ensures),
-  c .before .before .put-product2 .kept .0 ∙ c .before .before .before .before .before .before .before .put2 .kept .0 ∙ c .before .before .before .before .before .before .before .before .before .before .loop .inv .2,
-)
+loop-again c =
+    let k = turned c in
+    let w = c .before .before .put-product2 in (
+      omega (arith, inside k .loop-test .taken),
+      due-next (cube-due k) (w .ensures),
+      w .kept .0 ∙ plus k .put2 .kept .0 ∙ inside k .before .loop .inv .2,
+    )
 
 same-length-2 : tie.Need-same-length-2 Inv-loop μ-loop
-same-length-2 c = c .before .loop .inv .2 ∙ c .before .before .before .before .put-product .kept .0
+same-length-2 c = c .before .loop .inv .2 ∙ wrote (c .before) .put-product .kept .0
 
 returns-2 : tie.Need-returns-2 Inv-loop μ-loop
 returns-2 c =
     let h = c .before in
-    let s = c .before .before .before .before .before .before .before .before .before .before .args in
+    let s = origin h .args in
     let done = slice-none (cubesOf (s .w .now)) (h .loop .i) (s .e) (omega (arith, h .loop .inv .0, c .loop-test .left)) in
-    due-done (due-as (due-trans (begun (c .before .before .before .before)) (h .loop .inv .1)) (ap plussed done ∙ marked-nil cubeText 43))
+    let begins = due-next (first (wrote h .before)) (wrote h .put-product .ensures) in
+    due-done (due-as (due-trans begins (h .loop .inv .1)) (ap plussed done ∙ marked-nil cubeText 43))
 
 pub put-cubes-spec : {M : Type 1} → statement M
 put-cubes-spec =

@@ -1,7 +1,6 @@
 -- `factor::text` meets its contract: the cubes are copied, put in cube order, and written as a sum. Assumes nothing.
 use mathlib.Core.Path.{_≡_, sym, _∙_, ap}
-use mathlib.Core.List.{List}
-use Prim.Native.Nat.{ℕ, _≤_}
+use Prim.Native.Nat.{_≤_}
 use native.Mathlib.Omega.{arith}
 use borrow.Author.Needs.{needs}
 use lib.ListN.{length, replicate}
@@ -9,9 +8,9 @@ use Rattle.expression.specs.Words.{cubesOf}
 use Rattle.expression.proofs.Words.{cubes-length}
 use Rattle.factor.specs.Text.{textOf}
 use Rattle.factor.specs.Parts.{cubesFrom, writtenSum}
-use Rattle.letters.proofs.Laying.{Due, due-all, due-last, due-rest}
+use Rattle.letters.proofs.Laying.{Due, due-all, due-last}
 use Rattle.factor.proofs.Parting.{cubes-kept}
-use Rattle.factor.proofs.Answering.{sorted-front, text-sum, text-countable}
+use Rattle.factor.proofs.Answering.{sorted-front, text-sum}
 use Rattle.factor.proofs.text.Statement.{statement}
 use Rattle.factor.proofs.text.Tie as tie
 
@@ -46,31 +45,44 @@ slice-aggregate-sum c = search needs
 slice-aggregate-sum-2 : tie.Need-slice-aggregate-sum-2
 slice-aggregate-sum-2 c = search needs
 
--- the sorted cubes are due
-abbrev Owed : tie.Start → List ℕ → Type 0
-Owed s t = Due (s .args .o .now) 0 (textOf (s .args .f .now)) (s .args .o .now) 0 t
+-- the states of the walk: after the cubes are counted, copied, put in order
+abbrev counted : tie.After-copy → tie.After-number
+counted c = c .before .before
 
-whole : (c : tie.After-sort-part) → Owed (c .before .before .before .before .before .before .before .before) (writtenSum (cubesFrom 0 (c .before .before .before .before .before .number .result) (c .sort-part .last .0)))
-whole c = due-all _ _ (sym (ap writtenSum (sorted-front (c .before .before .before .before .before .number .ensures) (c .before .before .before .copy .ensures) (c .sort-part .ensures)) ∙ text-sum (c .before .before .before .before .before .before .before .before .args .f .now)))
+abbrev copied : tie.After-sort-part → tie.After-copy
+copied c = c .before .before .before
+
+-- the sorted cubes are due
+whole : (c : tie.After-sort-part) → let n = counted (copied c) in let s = n .before .before .before .args in
+    Due (s .o .now) 0 (textOf (s .f .now)) (s .o .now) 0 (writtenSum (cubesFrom 0 (n .number .result) (c .sort-part .last .0)))
+whole c =
+    let n = counted (copied c) in
+    let front = sorted-front (n .number .ensures) (copied c .copy .ensures) (c .sort-part .ensures) in
+    due-all _ _ (omega arith) (omega arith) (sym (ap writtenSum front ∙ text-sum (n .before .before .before .args .f .now)))
 
 sum-requires : tie.Need-sum-requires
 sum-requires c κs =
-    let s = c .before .before .before .before .before .before .before .before .before .before .before .before in (
-      record {
-        held = record {
-          forth = omega arith;
-          inside = omega (arith, few (c .before .before .before .before .before .before .before .before .before), cubes-kept (c .before .before .before .before .before .before .before .copy .last .0) (replicate 2048 0) (c .before .before .before .before .before .before .before .copy .kept .0), cubes-kept (c .before .before .before .before .sort-part .last .0) (c .before .before .before .before .before .before .before .copy .last .0) (c .before .before .before .before .sort-part .kept .0));
-        };
-        places = few (c .before .before .before .before .before .before .before .before .before);
-      },
-      due-rest (whole (c .before .before .before .before)) (text-countable (s .args .f .now) (s .pre)),
-    )
+    let o = c .before .before .before .before in
+    let k = copied o in
+    let n = counted k in
+    record {
+      held = record {
+        forth = omega arith;
+        inside = omega (
+          arith,
+          few n,
+          cubes-kept (k .copy .last .0) (replicate 2048 0) (k .copy .kept .0),
+          cubes-kept (o .sort-part .last .0) (k .copy .last .0) (o .sort-part .kept .0),
+        );
+      };
+      places = few n;
+    }
 
 same-length : tie.Need-same-length
 same-length c = search needs
 
 returns : tie.Need-returns
-returns c = due-last (whole (c .before .before .before .before .before .before .before .before .before)) (c .before .before .before .before .sum .ensures .laid)
+returns c = let s = c .before .before .before .before in due-last (whole (s .before .before .before .before .before)) (s .sum .ensures .laid)
 
 pub text-spec : {M : Type 1} → statement M
 text-spec =

@@ -4,7 +4,6 @@ use mathlib.Core.Path.{_≡_, sym, _∙_}
 use native.Mathlib.Omega.{arith}
 use borrow.Author.Needs.{needs}
 use lib.ListN.{length}
-use Rattle.network.specs.Answers.{counted}
 use Rattle.network.specs.declared.Number.the-variants.{Is, No}
 use Rattle.network.specs.Handed.{Shaped}
 use Rattle.network.proofs.Handing.{shape-of}

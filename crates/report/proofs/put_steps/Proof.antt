@@ -3,12 +3,13 @@ use mathlib.Core.Path.{_≡_, refl, sym, _∙_, ap, subst}
 use mathlib.Core.List.{List, _∷_, _++_, map}
 use Prim.Native.Nat.{_+_, _-_, _≤_}
 use native.Mathlib.Omega.{arith}
+use borrow.Author.Needs.{needs}
 use lib.IntN.{pos, _-ℤ_}
 use lib.ListN.{length, getD, take, drop, length-map, drop-of-length-le}
 use lib.Seq.{length-take-le}
 use mir.Syntax.{w32}
 use mir.Val.{toZ, ofZ}
-use Rattle.letters.proofs.Laying.{Due, due-all, due-as, due-next, due-done, due-countable}
+use Rattle.letters.proofs.Laying.{Due, due-all, due-as, due-next, due-done}
 use Rattle.extract_laws.specs.Run.{Made}
 use Rattle.extract.specs.Answers.{madeOf, noMade}
 use Rattle.report.specs.Report.{stepLines, stepLine}
@@ -37,7 +38,7 @@ loop-holds : tie.Need-loop-holds Inv-loop μ-loop
 loop-holds c =
     let s = c .before .before in
     let e : s .args .v + 0 ≡ s .args .v = omega arith in
-    (omega arith, due-all _ _ (ap (λ v. stepLines v (pos (s .args .count)) (steps s)) (sym e)), s .pre .1, refl)
+    (omega arith, due-all _ _ (omega arith) (omega arith) (ap (λ v. stepLines v (pos (s .args .count)) (steps s)) (sym e)), s .pre .1, refl)
 
 mul-s : tie.Need-mul-s Inv-loop μ-loop
 mul-s c = omega (arith, c .before .before .before .before .pre .0 .few, c .loop-test .taken)
@@ -83,7 +84,7 @@ line c =
     ∙ lines-next (s .args .v) (c .before .before .before .before .before .before .before .loop .i) (c .before .before .before .before .before .before .before .loop .left) (step (c .before .before .before .before .before .before)) (others (c .before .before .before .before .before .before)) (c .size .ensures ∙ r) (c .before .before .before .less .ensures ∙ ap (λ z. pos (c .before .before .before .before .before .before .before .loop .left) -ℤ z) r))
 
 put-step-requires : tie.Need-put-step-requires Inv-loop μ-loop
-put-step-requires c κs = due-countable (stepLine _ _ _ _) _ (line c) (c .before .before .before .before .before .before .before .before .before .before .pre .2)
+put-step-requires c κs = search needs
 
 add-i : tie.Need-add-i Inv-loop μ-loop
 add-i c = omega (arith, c .before .before .before .before .before .before .before .before .before .before .before .before .before .pre .0 .few, c .before .before .before .before .before .before .before .before .before .loop-test .taken)

@@ -1,16 +1,14 @@
 -- `report::report` meets its contract: the length is found with no room, and then the report is written or refused. Assumes nothing.
-use mathlib.Core.Path.{_≡_, sym, ap, subst}
-use mathlib.Core.List.{_++_}
+use mathlib.Core.Path.{_≡_, ap, subst}
+use mathlib.Core.List.{[], _++_}
 use Prim.Native.Nat.{_≤_}
 use native.Mathlib.Omega.{arith}
 use borrow.Author.Needs.{needs}
 use lib.ListN.{length}
-use Rattle.letters.specs.Laid.{Countable, Laid}
-use Rattle.letters.proofs.Laying.{laid-whole, laid-nowhere}
+use Rattle.letters.specs.Laid.{Laid}
+use Rattle.letters.proofs.Laying.{laid-as, laid-whole, laid-nowhere, laid-long, laid-short}
+use Rattle.letters.proofs.Telling.{told-long, told-whole}
 use Rattle.report.specs.Report.{reportOf}
-use Rattle.report.specs.Parts.{foundText, Steady}
-use Rattle.report.proofs.Lengths.{report-countable}
-use Rattle.report.proofs.Finding.{told-long, told-whole}
 use Rattle.report.proofs.report.Statement.{statement}
 use Rattle.report.proofs.report.Tie as tie
 
@@ -23,40 +21,50 @@ slice-relend-prefix-put-findings c = search needs
 slice-aggregate-put-findings : tie.Need-slice-aggregate-put-findings
 slice-aggregate-put-findings c = search needs
 
--- what was found can be written
-writable : (c : tie.After-find) → Steady (c .find .result) × Countable 0 (foundText (c .find .result))
-writable c = (c .find .ensures .0, subst (λ t. Countable 0 t) (sym (c .find .ensures .1)) (report-countable (c .before .before .before .args .text .now)))
-
 put-findings-requires : tie.Need-put-findings-requires
-put-findings-requires c κs = writable (c .before)
+put-findings-requires c κs = c .before .find .ensures .0
 
 same-length : tie.Need-same-length
 same-length c = search needs
 
--- no byte is written into no room
-kept : (c : tie.After-put-findings) → c .put-findings .last .0 ++ c .before .before .before .before .before .args .room .now ≡ c .before .before .before .before .before .args .room .now
-kept c = ap (_++ c .before .before .before .before .before .args .room .now) (laid-nowhere (c .put-findings .ensures))
+-- the states of the walk: after the table is read and run, after the report is counted in no room
+abbrev found : tie.After-put-findings → tie.After-find
+found c = c .before .before
 
-long : (c : tie.After-put-findings) → c .put-findings .result ≡ length (reportOf (c .before .before .before .before .before .args .text .now))
-long c = omega (arith, c .put-findings .ensures .place, ap length (c .before .before .find .ensures .1))
+abbrev begun : tie.After-put-findings → tie.Start
+begun c = found c .before .before .before
+
+-- no byte is written into no room
+kept : (c : tie.After-put-findings) → c .put-findings .last .0 ++ begun c .args .room .now ≡ begun c .args .room .now
+kept c = ap (_++ begun c .args .room .now) (laid-nowhere (c .put-findings .ensures))
+
+-- what is counted is the report
+whole : (c : tie.After-put-findings) → Laid [] (c .put-findings .last .0) 0 (c .put-findings .result) (reportOf (begun c .args .text .now))
+whole c = laid-as (c .put-findings .ensures) (found c .find .ensures .1)
 
 returns : tie.Need-returns
-returns c = told-long (reportOf (c .before .before .before .before .before .before .before .before .args .text .now)) (c .before .before .before .before .before .before .before .before .args .room .now) _ (omega (arith, long (c .before .before .before), ap length (kept (c .before .before .before)), c .if1 .taken)) (kept (c .before .before .before))
+returns c =
+    let p = c .before .before .before in
+    let o = begun p .args .room .now in
+    told-long _ _ _ (laid-long (whole p) (length o) (omega arith) (omega (arith, ap length (kept p), c .if1 .taken))) (kept p)
 
 put-findings-requires-2 : tie.Need-put-findings-requires-2
-put-findings-requires-2 c κs = writable (c .before .before .before .before .before .before)
+put-findings-requires-2 c κs = found (c .before .before .before .before) .find .ensures .0
 
 same-length-2 : tie.Need-same-length-2
 same-length-2 c = search needs
 
 returns-2 : tie.Need-returns-2
 returns-2 c =
-    let s = c .before .before .before .before .before .before .before .before .before .before .before .before .args in
-    let k = kept (c .before .before .before .before .before .before .before) in
-    let fits : length (reportOf (s .text .now)) ≤ length (s .room .now) = omega (arith, long (c .before .before .before .before .before .before .before), ap length k, c .before .before .before .before .if1 .left) in
-    let laid = subst (λ t. Laid (s .room .now) (c .before .before .put-findings2 .last .0) 0 (c .before .before .put-findings2 .result) t) (c .before .before .before .before .before .before .before .before .before .find .ensures .1)
-    (subst (λ o. Laid o (c .before .before .put-findings2 .last .0) 0 (c .before .before .put-findings2 .result) (foundText (c .before .before .before .before .before .before .before .before .before .find .result))) k (c .before .before .put-findings2 .ensures)) in
-    told-whole (reportOf (s .text .now)) (s .room .now) _ _ fits (long (c .before .before .before .before .before .before .before)) (laid-whole laid fits)
+    let e = c .before .before .before .before in
+    let p = e .before .before .before in
+    let o = begun p .args .room .now in
+    let short : p .put-findings .result ≤ length o = omega (arith, ap length (kept p), e .if1 .left) in
+    let n = laid-short (whole p) (length o) (omega arith) short in
+    let w = c .before .before .put-findings2 in
+    let same = found p .find .ensures .1 in
+    let laid = subst (λ o. Laid o (w .last .0) 0 (w .result) (reportOf (begun p .args .text .now))) (kept p) (laid-as (w .ensures) same) in
+    told-whole _ _ _ _ (omega arith) n (laid-whole laid (omega arith))
 
 pub report-spec : {M : Type 1} → statement M
 report-spec =
