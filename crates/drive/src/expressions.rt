@@ -4,7 +4,7 @@ use crate::wire;
 use crate::wire::Told;
 use cokernel::Listed;
 use division::Division;
-use factor::Wrote;
+use letters::Wrote;
 
 fn parts(a: Division) -> Told {
     match a {

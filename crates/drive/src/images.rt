@@ -4,7 +4,7 @@ use crate::rooms;
 use crate::wire;
 use crate::wire::Told;
 use image_read::Answer;
-use image_write::Wrote;
+use letters::Wrote;
 use network::Network;
 
 fn wrote(a: Wrote) -> Told {

@@ -9,9 +9,9 @@ mod wire;
 
 use drive_request::Hex;
 use expressions::Asked;
+use letters::Wrote;
 use libc::STDIN_FILENO;
 use network::Network;
-use report::Wrote;
 use table::Answer;
 use wire::Told;
 

@@ -16,6 +16,7 @@ use Rattle.network.proofs.Ruling.{holds-lawful}
 use Rattle.image_laws.specs.Image.{imageOf}
 use Rattle.image_laws.specs.Reading.{accepted, readImage}
 use Rattle.image_laws.proofs.Trips.{read-lawful, image-of-read}
+use Rattle.letters.specs.Told.{orLong}
 use Rattle.image_write.specs.Answers.{refusedBy}
 
 module _ (bytes : List ℕ) (n : Net) (p : Network) (small : (b : ℕ) → b ∈ bytes → b < 256) (h : readImage bytes ≡ accepted n) (held : Holds p n) where
@@ -24,7 +25,7 @@ module _ (bytes : List ℕ) (n : Net) (p : Network) (small : (b : ℕ) → b ∈
   again-bytes = ap imageOf (holds-net p n held (read-lawful bytes n h .0 .good .inTurn)) ∙ image-of-read bytes n small h
 
   -- it is refused neither by 10 nor, where there is room, by 9
-  pub again-never-refused : (o : List ℕ) → length bytes ≤ length o → refusedBy p o ≡ none
-  unfolding refusedBy
+  pub again-never-refused : (o : List ℕ) → length bytes ≤ length o → orLong (refusedBy p) (imageOf (netOf p)) o ≡ none
+  unfolding orLong
   again-never-refused o room =
       rw (holds-lawful p n held (read-lawful bytes n h .0), le-ltb (length o) (length (imageOf (netOf p))) (omega (arith, room, ap length again-bytes)))

@@ -1,11 +1,9 @@
--- What the writer answers: 10, 9, or the image of the network renumbered; no two answers differ. Assumes nothing.
+-- What the writer answers: 10, 9, or the image of the network renumbered. Assumes nothing.
 use Prim.Native.Nat.{ℕ, _+_, _-_, _*_, _<_, _≤_}
 use mathlib.Core.Path.{_≡_, refl, sym, ap, ap₂, _∙_}
 use mathlib.Core.Bool.{Bool, true, false}
 use mathlib.Core.List.{List, [], _++_}
-use mathlib.Core.Option.{Option, none, some}
 use native.Mathlib.Omega.{arith}
-use borrow.Author.Tests.{lt-ltb, le-ltb}
 use lib.ListN.{length, take, drop, length-append, length-map}
 use lib.Seq.{take-at, drop-at, take-take, take-add}
 use Rattle.expression.specs.Words.{cubesOf}
@@ -29,10 +27,11 @@ use Rattle.image_laws.specs.Image.{headFields, netFields, netBytes, imageOf}
 use Rattle.image_laws.proofs.Fielding.{divisorCubes, nodeBits, net-bits, net-bits-length, nodes-bits-length}
 use Rattle.image_number.specs.Answers.{toldBy}
 use Rattle.image_number.specs.declared.Renumbered.{Renumbered}
-use Rattle.image_write.specs.Answers.{refusedBy, Told}
+use Rattle.letters.specs.Told.{Told}
+use Rattle.letters.specs.declared.Wrote.the-variants as wrote
+use Rattle.letters.proofs.Telling.{told-before, told-long, told-whole}
+use Rattle.image_write.specs.Answers.{refusedBy}
 use Rattle.image_write.specs.Parts.{overlaid, LaidBits, nodesFrom, bitsFrom, allBits, mostHeldBits, Held, Writable}
-use Rattle.image_write.specs.declared.Wrote.{Wrote}
-use Rattle.image_write.specs.declared.Wrote.the-variants as wrote
 
 -- ---- what renumbering answered
 
@@ -108,9 +107,8 @@ module _ (n : Network) (shape : Shaped n) (lawful : rules n ≡ true) (r : Netwo
           ∙ ap bytesFor (sym (size-held r (renumbered (netOf n)) h) ∙ ap (headSize +_) (sym b))
 
       -- 9 where the image is longer
-      pub told-long : length o < bytesFor (headSize + bits) → Told (refusedBy n o) n o o (wrote.Refused 9)
-      unfolding refusedBy
-      told-long l = rw (lawful, lt-ltb (length o) (length (imageOf (netOf n))) (omega (arith, image-length))) (refl, refl)
+      pub told-over : length o < bytesFor (headSize + bits) → Told (refusedBy n) (imageOf (netOf n)) o o (wrote.Refused 9)
+      told-over l = rw lawful (told-long _ _ _ (omega (arith, image-length)) refl)
 
       module _ (l : bytesFor (headSize + bits) ≤ length o) where
         pub ready : bits ≤ nodeSlots * mostHeldBits → Writable (r .inputs) (r .outputs) (r .divisors) (r .words) (r .counts) o
@@ -125,20 +123,14 @@ module _ (n : Network) (shape : Shaped n) (lawful : rules n ≡ true) (r : Netwo
             }
 
         -- the image at the front, the rest as it was
-        pub told-written : (o′ : List ℕ) (p : ℕ) → LaidBits o o′ 0 p (allBits (r .inputs) (r .outputs) (r .divisors) (r .words) (r .counts)) → Told (refusedBy n o) n o o′ (wrote.Bytes (bytesFor (headSize + bits)))
-        unfolding refusedBy bytesFrom imageOf netBytes
+        pub told-written : (o′ : List ℕ) (p : ℕ) → LaidBits o o′ 0 p (allBits (r .inputs) (r .outputs) (r .divisors) (r .words) (r .counts))
+            → Told (refusedBy n) (imageOf (netOf n)) o o′ (wrote.Bytes (bytesFor (headSize + bits)))
+        unfolding bytesFrom imageOf netBytes
         told-written o′ p k =
             let w : o′ ≡ imageOf (netOf n) ++ drop (length (imageOf (netOf n))) o =
             k .adds [] o refl refl ∙ ap (λ (u : List Bool). overlaid u o) (bits-held r (renumbered (netOf n)) h)
             ∙ ap (λ i. imageOf (netOf n) ++ drop i o) (sym (bytes-length (fieldBits (netFields (renumbered (netOf n)))))) in
-            rw (lawful, le-ltb (length o) (length (imageOf (netOf n))) (omega (arith, image-length))) (ap wrote.Bytes (sym image-length), w)
+            rw lawful (told-whole _ _ _ _ (omega (arith, image-length)) (sym image-length) w)
 
-pub told-rule : (n : Network) (o : List ℕ) → rules n ≡ false → Told (refusedBy n o) n o o (wrote.Refused 10)
-unfolding refusedBy
-told-rule n o e = rw e (refl, refl)
-
--- ---- one answer
-
-pub told-one : (q : Option ℕ) (n : Network) (o a b : List ℕ) (r p : Wrote) → Told q n o a r → Told q n o b p → (r ≡ p) × (a ≡ b)
-told-one none n o a b r p x y = (x .0 ∙ sym (y .0), x .1 ∙ sym (y .1))
-told-one (some k) n o a b r p x y = (x .0 ∙ sym (y .0), x .1 ∙ sym (y .1))
+pub told-rule : (n : Network) (o : List ℕ) → rules n ≡ false → Told (refusedBy n) (imageOf (netOf n)) o o (wrote.Refused 10)
+told-rule n o e = rw e (told-before _ _ _)

@@ -3,6 +3,7 @@ use cube::Cube;
 use cube::Found;
 use cube::Literal;
 use expression::Verdict;
+use letters::Wrote;
 use network::Network;
 ghost use mathlib.Core.Path.{_≡_};
 ghost use mathlib.Core.Bool.{cond};
@@ -11,17 +12,13 @@ ghost use Prim.Native.Nat.{_+_, _-_, _*_, _^_, _<_, _≤_};
 ghost use lib.ListN.{length};
 ghost use Rattle.cube.specs.Cube.{lits};
 ghost use Rattle.expression.specs.Words.{cubesOf};
-ghost use Rattle.network.specs.Held.{mostCubes};
+ghost use Rattle.network.specs.Held.{netOf, mostCubes};
 ghost use Rattle.network.specs.Handed.{nodeSlots};
 ghost use Rattle.image_fields.specs.Fields.{bitsOf, fieldBits};
-ghost use Rattle.image_laws.specs.Image.{cubeFields, nodeFields, headFields};
-ghost use Rattle.image_write.specs.Answers.{refusedBy, Told};
+ghost use Rattle.image_laws.specs.Image.{cubeFields, nodeFields, headFields, imageOf};
+ghost use Rattle.letters.specs.Told.{Told};
+ghost use Rattle.image_write.specs.Answers.{refusedBy};
 ghost use Rattle.image_write.specs.Parts.{RoomFor, LaidBits, bitsFrom, allBits, mostHeldBits, Held, Writable};
-
-pub enum Wrote {
-    Bytes(usize),
-    Refused(u32),
-}
 
 // ---- fields
 
@@ -169,7 +166,7 @@ fn nodes_bits(words: &[u64], counts: &[usize], e: usize) -> usize
 
 // The image of a network, in the bytes at the front: 10 where it breaks a rule, then 9 where the image is longer than the room.
 pub fn write(n: Network, bytes: &mut [u8]) -> Wrote
-    ensures { λ r. ⌜ Told (refusedBy n (now (bytes .entry))) n (now (bytes .entry)) (now (bytes .exit)) r ⌝ }
+    ensures { λ r. ⌜ Told (refusedBy n) (imageOf (netOf n)) (now (bytes .entry)) (now (bytes .exit)) r ⌝ }
 {
     let r = image_number::renumber(n);
     let answer = r.answer;

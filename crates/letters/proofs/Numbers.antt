@@ -87,10 +87,10 @@ decimal-digits =
     by-digits
     (λ n h. ap (all isDigit) (decimal-one n h) ∙ digit n h)
     (λ n h e. ap (all isDigit) (decimal-more n h)
-        ∙ all-in isDigit (decimal (n / 10) ++ last n) (λ x m. elim (List·Memᴰ·append-cases (decimal (n / 10)) {t = last n} m) [
-          | inl i ↦ all-out isDigit i e
-          | inr j ↦ all-out isDigit j (digit (n % 10) (omega arith))
-        ]))
+    ∙ all-in isDigit (decimal (n / 10) ++ last n) (λ x m. elim (List·Memᴰ·append-cases (decimal (n / 10)) {t = last n} m) [
+      | inl i ↦ all-out isDigit i e
+      | inr j ↦ all-out isDigit j (digit (n % 10) (omega arith))
+    ]))
   where
     digit : (d : ℕ) → d < 10 → all isDigit ((48 + d) ∷ []) ≡ true
     digit d h = rw (le-leb 48 (48 + d) (omega arith), le-leb (48 + d) 57 (omega arith))
@@ -107,6 +107,6 @@ decimal-lead =
     by-digits
     (λ n h e. let f : 48 + n ≡ 48 = sym (ap (λ t. getD t 0 0) (decimal-one n h)) ∙ e in omega arith)
     (λ n h f e.
-        let same = List·getD-append (decimal (n / 10)) (last n) 0 0 (decimal-some (n / 10)) in
-        let z : n / 10 ≡ 0 = f (sym same ∙ sym (ap (λ t. getD t 0 0) (decimal-more n h)) ∙ e) in
-        absurd (omega arith))
+    let same = List·getD-append (decimal (n / 10)) (last n) 0 0 (decimal-some (n / 10)) in
+    let z : n / 10 ≡ 0 = f (sym same ∙ sym (ap (λ t. getD t 0 0) (decimal-more n h)) ∙ e) in
+    absurd (omega arith))

@@ -22,8 +22,8 @@ ghost use Rattle.extract.specs.Answers.{stopOf};
 ghost use Rattle.report.specs.Report.{divisorText, stepLine, stepLines, stopText, refusalText, reportOf};
 ghost use Rattle.report.specs.Parts.{Off, Falls, Numbered, madeIn, runOf, foundText, Steady, Explored};
 
-// The program asks for 64 steps.
-const ASKED: u64 = 64;
+// The program asks for 64 steps (`askedSteps`).
+pub const ASKED: u64 = 64;
 
 // What a report tells: the number of the first divisor, the counts, the steps and the reason; of a refused table the answer alone.
 struct Findings {

@@ -1,6 +1,6 @@
 // A node's factored text for standard output, and the literals of a network to print.
 use crate::line;
-use factor::Wrote;
+use letters::Wrote;
 use network::Network;
 use network::Number;
 ghost use mathlib.Core.Bool.{cond};

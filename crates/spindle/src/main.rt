@@ -9,6 +9,7 @@ mod name;
 mod node;
 mod show;
 
+use letters::Wrote;
 use libc::STDERR_FILENO;
 use libc::STDOUT_FILENO;
 use network::Network;
@@ -18,9 +19,6 @@ const TABLE: usize = 65537;
 
 // A byte more than the longest image whose fields are each in range.
 const IMAGE: usize = 5878735;
-
-// The steps that the program asks for.
-const STEPS: u64 = 64;
 
 // The commands of more than one word.
 enum Command {
@@ -58,7 +56,7 @@ fn extracted(text: &[u8]) -> Loaded {
         return refused(q.number, q.line);
     }
     let read = t.network;
-    let r = extract::run(read, STEPS);
+    let r = extract::run(read, report::ASKED);
     let stop = r.answer;
     if let extract::Answer::Refused(k) = stop {
         return refused(k, 0);
@@ -75,8 +73,8 @@ fn print_report(text: &[u8]) {
     let mut room = [0u8; 16384];
     let a = report::report(text, &mut room);
     match a {
-        report::Wrote::Bytes(n) => print_front(&room, n),
-        report::Wrote::Refused(k) => line::refuse(k, 0),
+        Wrote::Bytes(n) => print_front(&room, n),
+        Wrote::Refused(k) => line::refuse(k, 0),
     }
 }
 
@@ -100,8 +98,8 @@ fn write_image(n: Network, path: &[u8]) {
     let mut bytes = [0u8; 32768];
     let a = image_write::write(n, &mut bytes);
     match a {
-        image_write::Wrote::Bytes(k) => store_image(&bytes, k, path, form::literals(n)),
-        image_write::Wrote::Refused(k) => line::refuse(k, 0),
+        Wrote::Bytes(k) => store_image(&bytes, k, path, form::literals(n)),
+        Wrote::Refused(k) => line::refuse(k, 0),
     }
 }
 

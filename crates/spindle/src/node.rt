@@ -1,5 +1,5 @@
 // The nodes of a network for printing: the literals and the length of each, and the divisors that each output hangs on.
-use factor::Wrote;
+use letters::Wrote;
 use network::Network;
 use std::num;
 ghost use mathlib.Core.Bool.{cond};

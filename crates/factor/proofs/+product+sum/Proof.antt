@@ -349,9 +349,9 @@ pub +product+sum-spec : {M : Type 1} → statement M
 +product+sum-spec =
     close μ-product μ-sum
     (λ t. product-lts.spec (product-known t) (product-at t) product.Post
-        (product-put-literal-requires t) (product-put-requires t) (product-put-requires-2 t) (product-sum-requires t) (product-put-requires-3 t)
-        (product-same-length t) (product-same-length-2 t) (product-same-length-3 t) (product-returns t))
+    (product-put-literal-requires t) (product-put-requires t) (product-put-requires-2 t) (product-sum-requires t) (product-put-requires-3 t)
+    (product-same-length t) (product-same-length-2 t) (product-same-length-3 t) (product-returns t))
     (λ t. sum-lts.spec (sum-known t) (sum-at t) sum.Post
-        (sum-most-used-requires t) (sum-uses-requires t) (sum-put-cubes-requires t) (sum-same-length t) (sum-same-length-2 t) (sum-returns t)
-        (sum-split-requires t) (sum-product-requires t) (sum-same-length-3 t) (sum-same-length-4 t) (sum-same-length-5 t) (sum-returns-2 t)
-        (sum-put-requires t) (sum-sum-requires t) (sum-same-length-6 t) (sum-same-length-7 t) (sum-same-length-8 t) (sum-returns-3 t))
+    (sum-most-used-requires t) (sum-uses-requires t) (sum-put-cubes-requires t) (sum-same-length t) (sum-same-length-2 t) (sum-returns t)
+    (sum-split-requires t) (sum-product-requires t) (sum-same-length-3 t) (sum-same-length-4 t) (sum-same-length-5 t) (sum-returns-2 t)
+    (sum-put-requires t) (sum-sum-requires t) (sum-same-length-6 t) (sum-same-length-7 t) (sum-same-length-8 t) (sum-returns-3 t))

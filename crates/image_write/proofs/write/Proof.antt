@@ -7,7 +7,7 @@ use Rattle.network.specs.Held.{netOf, rules}
 use Rattle.network.specs.Handed.{Shaped, Holds}
 use Rattle.network.proofs.Handing.{shape-of}
 use Rattle.image_laws.specs.Renumber.{renumbered}
-use Rattle.image_write.proofs.Telling.{by-rules, by-refusal, sizes, held, told-rule, told-long, ready, told-written}
+use Rattle.image_write.proofs.Telling.{by-rules, by-refusal, sizes, held, told-rule, told-over, ready, told-written}
 use Rattle.image_write.proofs.write.Statement.{statement}
 use Rattle.image_write.proofs.write.Tie as tie
 
@@ -59,7 +59,7 @@ add-length c = search needs
 returns-2 : tie.Need-returns-2
 returns-2 c =
     let t = c .before .before .before .before .before .before .before .before in
-    told-long _ (shape t) (by t .0) _ (by t .1) (whole t) _ _ (c .before .nodes-bits .ensures .0) (c .if1 .taken)
+    told-over _ (shape t) (by t .0) _ (by t .1) (whole t) _ _ (c .before .nodes-bits .ensures .0) (c .if1 .taken)
 
 slice-aggregate-put-all : tie.Need-slice-aggregate-put-all
 slice-aggregate-put-all c = search needs
