@@ -1,33 +1,32 @@
 -- F/l and the rest are the quotient and the remainder of weak division by l, and stand in cube order, at each level of the form. Assumes nothing.
-use Prim.Native.Nat.{ℕ, zero, suc}
+use Prim.Native.Nat.{ℕ, zero, suc, _<_, _≤_}
 use mathlib.Core.Path.{_≡_, refl, sym, _∙_, ap, subst, fun-ext}
 use mathlib.Core.Bool.{Bool, true, false, cond, not, and-true}
 use mathlib.Core.List.{List, [], _∷_, map}
-use mathlib.Core.Logic.{inl, inr}
+use mathlib.Core.Logic.{_⊎_, inl, inr}
 use native.Mathlib.Omega.{arith}
 use lib.Dec.{ltb}
-use borrow.Author.Tests.{ne-eqb}
+use lib.ListN.{length}
+use borrow.Author.Tests.{ne-eqb, ltb-true, ltb-false}
 use Rattle.sets.specs.Lists.{all, keep, pairwise, isNil}
 use Rattle.sets.specs.Literal.{oppositeOf}
 use Rattle.sets.specs.Sets.{mem, sub, proper, without, before}
-use Rattle.sets.proofs.Truth.{both, clash}
+use Rattle.sets.proofs.Truth.{both, clash, decided}
 use Rattle.sets.proofs.Lists.{_∈_, keep-out, pairwise-keep, pairwise-out, pairwise-map}
 use Rattle.sets.proofs.Orders.{before-order}
 use Rattle.sets.proofs.Removal.{before-removed}
-use Rattle.expression.specs.Expression.{isCube, loose, expression, sort, ordered}
+use Rattle.expression.specs.Expression.{isCube, loose, expression, sort, ordered, literalsOf}
 use Rattle.expression.proofs.Absorbing.{loose-out}
-use Rattle.expression.proofs.Sorting.{loose-flip, ordered-sort, expression-sort}
+use Rattle.expression.proofs.Sorting.{loose-flip, ordered-sort, expression-sort, total-sort}
 use Rattle.division.specs.Division.{quotient, remainder}
 use Rattle.division.proofs.Quotients.{cube-asc}
 use Rattle.division.proofs.Dividing.{quotient-expression, remainder-expression, quotient-cube, remainder-cube}
-use Rattle.factor.specs.Form.{usedIn, mostUsed, over, rest, Form, sum, times, plus, formBy, formOf}
+use Rattle.factor.specs.Form.{usedIn, mostUsed, over, rest, Form, formBy, formOf}
+use Rattle.factor.specs.Meaning.{alone, Divisible, Picked, Divided}
+use Rattle.factor.proofs.Falling.{literals-fall, over-less, rest-less, form-plain, form-times, form-plus}
 
 abbrev Cubes : Type 0
 Cubes = List (List ℕ)
-
--- a literal alone, as an expression
-abbrev pub alone : ℕ → Cubes
-alone l = (l ∷ []) ∷ []
 
 alone-expression : (l : ℕ) → expression (alone l) ≡ true
 unfolding proper mem
@@ -56,10 +55,12 @@ module _ (l : ℕ) (f : Cubes) (ef : expression f ≡ true) (o : ordered f ≡ t
 
   -- F/l is the quotient, the rest the remainder
   pub over-quotient : over l f ≡ quotient f (alone l)
-  over-quotient = sym (quotient-cube f (l ∷ []) ef (alone-expression l) ∙ ap (λ p. sort (map (λ c. without c (l ∷ [])) (keep p f))) (has-alone l) ∙ ordered-sort (over l f) over-ordered)
+  over-quotient = sym (quotient-cube f (l ∷ []) ef (alone-expression l) ∙ ap (λ p. sort (map (λ c. without c (l ∷ [])) (keep p f))) (has-alone l)
+      ∙ ordered-sort (over l f) over-ordered)
 
   pub rest-remainder : rest l f ≡ remainder f (alone l)
-  rest-remainder = sym (remainder-cube f (l ∷ []) ef (alone-expression l) ∙ ap (λ p. sort (keep (λ c. not (p c)) f)) (has-alone l) ∙ ordered-sort (rest l f) rest-ordered)
+  rest-remainder = sym (remainder-cube f (l ∷ []) ef (alone-expression l) ∙ ap (λ p. sort (keep (λ c. not (p c)) f)) (has-alone l)
+      ∙ ordered-sort (rest l f) rest-ordered)
 
   -- expressions again
   pub over-expression : expression (over l f) ≡ true
@@ -70,32 +71,60 @@ module _ (l : ℕ) (f : Cubes) (ef : expression f ≡ true) (o : ordered f ≡ t
 
 -- ---- at each level
 
--- the form is made of f by weak division, and what is divided is an expression in cube order each time
-abbrev pub Divided : Cubes → Form → Type 0
-Divided f (sum g) = (expression f ≡ true) × (ordered f ≡ true) × (f ≡ g)
-Divided f (times l q) = (expression f ≡ true) × (ordered f ≡ true) × Divided (quotient f (alone l)) q × (remainder f (alone l) ≡ [])
-Divided f (plus l q r) = (expression f ≡ true) × (ordered f ≡ true) × Divided (quotient f (alone l)) q × Divided (remainder f (alone l)) r
+module _ (f : Cubes) (d : Divisible f) (k : ℕ) where
+  abbrev l : ℕ
+  l = mostUsed f
 
-turn : (l : ℕ) (f : Cubes) → expression f ≡ true → ordered f ≡ true → (few : Bool) (q r : Form) → Divided (over l f) q → Divided (rest l f) r
-    → Divided f (cond few (sum f) (cond (isNil (rest l f)) (times l q) (plus l q r)))
-turn l f e o true q r x y = (e, o, refl)
-turn l f e o false q r x y = go (rest l f) (rest-remainder l f e o)
-  where
-    x′ : Divided (quotient f (alone l)) q
-    x′ = subst (λ g. Divided g q) (over-quotient l f e o) x
+  -- no literal is in two cubes
+  flat : usedIn l f < 2 → Divided f (formBy k f)
+  flat few = subst (λ (x : Form). Divided f x) (sym (form-plain f k few)) (d, few, refl)
 
-    go : (g : Cubes) → g ≡ remainder f (alone l) → Divided f (cond (isNil g) (times l q) (plus l q r))
-    go [] h = (e, o, x′, sym h)
-    go (c ∷ g) h = (e, o, x′, subst (λ g. Divided g r) (rest-remainder l f e o) y)
+  module _ (many : 2 ≤ usedIn l f) (x : Divided (over l f) (formBy k (over l f))) where
+    x′ : Divided (quotient f (alone l)) (formBy k (over l f))
+    x′ = subst (λ (g : Cubes). Divided g (formBy k (over l f))) (over-quotient l f (d .whole) (d .inOrder)) x
 
-pub form-divided : (k : ℕ) (f : Cubes) → expression f ≡ true → ordered f ≡ true → Divided f (formBy k f)
-unfolding formBy
-form-divided zero f e o = (e, o, refl)
-form-divided (suc k) f e o =
+    left : isNil (remainder f (alone l)) ≡ isNil (rest l f)
+    left = ap isNil (sym (rest-remainder l f (d .whole) (d .inOrder)))
+
+    picked : Picked l f
+    picked = record { most = refl; many = many }
+
+    -- no cube without it
+    alike : isNil (rest l f) ≡ true → Divided f (formBy (suc k) f)
+    alike n = subst (λ (y : Form). Divided f y) (sym (form-times f k many n)) (d, picked, x′, left ∙ n)
+
+    -- and some
+    mixed : isNil (rest l f) ≡ false → Divided (rest l f) (formBy k (rest l f)) → Divided f (formBy (suc k) f)
+    mixed n y =
+        let y′ = subst (λ (g : Cubes). Divided g (formBy k (rest l f))) (rest-remainder l f (d .whole) (d .inOrder)) y in
+        subst (λ (z : Form). Divided f z) (sym (form-plus f k many n)) (d, picked, x′, left ∙ n, y′)
+
+-- with as many turns as there are literals
+pub form-divided : (k : ℕ) (f : Cubes) → literalsOf f ≤ k → Divisible f → Divided f (formBy k f)
+form-divided zero f h d = flat f d 0 (omega (arith, literals-fall (mostUsed f) f))
+form-divided (suc k) f h d =
     let l = mostUsed f in
-    turn l f e o (ltb (usedIn l f) 2) _ _
-    (form-divided k (over l f) (over-expression l f e o) (over-ordered l f e o))
-    (form-divided k (rest l f) (rest-expression l f e o) (rest-ordered l f e o))
+    let e = d .whole in
+    let o = d .inOrder in
+    go (decided (ltb (usedIn l f) 2)) (decided (isNil (rest l f)))
+    (λ i. form-divided k (over l f) i (record { whole = over-expression l f e o; inOrder = over-ordered l f e o }))
+    (λ i. form-divided k (rest l f) i (record { whole = rest-expression l f e o; inOrder = rest-ordered l f e o }))
+  where
+    go : (ltb (usedIn (mostUsed f) f) 2 ≡ true) ⊎ (ltb (usedIn (mostUsed f) f) 2 ≡ false)
+        → (isNil (rest (mostUsed f) f) ≡ true) ⊎ (isNil (rest (mostUsed f) f) ≡ false)
+        → (literalsOf (over (mostUsed f) f) ≤ k → Divided (over (mostUsed f) f) (formBy k (over (mostUsed f) f)))
+        → (literalsOf (rest (mostUsed f) f) ≤ k → Divided (rest (mostUsed f) f) (formBy k (rest (mostUsed f) f)))
+        → Divided f (formBy (suc k) f)
+    go (inl t) n x y = flat f d (suc k) (ltb-true _ _ t)
+    go (inr t) n x y =
+        let many : 2 ≤ usedIn (mostUsed f) f = ltb-false _ _ t in
+        let x′ = x (omega (arith, over-less (mostUsed f) f many)) in
+        elim n [
+          | inl z ↦ alike f d k many x′ z
+          | inr z ↦ mixed f d k many x′ z (y (omega (arith, rest-less (mostUsed f) f many)))
+        ]
 
 pub factored-divided : (f : Cubes) → expression f ≡ true → Divided (sort f) (formOf f)
-factored-divided f e = let s = expression-sort f e in form-divided _ (sort f) (s .0) (s .1)
+factored-divided f e =
+    let s = expression-sort f e in
+    form-divided (literalsOf f) (sort f) (omega (arith, total-sort length f)) (record { whole = s .0; inOrder = s .1 })

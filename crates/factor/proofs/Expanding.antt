@@ -92,17 +92,22 @@ pub expanded-sort : (k : ℕ) (f : Cubes) → all asc f ≡ true → sort (expan
 unfolding formBy expanded
 expanded-sort zero f h = refl
 expanded-sort (suc k) f h =
-    go (decided (ltb (usedIn (mostUsed f) f) 2)) (decided (isNil (rest (mostUsed f) f))) (expanded-sort k (over (mostUsed f) f) (over-asc (mostUsed f) f h)) (expanded-sort k (rest (mostUsed f) f) (rest-asc (mostUsed f) f h))
+    go (decided (ltb (usedIn (mostUsed f) f) 2)) (decided (isNil (rest (mostUsed f) f)))
+    (expanded-sort k (over (mostUsed f) f) (over-asc (mostUsed f) f h)) (expanded-sort k (rest (mostUsed f) f) (rest-asc (mostUsed f) f h))
   where
-    first : sort (expanded (formBy k (over (mostUsed f) f))) ≡ sort (over (mostUsed f) f) → sort (map (insert (mostUsed f)) (expanded (formBy k (over (mostUsed f) f)))) ≡ sort (keep (mem (mostUsed f)) f)
+    first : sort (expanded (formBy k (over (mostUsed f) f))) ≡ sort (over (mostUsed f) f)
+        → sort (map (insert (mostUsed f)) (expanded (formBy k (over (mostUsed f) f)))) ≡ sort (keep (mem (mostUsed f)) f)
     first q = sort-map (insert (mostUsed f)) _ _ q ∙ ap sort (over-multiplied (mostUsed f) f h)
 
-    go : (ltb (usedIn (mostUsed f) f) 2 ≡ true) ⊎ (ltb (usedIn (mostUsed f) f) 2 ≡ false) → (isNil (rest (mostUsed f) f) ≡ true) ⊎ (isNil (rest (mostUsed f) f) ≡ false)
-        → sort (expanded (formBy k (over (mostUsed f) f))) ≡ sort (over (mostUsed f) f) → sort (expanded (formBy k (rest (mostUsed f) f))) ≡ sort (rest (mostUsed f) f)
+    go : (ltb (usedIn (mostUsed f) f) 2 ≡ true) ⊎ (ltb (usedIn (mostUsed f) f) 2 ≡ false) → (isNil (rest (mostUsed f) f) ≡ true)
+        ⊎ (isNil (rest (mostUsed f) f) ≡ false)
+        → sort (expanded (formBy k (over (mostUsed f) f))) ≡ sort (over (mostUsed f) f)
+        → sort (expanded (formBy k (rest (mostUsed f) f))) ≡ sort (rest (mostUsed f) f)
         → sort (expanded (formBy (suc k) f)) ≡ sort f
     go (inl t) n q r = ap (λ x. sort (expanded x)) (form-plain f (suc k) (ltb-true _ _ t))
     go (inr t) (inl n) q r =
-        ap (λ x. sort (expanded x)) (form-times f k (ltb-false _ _ t) n) ∙ first q ∙ ap sort (sym (append-nil _) ∙ ap (keep (mem (mostUsed f)) f ++_) (sym (nil-is _ n)))
+        ap (λ x. sort (expanded x)) (form-times f k (ltb-false _ _ t) n) ∙ first q
+        ∙ ap sort (sym (append-nil _) ∙ ap (keep (mem (mostUsed f)) f ++_) (sym (nil-is _ n)))
         ∙ sort-keep (mem (mostUsed f)) f
     go (inr t) (inr n) q r =
         ap (λ x. sort (expanded x)) (form-plus f k (ltb-false _ _ t) n) ∙ sort-append _ _ _ _ (first q) r ∙ sort-keep (mem (mostUsed f)) f
@@ -116,7 +121,11 @@ module _ (f : Cubes) (h : all asc f ≡ true) where
   multiplied-length = sym (sort-length (expanded (formOf f))) ∙ ap length multiplied ∙ sort-length f
 
   pub multiplied-iff : (c : List ℕ) → (c ∈ expanded (formOf f)) ↔ (c ∈ f)
-  multiplied-iff c = (λ m. sort-out f (subst (λ s. c ∈ s) multiplied (sort-in m)), λ m. sort-out (expanded (formOf f)) (subst (λ s. c ∈ s) (sym multiplied) (sort-in m)))
+  multiplied-iff c = (
+    λ m. sort-out f (subst (λ s. c ∈ s) multiplied (sort-in m)),
+    λ m. sort-out (expanded (formOf f))
+        (subst (λ s. c ∈ s) (sym multiplied) (sort-in m)),
+  )
 
 -- ---- the value
 
@@ -131,7 +140,8 @@ module _ (v : ℕ → Bool) where
   form-value (sum f) = refl
   form-value (times l q) = ap (v l &&_) (form-value q) ∙ sym (any-insert l (expanded q))
   form-value (plus l q r) =
-      ap₂ (λ a b. (v l && a) || b) (form-value q) (form-value r) ∙ ap (_|| any (all v) (expanded r)) (sym (any-insert l (expanded q))) ∙ sym (append-value v (map (insert l) (expanded q)) (expanded r))
+      ap₂ (λ a b. (v l && a) || b) (form-value q) (form-value r) ∙ ap (_|| any (all v) (expanded r)) (sym (any-insert l (expanded q)))
+      ∙ sym (append-value v (map (insert l) (expanded q)) (expanded r))
 
   pub factored-value : (f : Cubes) → all asc f ≡ true → formValue v (formOf f) ≡ any (all v) f
   factored-value f h = form-value (formOf f) ∙ sym (value-sort v (expanded (formOf f))) ∙ ap (any (all v)) (multiplied f h) ∙ value-sort v f

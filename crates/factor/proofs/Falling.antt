@@ -27,26 +27,18 @@ without-shorter l c h =
     let gone : not (mem l (l ∷ [])) ≡ false = rw (mem-head l []) in
     rw all at (keep-fewer (λ x. not (mem x (l ∷ []))) yes c (of-mem l c h) (λ x m p. refl) gone refl)
 
--- ---- the literals and the cubes of both parts
+-- ---- the literals of both parts
 
 pub literals-fall : (l : ℕ) (f : Cubes) → literalsOf (over l f) + usedIn l f + literalsOf (rest l f) ≤ literalsOf f
 literals-fall l [] = omega arith
 literals-fall l (c ∷ f) = go (mem l c) refl (literals-fall l f)
   where
     go : (b : Bool) → mem l c ≡ b → literalsOf (over l f) + usedIn l f + literalsOf (rest l f) ≤ literalsOf f
-        → literalsOf (map (λ d. without d (l ∷ [])) (cond b (c ∷ keep (mem l) f) (keep (mem l) f))) + length (cond b (c ∷ keep (mem l) f) (keep (mem l) f)) + literalsOf (cond (not b) (c ∷ rest l f) (rest l f))
+        → literalsOf (map (λ d. without d (l ∷ [])) (cond b (c ∷ keep (mem l) f) (keep (mem l) f))) + length
+        (cond b (c ∷ keep (mem l) f) (keep (mem l) f)) + literalsOf (cond (not b) (c ∷ rest l f) (rest l f))
         ≤ length c + literalsOf f
     go true e k = omega (arith, without-shorter l c e)
     go false e k = omega arith
-
-pub cubes-split : (l : ℕ) (f : Cubes) → usedIn l f + length (rest l f) ≡ length f
-cubes-split l [] = refl
-cubes-split l (c ∷ f) =
-    elim (mem l c) as (λ b. length (cond b (c ∷ keep (mem l) f) (keep (mem l) f)) + length (cond (not b) (c ∷ rest l f) (rest l f)) ≡ suc (length f))
-    [ true ↦ omega (arith, cubes-split l f) | false ↦ omega (arith, cubes-split l f) ]
-
-pub over-length : (l : ℕ) (f : Cubes) → length (over l f) ≡ usedIn l f
-over-length l f = length-map (keep (mem l) f) (λ c. without c (l ∷ []))
 
 pub over-less : (l : ℕ) (f : Cubes) → 2 ≤ usedIn l f → literalsOf (over l f) < literalsOf f
 over-less l f h = omega (arith, literals-fall l f)
@@ -82,7 +74,8 @@ module _ (f : Cubes) where
 
 pub form-enough : (k j : ℕ) (f : Cubes) → literalsOf f ≤ k → literalsOf f ≤ j → formBy k f ≡ formBy j f
 form-enough zero j f a b = let few : usedIn (mostUsed f) f < 2 = omega (arith, literals-fall (mostUsed f) f) in form-plain f 0 few ∙ sym (form-plain f j few)
-form-enough (suc k) zero f a b = let few : usedIn (mostUsed f) f < 2 = omega (arith, literals-fall (mostUsed f) f) in form-plain f (suc k) few ∙ sym (form-plain f 0 few)
+form-enough (suc k) zero f a b = let few : usedIn (mostUsed f) f < 2 = omega (arith, literals-fall (mostUsed f) f) in form-plain f (suc k) few
+    ∙ sym (form-plain f 0 few)
 form-enough (suc k) (suc j) f a b = go (decided (ltb (usedIn (mostUsed f) f) 2)) (form-enough k j (over (mostUsed f) f)) (form-enough k j (rest (mostUsed f) f))
   where
     go : (ltb (usedIn (mostUsed f) f) 2 ≡ true) ⊎ (ltb (usedIn (mostUsed f) f) 2 ≡ false)

@@ -1,4 +1,5 @@
--- A part of the cubes from one place up to another: its first cube and the others, one cube more at its end, and how a part falls in two in place. Assumes nothing.
+-- A part of the cubes from one place up to another: its first cube and the others, one cube more at its end, and how a part falls in two
+-- in place. Assumes nothing.
 use Prim.Native.Nat.{ℕ, zero, suc, _+_, _-_, _*_, _/_, _<_, _≤_}
 use mathlib.Core.Path.{_≡_, refl, sym, _∙_, ap}
 use mathlib.Core.Bool.{Bool, true, false, cond, not}
@@ -6,15 +7,18 @@ use mathlib.Core.List.{List, [], _∷_, _++_, map, map-append, append-assoc, app
 use native.Mathlib.Numerals.{add-one}
 use native.Mathlib.Omega.{arith}
 use lib.ListN.{length, getD, take, drop, set}
-use lib.Seq.{slice, slice-empty, slice-cons, take-suc, drop-append-le, length-take-le, take-suc-set, drop-set-lt, drop-drop, getD-drop, take-take, take-at, drop-at, take-nil}
+use lib.Seq.{slice, slice-empty, slice-cons, take-suc, drop-append-le, length-take-le, take-suc-set, drop-set-lt, drop-drop, getD-drop, take-take}
+use lib.Seq.{take-at, drop-at, take-nil}
 use Rattle.sets.specs.Lists.{keep, isNil}
 use borrow.Author.Tests.{lt-ltb}
 use Rattle.sets.specs.Sets.{mem, without, insert}
 use Rattle.cube.specs.Cube.{joined, width}
-use Rattle.expression.specs.Words.{cubesOf}
-use Rattle.expression.proofs.Words.{cubes-length}
+use Rattle.sets.proofs.Lists.{keep-append}
+use Rattle.sets.proofs.Rows.{take-store}
+use Rattle.expression.specs.Words.{cubesOf, Placed, fitting}
+use Rattle.expression.proofs.Placing.{placed-as, placed-before, placed-after, placed-span, placed-fitting}
 use Rattle.factor.specs.Form.{over, rest}
-use Rattle.factor.specs.Parts.{cubesFrom, Elsewhere, Gathered, Refilled, Parted}
+use Rattle.factor.specs.Parts.{cubesFrom, Elsewhere, Gathered, Parted}
 
 module _ {A : Type 0} where
   module _ (f : List A) (a e : ℕ) where
@@ -38,20 +42,12 @@ module _ {A : Type 0} where
     pub back-next : drop (i + 1) g ≡ drop (i + 1) f
     back-next = sym (drop-drop 1 i g) ∙ ap (drop 1) same ∙ drop-drop 1 i f
 
-  pub keep-append : (p : A → Bool) (l m : List A) → keep p (l ++ m) ≡ keep p l ++ keep p m
-  keep-append p [] m = refl
-  keep-append p (x ∷ l) m =
-      elim (p x) as (λ b. cond b (x ∷ keep p (l ++ m)) (keep p (l ++ m)) ≡ cond b (x ∷ keep p l) (keep p l) ++ keep p m) [ true ↦ ap (x ∷_) (keep-append p l m) | false ↦ keep-append p l m ]
-
-  -- one store at the end of what stands
-  pub take-more : (g : List A) (m : ℕ) (x : A) → m < length g → take (m + 1) (set g m x) ≡ take m g ++ (x ∷ [])
-  take-more g m x h = rw (add-one m) (take-suc-set g m x h)
-
 -- ---- one cube more
 
 module _ (l : ℕ) (f : List (List ℕ)) (c : List ℕ) where
   pub over-yes : mem l c ≡ true → over l (f ++ (c ∷ [])) ≡ over l f ++ (without c (l ∷ []) ∷ [])
-  over-yes h = ap (map (λ d. without d (l ∷ []))) (keep-append (mem l) f (c ∷ []) ∙ ap (keep (mem l) f ++_) (rw h)) ∙ map-append (λ d. without d (l ∷ [])) (keep (mem l) f) (c ∷ [])
+  over-yes h = ap (map (λ d. without d (l ∷ []))) (keep-append (mem l) f (c ∷ []) ∙ ap (keep (mem l) f ++_) (rw h))
+      ∙ map-append (λ d. without d (l ∷ [])) (keep (mem l) f) (c ∷ [])
 
   pub over-no : mem l c ≡ false → over l (f ++ (c ∷ [])) ≡ over l f
   over-no h = ap (map (λ d. without d (l ∷ []))) (keep-append (mem l) f (c ∷ []) ∙ ap (keep (mem l) f ++_) (rw h) ∙ append-nil (keep (mem l) f))
@@ -91,7 +87,7 @@ module _ {f g s : List (List ℕ)} {a m i l : ℕ} (p : Parting f g s a m i l) (
       record {
         least = omega (arith, p .least);
         most = omega (arith, p .most);
-        first = take-more g m _ (omega (arith, p .most)) ∙ ap (_++ (without (getD f i []) (l ∷ []) ∷ [])) (p .first) ∙ append-assoc (take a f) _ _
+        first = take-store g m _ (omega (arith, p .most)) ∙ ap (_++ (without (getD f i []) (l ∷ []) ∷ [])) (p .first) ∙ append-assoc (take a f) _ _
             ∙ ap (take a f ++_) (sym (ap (over l) more ∙ over-yes l (slice a i f) (getD f i []) h));
         second = ap (λ n. take n s) e ∙ p .second ∙ sym (ap (rest l) more ∙ rest-yes l (slice a i f) (getD f i []) h);
         back = drop-set-lt (i + 1) g m _ (omega (arith, p .most)) ∙ back-next f g i (p .back);
@@ -104,61 +100,15 @@ module _ {f g s : List (List ℕ)} {a m i l : ℕ} (p : Parting f g s a m i l) (
         least = p .least;
         most = omega (arith, p .most);
         first = p .first ∙ ap (take a f ++_) (sym (ap (over l) more ∙ over-no l (slice a i f) (getD f i []) h));
-        second = ap (λ n. take n (set s (i - m) (getD f i []))) e ∙ take-more s (i - m) _ (omega arith) ∙ ap (_++ (getD f i [] ∷ [])) (p .second)
+        second = ap (λ n. take n (set s (i - m) (getD f i []))) e ∙ take-store s (i - m) _ (omega arith) ∙ ap (_++ (getD f i [] ∷ [])) (p .second)
             ∙ sym (ap (rest l) more ∙ rest-no l (slice a i f) (getD f i []) h);
         back = back-next f g i (p .back);
       }
 
--- ---- the first cubes of s from m up to i
-
-pub record Copying (f g s : List (List ℕ)) (m i : ℕ) : Type 0 where
-  pub most : m ≤ i
-  pub first : take i g ≡ take m f ++ take (i - m) s
-  pub back : drop i g ≡ drop i f
-
-pub copying-none : (f s : List (List ℕ)) (m : ℕ) → Copying f f s m m
-copying-none f s m = let e : m - m ≡ 0 = omega arith in record { most = omega arith; first = rw e (sym (append-nil (take m f))); back = refl }
-
-pub copying-more : {f g s : List (List ℕ)} {m i : ℕ} → Copying f g s m i → i < length g → i < length s → Copying f (set g i (getD s (i - m) [])) s m (i + 1)
-copying-more {f} {g} {s} {m} {i} p h k =
-    let e : suc (i - m) ≡ i + 1 - m = omega (arith, p .most) in
-    record {
-      most = omega (arith, p .most);
-      first = take-more g i _ h ∙ ap (_++ (getD s (i - m) [] ∷ [])) (p .first) ∙ append-assoc (take m f) _ _
-          ∙ ap (take m f ++_) (sym (take-suc s (i - m) [] (omega arith)) ∙ ap (λ n. take n s) e);
-      back = drop-set-lt (i + 1) g i _ (omega arith) ∙ back-next f g i (p .back);
-    }
-
--- ---- gathered and copied back, the part is parted
-
-pub parted : {old mid new spare : List ℕ} {a m e l : ℕ} → Gathered old mid spare a m e l → Refilled mid new spare m e
-    → a ≤ length (cubesOf old) → e ≤ length (cubesOf mid) → e ≤ length (cubesOf new) → Parted old new a m e l
-parted {old} {mid} {new} {spare} {a} {m} {e} {l} p q h k n =
-    let f = cubesOf old in
-    let g = cubesOf new in
-    let w : take e g ≡ take m (cubesOf mid) ++ rest l (cubesFrom a e old) = q .first ∙ ap (take m (cubesOf mid) ++_) (p .second) in
-    let lm : length (take m (cubesOf mid)) ≡ m = length-take-le m (cubesOf mid) (omega (arith, p .most)) in
-    let la : length (take a f) ≡ a = length-take-le a f h in
-    let tm : take m g ≡ take a f ++ over l (cubesFrom a e old) = sym (take-take m e g (p .most)) ∙ ap (take m) w ∙ take-at (take m (cubesOf mid)) (rest l (cubesFrom a e old)) m lm ∙ p .first in
-    record {
-      least = p .least;
-      most = p .most;
-      first = ap (drop a) tm ∙ drop-at (take a f) (over l (cubesFrom a e old)) a la;
-      second = ap (drop m) w ∙ drop-at (take m (cubesOf mid)) (rest l (cubesFrom a e old)) m lm;
-      outside = record {
-        front = sym (take-take a m g (p .least)) ∙ ap (take a) tm ∙ take-at (take a f) (over l (cubesFrom a e old)) a la;
-        back = q .back ∙ p .back;
-      };
-    }
-
 -- the cube of one literal alone
 pub joined-one : (l : ℕ) → l < 2 * width → joined l [] ≡ l ∷ []
 unfolding insert
-joined-one l h = rw (lt-ltb l 128 h)
-
--- as many words hold as many cubes
-pub cubes-kept : (a b : List ℕ) → length a ≡ length b → length (cubesOf a) ≡ length (cubesOf b)
-cubes-kept a b h = cubes-length a ∙ ap (λ n. n / 2) h ∙ sym (cubes-length b)
+joined-one l h = rw (lt-ltb l (2 * width) h)
 
 -- ---- what one part leaves of another
 
@@ -173,6 +123,33 @@ module _ {A : Type 0} where
   drop-on d e f g h s =
       let k : d + (e - d) ≡ e = omega arith in
       ap (λ n. drop n f) (sym k) ∙ sym (drop-drop (e - d) d f) ∙ ap (drop (e - d)) s ∙ drop-drop (e - d) d g ∙ ap (λ n. drop n g) k
+
+-- gathered, and the rest copied back: the part is parted
+pub parted : {old mid new spare : List ℕ} {a m e l : ℕ} → Gathered old mid spare a m e l
+    → Placed mid new m (fitting mid m (take (e - m - 0) (drop 0 (cubesOf spare))))
+    → a ≤ length (cubesOf old) → e ≤ length (cubesOf mid) → e ≤ length (cubesOf spare) → Parted old new a m e l
+parted {old} {mid} {new} {spare} {a} {m} {e} {l} p q h k n =
+    let f = cubesOf old in
+    let g = cubesOf new in
+    let others = rest l (cubesFrom a e old) in
+    let z : e - m - 0 ≡ e - m = omega arith in
+    let many : length others ≡ e - m = sym (ap length (p .second)) ∙ length-take-le (e - m) (cubesOf spare) (omega arith) in
+    let end : m + length others ≡ e = omega (arith, p .most) in
+    let in-place : m ≤ length (cubesOf mid) = omega (arith, p .most) in
+    let r : Placed mid new m others =
+    placed-fitting others (omega arith) (placed-as (ap (fitting mid m) (ap (λ i. take i (cubesOf spare)) z ∙ p .second)) q) in
+    let la : length (take a f) ≡ a = length-take-le a f h in
+    let tm : take m g ≡ take a f ++ over l (cubesFrom a e old) = placed-before r in-place ∙ p .first in
+    record {
+      least = p .least;
+      most = p .most;
+      first = ap (drop a) tm ∙ drop-at (take a f) (over l (cubesFrom a e old)) a la;
+      second = slice-from m e g (p .most) ∙ placed-span r in-place (sym end);
+      outside = record {
+        front = sym (take-take a m g (p .least)) ∙ ap (take a) tm ∙ take-at (take a f) (over l (cubesFrom a e old)) a la;
+        back = ap (λ i. drop i g) (sym end) ∙ placed-after r in-place ∙ ap (λ i. drop i (cubesOf mid)) end ∙ p .back;
+      };
+    }
 
 -- the part after one that was worked on
 pub part-after : {old new : List ℕ} {a m : ℕ} → Elsewhere old new a m → (e : ℕ) → m ≤ e → cubesFrom m e new ≡ cubesFrom m e old

@@ -52,12 +52,3 @@ text-zero = refl
 pub text-one : formText (formOf ([] ∷ [])) ≡ 49 ∷ []
 unfolding formText formBy sumText cubeText sort place
 text-one = refl
-
--- as words hold them
-pub words-zero : textOf [] ≡ 48 ∷ []
-unfolding textOf cubesOf
-words-zero = text-zero
-
-pub words-one : textOf (0 ∷ 0 ∷ []) ≡ 49 ∷ []
-unfolding textOf cubesOf
-words-one = ap (λ c. formText (formOf (c ∷ []))) (literals-none width) ∙ text-one

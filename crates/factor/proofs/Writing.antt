@@ -53,7 +53,8 @@ module _ (f : Cubes) where
     sum-plus e =
         ap formText (ap (λ n. formBy n f) turns ∙ form-plus f k many e)
         ∙ ap₂ (λ q r. literalText l ++ (42 ∷ 40 ∷ (formText q ++ (41 ∷ 43 ∷ formText r)))) over-enough rest-enough
-        ∙ sym (append-assoc (literalText l) _ _ ∙ ap (λ t. literalText l ++ (42 ∷ 40 ∷ t)) (append-assoc (formText (formBy (literalsOf (over l f)) (over l f))) _ _))
+        ∙ sym (append-assoc (literalText l) _ _ ∙ ap (λ t. literalText l ++ (42 ∷ 40 ∷ t))
+        (append-assoc (formText (formBy (literalsOf (over l f)) (over l f))) _ _))
 
 -- `+` and the rest, if it has cubes
 pub after : Cubes → List ℕ
@@ -74,7 +75,8 @@ after-some (c ∷ f) h = refl
 pub sum-parted : (f : Cubes) (l : ℕ) (q r : Cubes) → l ≡ mostUsed f → 2 ≤ usedIn l f → q ≡ over l f → r ≡ rest l f → writtenSum f ≡ productOf l q ++ after r
 sum-parted f l q r h many a b = rw (a, b, h) (go (decided (isNil (rest (mostUsed f) f))))
   where
-    go : (isNil (rest (mostUsed f) f) ≡ true) ⊎ (isNil (rest (mostUsed f) f) ≡ false) → writtenSum f ≡ productOf (mostUsed f) (over (mostUsed f) f) ++ after (rest (mostUsed f) f)
+    go : (isNil (rest (mostUsed f) f) ≡ true) ⊎ (isNil (rest (mostUsed f) f) ≡ false)
+        → writtenSum f ≡ productOf (mostUsed f) (over (mostUsed f) f) ++ after (rest (mostUsed f) f)
     go (inl n) = sum-times f (rw h at many) n ∙ sym (append-nil _) ∙ ap (productOf (mostUsed f) (over (mostUsed f) f) ++_) (sym (after-none _ n))
     go (inr n) = sum-plus f (rw h at many) n ∙ ap (productOf (mostUsed f) (over (mostUsed f) f) ++_) (sym (after-some _ n))
 

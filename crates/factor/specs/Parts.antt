@@ -40,11 +40,6 @@ pub record Gathered (old new spare : List ℕ) (a m e l : ℕ) : Type 0 where
   pub second : take (e - m) (cubesOf spare) ≡ rest l (cubesFrom a e old)
   pub back : drop e (cubesOf new) ≡ drop e (cubesOf old)
 
--- from m up to e the first cubes of other words
-pub record Refilled (old new other : List ℕ) (m e : ℕ) : Type 0 where
-  pub first : take e (cubesOf new) ≡ take m (cubesOf old) ++ take (e - m) (cubesOf other)
-  pub back : drop e (cubesOf new) ≡ drop e (cubesOf old)
-
 -- from a up to m the cubes with l, without it, then up to e the rest; both in their order
 pub record Parted (old new : List ℕ) (a m e l : ℕ) : Type 0 where
   pub least : a ≤ m

@@ -9,10 +9,11 @@ ghost use lib.ListN.{length};
 ghost use Rattle.cube.specs.Cube.{width};
 ghost use Rattle.letters.specs.Laid.{Laid};
 ghost use Rattle.letters.specs.Told.{Told};
-ghost use Rattle.expression.specs.Answers.{refusal};
+ghost use Rattle.expression.specs.Words.{cubesOf};
+ghost use Rattle.expression.specs.Answers.{mostHanded, refusal};
 ghost use Rattle.factor.specs.Form.{usedIn, mostUsed};
 ghost use Rattle.factor.specs.Text.{sumText, textOf};
-ghost use Rattle.factor.specs.Parts.{cubesFrom, HasCubes, Spared, Parted, Gathered, Refilled, writtenSum, productOf, Wrought};
+ghost use Rattle.factor.specs.Parts.{cubesFrom, HasCubes, Spared, Parted, Gathered, writtenSum, productOf, Wrought};
 
 // ---- the cubes as they stand
 
@@ -92,25 +93,13 @@ fn gather(w: &mut [u64], spare: &mut [u64], a: usize, e: usize, l: Literal) -> u
     m
 }
 
-// The first cubes of s stand from m up to e.
-fn copy(w: &mut [u64], s: &[u64], m: usize, e: usize)
-    requires { ⌜ Spared (now w) (now s) m e ⌝ }
-    ensures { λ r. ⌜ Refilled (now (w .entry)) (now (w .exit)) (now (s .entry)) m e ⌝ }
-{
-    let mut i = m;
-    while i < e {
-        expression::put_cube(w, i, expression::cube_at(s, i - m));
-        i += 1;
-    }
-}
-
 // The cubes from a up to e parted by l: those with it, without it, then the rest. Where the first end.
 fn split(w: &mut [u64], spare: &mut [u64], a: usize, e: usize, l: Literal) -> usize
     requires { ⌜ (l .0 < 2 * width) × Spared (now w) (now spare) a e ⌝ }
     ensures { λ r. ⌜ Parted (now (w .entry)) (now (w .exit)) a r e (l .0) ⌝ }
 {
     let m = gather(w, spare, a, e, l);
-    copy(w, spare, m, e);
+    expression::copy(spare, 0, e - m, w, m);
     m
 }
 
@@ -158,13 +147,13 @@ fn product(
 
 // The text of f, as far as there is room, and its length.
 fn text(f: &[u64], o: &mut [u8]) -> usize
-    requires { ⌜ length (now f) ≤ 2048 ⌝ }
+    requires { ⌜ length (cubesOf (now f)) ≤ mostHanded ⌝ }
     ensures { λ r. ⌜ Laid (now (o .entry)) (now (o .exit)) 0 r (textOf (now (f .entry))) ⌝ }
 {
     let mut w = [0u64; expression_accept::WORDS];
     let mut spare = [0u64; expression_accept::WORDS];
     let n = expression::number(f);
-    copy(&mut w, f, 0, n);
+    expression::copy(f, 0, n, &mut w, 0);
     expression_sort::sort_part(&mut w, 0, n);
     sum(&mut w, &mut spare, 0, n, o, 0)
 }

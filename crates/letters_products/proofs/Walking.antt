@@ -32,7 +32,8 @@ above-none l (x ∷ c) h = go (decided (leb l x)) (above-none l c)
 
 -- all that follow are past the first
 past : (l x : ℕ) (c : List ℕ) → asc (x ∷ c) ≡ true → l ≤ suc x → above l c ≡ c
-past l x c a h = keep-all (leb l) c (all-in (leb l) c (λ y m. le-leb l y (omega (arith, ltb-true x y (all-out (ltb x) m ((ahead ltb x c a) .0))))))
+past l x c a h =
+    keep-all (leb l) c (all-in (leb l) c (λ y m. le-leb l y (omega (arith, ltb-true x y (all-out (ltb x) m ((ahead ltb x c a) .0))))))
 
 pub at-least : (l x : ℕ) (c : List ℕ) → firstFrom l c ≡ some x → l ≤ x
 unfolding firstFrom

@@ -10,12 +10,13 @@ use Rattle.sets.specs.Lists.{isNil}
 use Rattle.cube.specs.Cube.{width}
 use Rattle.expression.specs.Words.{cubesOf}
 use Rattle.expression.specs.Expression.{literalsOf}
+use Rattle.expression.proofs.Words.{same-room}
 use Rattle.factor.specs.Form.{usedIn, mostUsed}
 use Rattle.factor.specs.Text.{sumText}
 use Rattle.factor.specs.Parts.{cubesFrom, Elsewhere, writtenSum, productOf}
 use Rattle.letters.proofs.Laying.{Due, due-all, due-as, due-next, due-done, due-last}
 use Rattle.factor.proofs.Choosing.{mostUsed-inside}
-use Rattle.factor.proofs.Parting.{cubes-kept, part-after, part-some, slice-none, outside-none, outside-join}
+use Rattle.factor.proofs.Parting.{part-after, part-some, slice-none, outside-none, outside-join}
 use Rattle.factor.proofs.Falling.{literals-fall}
 use Rattle.factor.proofs.Writing.{after, after-none, after-some, sum-plain, sum-parted, product-start}
 use borrow.Fn.Kinds.{In}
@@ -257,10 +258,10 @@ module _ (t : ℕ) where
 
   -- there are as many cubes and as many spare places as before
   held : (c : Split) → origin c .args .e ≤ length (cubesOf (c .split .last .0))
-  held c = omega (arith, cubes-kept (c .split .last .0) (origin c .args .w .now) (c .split .kept .0), origin c .pre .1 .held .inside)
+  held c = omega (arith, same-room (c .split .last .0) (origin c .args .w .now) (c .split .kept .0), origin c .pre .1 .held .inside)
 
   places : (c : Split) → origin c .args .e ≤ length (cubesOf (c .split .last .1 .0))
-  places c = omega (arith, cubes-kept (c .split .last .1 .0) (origin c .args .spare .now) (c .split .kept .1 .0), origin c .pre .1 .places)
+  places c = omega (arith, same-room (c .split .last .1 .0) (origin c .args .spare .now) (c .split .kept .1 .0), origin c .pre .1 .places)
 
   sum-product-requires : sum-lts.Need-product-requires sum-known (sum-at t) sum.Post
   sum-product-requires c κs =
@@ -320,9 +321,9 @@ module _ (t : ℕ) where
         record {
           held = record {
             forth = d .split .ensures .most;
-            inside = omega (arith, cubes-kept (m .product .last .1 .0) (d .split .last .0) (m .product .kept .1 .0), held d);
+            inside = omega (arith, same-room (m .product .last .1 .0) (d .split .last .0) (m .product .kept .1 .0), held d);
           };
-          places = omega (arith, cubes-kept (m .product .last .1 .1 .0) (d .split .last .1 .0) (m .product .kept .1 .1 .0), places d);
+          places = omega (arith, same-room (m .product .last .1 .1 .0) (d .split .last .1 .0) (m .product .kept .1 .1 .0), places d);
         },
       )
 

@@ -6,7 +6,9 @@ use Prim.Native.Nat.{_≤_}
 use native.Mathlib.Omega.{arith}
 use borrow.Author.Needs.{needs}
 use lib.ListN.{length}
-use Rattle.expression.specs.Answers.{refusal, refusalOf}
+use Rattle.expression.specs.Words.{cubesOf}
+use Rattle.expression.specs.Answers.{mostHanded, refusal, refusalOf}
+use Rattle.expression.proofs.Words.{spare-length}
 use Rattle.expression_accept.proofs.Accepting.{accepted-iff}
 use Rattle.factor.specs.Text.{textOf}
 use Rattle.letters.specs.Laid.{Laid}
@@ -48,8 +50,8 @@ slice-aggregate-text c = search needs
 accepted : (c : tie.After-enum-told) → refusal (begun c .args .f .now) ≡ none
 accepted c = sym (c .before .before .accept .ensures) ∙ ap refusalOf (c .enum-told .given .1)
 
-few : (c : tie.After-enum-told) → length (begun c .args .f .now) ≤ 2048
-few c = accepted-iff (begun c .args .f .now) .0 (accepted c) .0
+few : (c : tie.After-enum-told) → length (cubesOf (begun c .args .f .now)) ≤ mostHanded
+few c = let f = begun c .args .f .now in omega (arith, spare-length f, accepted-iff f .0 (accepted c) .0)
 
 text-requires : tie.Need-text-requires
 text-requires c κs = few (c .before)

@@ -1,4 +1,5 @@
--- `factor::most_used` meets its contract. The loop's invariant: the choice among the best so far and the literals from l on is the whole choice. Assumes nothing.
+-- `factor::most_used` meets its contract. The loop's invariant: the choice among the best so far and the literals from l on is the whole
+-- choice. Assumes nothing.
 use mathlib.Core.Path.{_≡_, refl, sym, _∙_, ap}
 use Prim.Native.Nat.{_+_, _-_, _≤_}
 use native.Mathlib.Omega.{arith}
@@ -41,8 +42,18 @@ loop-again c =
     let b = h .loop .best in
     let n : c .before .uses2 .result ≡ usedIn l P = c .before .uses2 .ensures in
     elim (c .if1 .came) [
-      | inl (w, x, y) ↦ (omega arith, y ∙ n ∙ ap (λ z. usedIn z P) (sym x), ap (mostFrom (128 - (l + 1)) P (l + 1)) x ∙ sym (most-taken P 128 l b (c .before .before .loop-test .taken) (omega (arith, w .taken, h .loop .inv .1, n))) ∙ h .loop .inv .2)
-      | inr (w, x, y) ↦ (omega arith, y ∙ h .loop .inv .1 ∙ ap (λ z. usedIn z P) (sym x), ap (mostFrom (128 - (l + 1)) P (l + 1)) x ∙ sym (most-left P 128 l b (c .before .before .loop-test .taken) (omega (arith, w .left, h .loop .inv .1, n))) ∙ h .loop .inv .2)
+      | inl (w, x, y) ↦ (
+        omega arith,
+        y ∙ n ∙ ap (λ z. usedIn z P) (sym x),
+        ap (mostFrom (128 - (l + 1)) P (l + 1)) x
+            ∙ sym (most-taken P 128 l b (c .before .before .loop-test .taken) (omega (arith, w .taken, h .loop .inv .1, n))) ∙ h .loop .inv .2,
+      )
+      | inr (w, x, y) ↦ (
+        omega arith,
+        y ∙ h .loop .inv .1 ∙ ap (λ z. usedIn z P) (sym x),
+        ap (mostFrom (128 - (l + 1)) P (l + 1)) x
+            ∙ sym (most-left P 128 l b (c .before .before .loop-test .taken) (omega (arith, w .left, h .loop .inv .1, n))) ∙ h .loop .inv .2,
+      )
     ]
 
 returns : tie.Need-returns Inv-loop μ-loop

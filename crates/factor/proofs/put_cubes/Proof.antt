@@ -7,7 +7,7 @@ use borrow.Author.Needs.{needs}
 use lib.ListN.{length, getD}
 use Rattle.cube.specs.Cube.{lits}
 use Rattle.expression.specs.Words.{cubesOf}
-use Rattle.expression.proofs.Words.{cubes-length}
+use Rattle.expression.proofs.Words.{cubes-few}
 use Rattle.letters_products.specs.Products.{cubeText}
 use Rattle.factor.specs.Text.{sumText}
 use Rattle.factor.specs.Parts.{cubesFrom}
@@ -92,7 +92,7 @@ add-i : tie.Need-add-i Inv-loop μ-loop
 add-i c =
     let k = c .before .before .before in
     let s = begun k in
-    omega (arith, s .pre .forth, k .before .before .if1 .left, s .pre .inside, cubes-length (s .args .w .now))
+    omega (arith, s .pre .forth, k .before .before .if1 .left, s .pre .inside, cubes-few (s .args .w .now))
 
 loop-holds : tie.Need-loop-holds Inv-loop μ-loop
 loop-holds c =
@@ -129,7 +129,7 @@ add-i-2 : tie.Need-add-i-2 Inv-loop μ-loop
 add-i-2 c =
     let i = inside (turned c) in
     let s = origin (i .before) in
-    omega (arith, i .loop-test .taken, s .pre .inside, cubes-length (s .args .w .now))
+    omega (arith, i .loop-test .taken, s .pre .inside, cubes-few (s .args .w .now))
 
 loop-less : tie.Need-loop-less Inv-loop μ-loop
 loop-less c = omega (arith, inside (turned c) .loop-test .taken)

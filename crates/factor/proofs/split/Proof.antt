@@ -4,26 +4,29 @@ use native.Mathlib.Omega.{arith}
 use borrow.Author.Needs.{needs}
 use lib.ListN.{length}
 use Rattle.expression.specs.Words.{cubesOf}
-use Rattle.factor.proofs.Parting.{parted, cubes-kept}
+use Rattle.expression.proofs.Words.{same-room}
+use Rattle.factor.proofs.Parting.{parted}
 use Rattle.factor.proofs.split.Statement.{statement}
 use Rattle.factor.proofs.split.Tie as tie
 
 gather-requires : tie.Need-gather-requires
 gather-requires c κs = search needs
 
--- what was gathered has as many cubes
-gathered : (c : tie.After-gather) → c .before .before .before .before .before .args .e ≤ length (cubesOf (c .gather .last .0))
-gathered c =
-    let s = c .before .before .before .before .before in
-    omega (arith, cubes-kept (c .gather .last .0) (s .args .w .now) (c .gather .kept .0), s .pre .1 .held .inside)
+abbrev begun : tie.After-gather → tie.Start
+begun c = c .before .before .before .before .before
+
+-- there are as many cubes and as many spare places as before
+gathered : (c : tie.After-gather) → begun c .args .e ≤ length (cubesOf (c .gather .last .0))
+gathered c = omega (arith, same-room (c .gather .last .0) (begun c .args .w .now) (c .gather .kept .0), begun c .pre .1 .held .inside)
+
+spared : (c : tie.After-gather) → begun c .args .e ≤ length (cubesOf (c .gather .last .1 .0))
+spared c = omega (arith, same-room (c .gather .last .1 .0) (begun c .args .spare .now) (c .gather .kept .1 .0), begun c .pre .1 .places)
+
+sub-copy : tie.Need-sub-copy
+sub-copy c = c .before .before .before .before .before .gather .ensures .most
 
 copy-requires : tie.Need-copy-requires
-copy-requires c κs =
-    let s = c .before .before .before .before .before .before .before .before .before .before .before in
-    record {
-      held = record { forth = c .before .before .before .before .before .before .gather .ensures .most; inside = gathered (c .before .before .before .before .before .before) };
-      places = omega (arith, cubes-kept (c .before .before .before .before .before .before .gather .last .1 .0) (s .args .spare .now) (c .before .before .before .before .before .before .gather .kept .1 .0), s .pre .1 .places);
-    }
+copy-requires c κs = search needs
 
 same-length : tie.Need-same-length
 same-length c = search needs
@@ -33,9 +36,9 @@ same-length-2 c = search needs
 
 returns : tie.Need-returns
 returns c =
-    let s = c .before .before .before .before .before .before .before .before .before .before .before .before .before .before in
-    parted (c .before .before .before .before .before .before .before .before .before .gather .ensures) (c .before .before .copy .ensures) (omega (arith, s .pre .1 .held .forth, s .pre .1 .held .inside)) (gathered (c .before .before .before .before .before .before .before .before .before))
-    (omega (arith, cubes-kept (c .before .before .copy .last .0) (c .before .before .before .before .before .before .before .before .before .gather .last .0) (c .before .before .copy .kept .0), gathered (c .before .before .before .before .before .before .before .before .before)))
+    let g = c .before .before .before .before .before .before .before .before .before in
+    let h = begun g .pre .1 .held in
+    parted (g .gather .ensures) (c .before .before .copy .ensures) (omega (arith, h .forth, h .inside)) (gathered g) (spared g)
 
 pub split-spec : {M : Type 1} → statement M
-split-spec = tie.close (tie.spec gather-requires copy-requires same-length same-length-2 returns)
+split-spec = tie.close (tie.spec gather-requires sub-copy copy-requires same-length same-length-2 returns)

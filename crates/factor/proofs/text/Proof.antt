@@ -1,22 +1,26 @@
 -- `factor::text` meets its contract: the cubes are copied, put in cube order, and written as a sum. Assumes nothing.
-use mathlib.Core.Path.{_≡_, sym, _∙_, ap}
-use Prim.Native.Nat.{_≤_}
+use mathlib.Core.Path.{_≡_, refl, sym, _∙_, ap}
+use mathlib.Core.List.{List}
+use Prim.Native.Nat.{ℕ, _*_, _≤_}
 use native.Mathlib.Omega.{arith}
 use borrow.Author.Needs.{needs}
 use lib.ListN.{length, replicate}
-use Rattle.expression.specs.Words.{cubesOf}
-use Rattle.expression.proofs.Words.{cubes-length}
+use Rattle.expression.specs.Words.{cubeWords, cubesOf}
+use Rattle.expression.specs.Answers.{mostHanded}
+use Rattle.expression.proofs.Words.{same-room, room-cubes}
 use Rattle.factor.specs.Text.{textOf}
 use Rattle.factor.specs.Parts.{cubesFrom, writtenSum}
 use Rattle.letters.proofs.Laying.{Due, due-all, due-last}
-use Rattle.factor.proofs.Parting.{cubes-kept}
 use Rattle.factor.proofs.Answering.{sorted-front, text-sum}
 use Rattle.factor.proofs.text.Statement.{statement}
 use Rattle.factor.proofs.text.Tie as tie
 
 -- the words that there are places for
-room : length (cubesOf (replicate 2048 0)) ≡ 1024
-room = cubes-length (replicate 2048 0)
+abbrev places : List ℕ
+places = replicate (cubeWords * mostHanded) 0
+
+room : length (cubesOf places) ≡ mostHanded
+room = room-cubes places mostHanded refl
 
 number-requires : tie.Need-number-requires
 number-requires c κs = search needs
@@ -25,13 +29,11 @@ slice-aggregate-copy : tie.Need-slice-aggregate-copy
 slice-aggregate-copy c = search needs
 
 -- there are places for the cubes
-few : (c : tie.After-number) → c .number .result ≤ length (cubesOf (replicate 2048 0))
-few c =
-    let s = c .before .before .before in
-    omega (arith, room, c .number .ensures, cubes-length (s .args .f .now), s .pre)
+few : (c : tie.After-number) → c .number .result ≤ length (cubesOf places)
+few c = omega (arith, room, c .number .ensures, c .before .before .before .pre)
 
 copy-requires : tie.Need-copy-requires
-copy-requires c κs = record { held = record { forth = omega arith; inside = few (c .before) }; places = omega (arith, c .before .number .ensures) }
+copy-requires c κs = search needs
 
 slice-aggregate-sort-part : tie.Need-slice-aggregate-sort-part
 slice-aggregate-sort-part c = search needs
@@ -57,7 +59,7 @@ whole : (c : tie.After-sort-part) → let n = counted (copied c) in let s = n .b
     Due (s .o .now) 0 (textOf (s .f .now)) (s .o .now) 0 (writtenSum (cubesFrom 0 (n .number .result) (c .sort-part .last .0)))
 whole c =
     let n = counted (copied c) in
-    let front = sorted-front (n .number .ensures) (copied c .copy .ensures) (c .sort-part .ensures) in
+    let front = sorted-front (n .before .before .before .args .f .now) (n .number .ensures) (few n) (copied c .copy .ensures) (c .sort-part .ensures) in
     due-all _ _ (omega arith) (omega arith) (sym (ap writtenSum front ∙ text-sum (n .before .before .before .args .f .now)))
 
 sum-requires : tie.Need-sum-requires
@@ -71,8 +73,8 @@ sum-requires c κs =
         inside = omega (
           arith,
           few n,
-          cubes-kept (k .copy .last .0) (replicate 2048 0) (k .copy .kept .0),
-          cubes-kept (o .sort-part .last .0) (k .copy .last .0) (o .sort-part .kept .0),
+          same-room (k .copy .last .1 .1 .1 .0) places (k .copy .kept .1 .1 .1 .0),
+          same-room (o .sort-part .last .0) (k .copy .last .1 .1 .1 .0) (o .sort-part .kept .0),
         );
       };
       places = few n;

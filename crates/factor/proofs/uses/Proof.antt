@@ -8,7 +8,7 @@ use lib.ListN.{getD}
 use mathlib.Core.Logic.{inl, inr}
 use Rattle.sets.specs.Sets.{mem}
 use Rattle.expression.specs.Words.{cubesOf}
-use Rattle.expression.proofs.Words.{cubes-length}
+use Rattle.expression.proofs.Words.{cubes-few}
 use Rattle.factor.specs.Form.{usedIn}
 use Rattle.factor.specs.Parts.{cubesFrom}
 use Rattle.factor.proofs.Choosing.{uses-yes, uses-no}
@@ -43,23 +43,25 @@ has-requires : tie.Need-has-requires Inv-loop μ-loop
 has-requires c κs = search needs
 
 -- it, and those after it
-next : (c : tie.In-loop Inv-loop μ-loop) → among (c .before .before .before) (from (c .before .before .before) (c .before .loop .i)) ≡ among (c .before .before .before) (present (c .before) ∷ from (c .before .before .before) (c .before .loop .i + 1))
+next : (c : tie.In-loop Inv-loop μ-loop) → among (c .before .before .before) (from (c .before .before .before) (c .before .loop .i)) ≡ among
+    (c .before .before .before) (present (c .before) ∷ from (c .before .before .before) (c .before .loop .i + 1))
 next c =
     let s = c .before .before .before in
     ap (usedIn (s .args .l .0)) (slice-next (cubesOf (s .args .w .now)) (c .before .loop .i) (s .args .e) [] (c .loop-test .taken) (s .pre .inside))
 
-tested : (c : tie.After-has Inv-loop μ-loop) → c .has .result ≡ mem (c .before .before .before .before .before .args .l .0) (present (c .before .before .before))
+tested : (c : tie.After-has Inv-loop μ-loop) → c .has .result ≡ mem (c .before .before .before .before .before .args .l .0)
+    (present (c .before .before .before))
 tested c = c .has .ensures ∙ ap (mem (c .before .before .before .before .before .args .l .0)) (c .before .cube-at .ensures)
 
 add-n : tie.Need-add-n Inv-loop μ-loop
 add-n c =
     let s = c .before .before .before .before .before .before in
-    omega (arith, s .pre .inside, cubes-length (s .args .w .now))
+    omega (arith, s .pre .inside, cubes-few (s .args .w .now))
 
 add-i : tie.Need-add-i Inv-loop μ-loop
 add-i c =
     let s = c .before .before .before .before .before .before in
-    omega (arith, s .pre .inside, cubes-length (s .args .w .now))
+    omega (arith, s .pre .inside, cubes-few (s .args .w .now))
 
 loop-less : tie.Need-loop-less Inv-loop μ-loop
 loop-less c = search needs
@@ -68,8 +70,28 @@ loop-again : tie.Need-loop-again Inv-loop μ-loop
 loop-again c =
     let h = c .before .before .before .before in
     elim (c .if1 .came) [
-      | inl (w, e) ↦ (omega arith, omega arith, omega (arith, h .loop .inv .2, next (c .before .before .before), uses-yes _ _ (from (c .before .before .before .before .before .before) (h .loop .i + 1)) (sym (tested (c .before)) ∙ w .taken)))
-      | inr (w, e) ↦ (omega arith, omega arith, omega (arith, h .loop .inv .2, next (c .before .before .before), uses-no _ _ (from (c .before .before .before .before .before .before) (h .loop .i + 1)) (sym (tested (c .before)) ∙ w .left)))
+      | inl (w, e) ↦ (
+        omega arith,
+        omega arith,
+        omega (
+          arith,
+          h .loop .inv .2,
+          next (c .before .before .before),
+          uses-yes _ _
+              (from (c .before .before .before .before .before .before) (h .loop .i + 1)) (sym (tested (c .before)) ∙ w .taken),
+        ),
+      )
+      | inr (w, e) ↦ (
+        omega arith,
+        omega arith,
+        omega (
+          arith,
+          h .loop .inv .2,
+          next (c .before .before .before),
+          uses-no _ _
+              (from (c .before .before .before .before .before .before) (h .loop .i + 1)) (sym (tested (c .before)) ∙ w .left),
+        ),
+      )
     ]
 
 returns : tie.Need-returns Inv-loop μ-loop

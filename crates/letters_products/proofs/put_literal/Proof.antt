@@ -39,7 +39,8 @@ module _ (c : tie.After-put-name) where
   after : Due (start .args .o .now) (start .args .at) (literalText (start .args .l .0)) (c .put-name .last .0) (c .put-name .result) (mark (start .args .l .0))
   after =
       let l = start .args .l .0 in
-      due-next (due-all _ _ (omega arith) (omega arith) (literal-start l ∙ ap (λ v. nameText 120 v ++ mark l) (sym (known .variable-of .ensures)))) (c .put-name .ensures)
+      let whole = literal-start l ∙ ap (λ v. nameText 120 v ++ mark l) (sym (known .variable-of .ensures)) in
+      due-next (due-all _ _ (omega arith) (omega arith) whole) (c .put-name .ensures)
 
 returns : tie.Need-returns
 returns c =

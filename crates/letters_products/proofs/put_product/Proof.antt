@@ -1,5 +1,5 @@
 -- `letters_products::put_product` meets its contract. The loop's invariant: the literals from a number on are due. Assumes nothing.
-use Prim.Native.Nat.{ℕ, _+_, _-_}
+use Prim.Native.Nat.{ℕ, _+_, _-_, _*_}
 use mathlib.Core.Path.{_≡_, refl, _∙_}
 use mathlib.Core.Bool.{cond}
 use mathlib.Core.List.{List, [], _∷_, _++_}
@@ -8,7 +8,7 @@ use borrow.Author.Needs.{needs}
 use lib.Dec.{ltb, leb}
 use lib.ListN.{length}
 use Rattle.sets.specs.Sets.{firstFrom}
-use Rattle.cube.specs.Cube.{lits}
+use Rattle.cube.specs.Cube.{width, lits}
 use Rattle.letters.proofs.Laying.{Due, due-all, due-as, due-next, due-done, due-trans, laid-next}
 use Rattle.letters_products.specs.Products.{literalText, cubeText, numberOf}
 use Rattle.letters_products.proofs.Turns.{textFrom, text-done, text-start, text-next, next-past}
@@ -19,7 +19,7 @@ abbrev Inv-loop : tie.InvT-loop
 Inv-loop o₀ at c l₀ p₀ o l p = Due o₀ p₀ (textFrom l₀ (lits c)) o p (textFrom l (lits c)) × (length o ≡ length o₀)
 
 abbrev μ-loop : tie.MeasureT-loop
-μ-loop o₀ at c l₀ p₀ o l p = 128 - l
+μ-loop o₀ at c l₀ p₀ o l p = 2 * width - l
 
 -- the cube's literals, and what is due of its text
 abbrev held : tie.Start Inv-loop μ-loop → List ℕ
@@ -36,8 +36,9 @@ module _ (c : tie.After-next Inv-loop μ-loop) where
   start = c .before .before
 
   -- `1`, or the literals from the first one on
-  whole : Owed start (start .args .o .now) (start .args .at) (cond (leb 128 (c .next .result)) (49 ∷ []) [] ++ textFrom (c .next .result) (held start))
-  whole = due-all _ _ (omega arith) (omega arith) (text-start (start .args .c .plain) (start .args .c .negated) (c .next .result) (c .next .ensures))
+  whole : Owed start (start .args .o .now) (start .args .at)
+      (cond (leb (2 * width) (c .next .result)) (49 ∷ []) [] ++ textFrom (c .next .result) (held start))
+  whole = due-all _ _ (omega arith) (omega arith) (text-start (start .args .c) (c .next .result) (c .next .ensures))
 
 put-if-requires : tie.Need-put-if-requires Inv-loop μ-loop
 put-if-requires c κs = search needs
@@ -62,12 +63,13 @@ module _ (c : tie.At-loop Inv-loop μ-loop) where
 -- the literal at the loop's head, `*` where another follows, and those from that one on
 module _ (c : tie.In-loop Inv-loop μ-loop) (m : ℕ) (e : m ≡ numberOf (firstFrom (c .before .loop .l + 1) (held (origin (c .before))))) where
   abbrev Rest : List ℕ → ℕ → List ℕ → Type 0
-  Rest o at t = Due (entry (c .before) .put-if .last .0) (entry (c .before) .put-if .result) (textFrom (first (entry (c .before)) .next .result) (held (origin (c .before)))) o at t
+  Rest o at t =
+      let e = entry (c .before) in
+      Due (e .put-if .last .0) (e .put-if .result) (textFrom (first e .next .result) (held (origin (c .before)))) o at t
 
-  turn : Rest (c .before .loop .o) (c .before .loop .p) (literalText (c .before .loop .l) ++ (cond (ltb m 128) (42 ∷ []) [] ++ textFrom m (held (origin (c .before)))))
-  turn =
-      let x = origin (c .before) .args .c in
-      due-as (c .before .loop .inv .0) (text-next (x .plain) (x .negated) (c .before .loop .l) m (c .loop-test .taken) e)
+  turn : Rest (c .before .loop .o) (c .before .loop .p)
+      (literalText (c .before .loop .l) ++ (cond (ltb m (2 * width)) (42 ∷ []) [] ++ textFrom m (held (origin (c .before)))))
+  turn = due-as (c .before .loop .inv .0) (text-next (origin (c .before) .args .c) (c .before .loop .l) m (c .loop-test .taken) e)
 
 put-literal-requires : tie.Need-put-literal-requires Inv-loop μ-loop
 put-literal-requires c κs = search needs
@@ -85,7 +87,8 @@ module _ (c : tie.After-next2 Inv-loop μ-loop) where
   abbrev inside : tie.In-loop Inv-loop μ-loop
   inside = wrote .before .before
 
-  star : Rest inside (c .next2 .result) (c .next2 .ensures) (wrote .put-literal .last .0) (wrote .put-literal .result) (cond (ltb (c .next2 .result) 128) (42 ∷ []) [] ++ textFrom (c .next2 .result) (held (origin (inside .before))))
+  star : Rest inside (c .next2 .result) (c .next2 .ensures) (wrote .put-literal .last .0) (wrote .put-literal .result)
+      (cond (ltb (c .next2 .result) (2 * width)) (42 ∷ []) [] ++ textFrom (c .next2 .result) (held (origin (inside .before))))
   star = due-next (turn inside (c .next2 .result) (c .next2 .ensures)) (wrote .put-literal .ensures)
 
 put-if-requires-2 : tie.Need-put-if-requires-2 Inv-loop μ-loop
@@ -96,7 +99,7 @@ loop-less c =
     let n = c .before .before .before .before in
     let h = inside n in
     let x = origin (h .before) .args .c in
-    omega (arith, h .loop-test .taken, next-past (x .plain) (x .negated) (h .before .loop .l) (n .next2 .result) (h .loop-test .taken) (n .next2 .ensures))
+    omega (arith, h .loop-test .taken, next-past x (h .before .loop .l) (n .next2 .result) (h .loop-test .taken) (n .next2 .ensures))
 
 loop-again : tie.Need-loop-again Inv-loop μ-loop
 loop-again c =
@@ -109,7 +112,8 @@ same-length c = c .before .loop .inv .1 ∙ entry (c .before) .put-if .kept .0
 
 returns : tie.Need-returns Inv-loop μ-loop
 returns c =
-    due-done (due-as (due-trans (begun (entry (c .before))) (c .before .loop .inv .0)) (text-done (c .before .loop .l) (held (origin (c .before))) (c .loop-test .left)))
+    let h = c .before in
+    due-done (due-as (due-trans (begun (entry h)) (h .loop .inv .0)) (text-done (h .loop .l) (held (origin h)) (c .loop-test .left)))
 
 pub put-product-spec : {M : Type 1} → statement M
 put-product-spec =
