@@ -3,7 +3,8 @@ use Prim.Native.Nat.{ℕ, suc, _≤_}
 use mathlib.Core.Path.{_≡_, refl, sym, _∙_, ap}
 use mathlib.Core.Logic.{_⊎_, inl, inr, _↔_}
 use mathlib.Core.Bool.{Bool, true, false, cond, not, _&&_, _||_}
-use mathlib.Core.List.{List, [], _∷_, _++_, map, List·Memᴰ·head as here, List·Memᴰ·tail as there, List·Memᴰ·not-nil, List·Memᴰ·cases-cons, List·Memᴰ·append-cases, Memᴰ·append-left, Memᴰ·append-right, Memᴰ·cast}
+use mathlib.Core.List.{List, [], _∷_, _++_, map, List·Memᴰ·head as here, List·Memᴰ·tail as there, List·Memᴰ·not-nil, List·Memᴰ·cases-cons}
+use mathlib.Core.List.{List·Memᴰ·append-cases, Memᴰ·append-left, Memᴰ·append-right, Memᴰ·cast}
 use native.Mathlib.Omega.{arith}
 use lib.ListN.{length, getD, take, drop, length-append}
 use lib.Seq.{take-append-seam, drop-append-seam, getD-append-seam, append-snoc}
@@ -88,7 +89,11 @@ module _ (f : Cubes) where
   places a (c ∷ l) e q i o = go (dropped e c l) refl (places (a ++ (c ∷ [])) l (c ∷ e) (q ∙ sym (append-snoc a c l)) wide narrow)
     where
       wide : (x : List ℕ) → x ∈ (a ++ (c ∷ [])) → x ∈ (c ∷ e)
-      wide x m = elim (List·Memᴰ·append-cases a m) [ inl k ↦ there (i x k) | inr k ↦ elim (List·Memᴰ·cases-cons k) [ inl g ↦ here g | inr g ↦ absurd (List·Memᴰ·not-nil g) ] ]
+      wide x m = elim (List·Memᴰ·append-cases a m) [
+        | inl k ↦ there (i x k)
+        | inr k ↦ elim
+            (List·Memᴰ·cases-cons k) [ inl g ↦ here g | inr g ↦ absurd (List·Memᴰ·not-nil g) ]
+      ]
 
       narrow : (x : List ℕ) → x ∈ (c ∷ e) → x ∈ (a ++ (c ∷ []))
       narrow x m = elim (List·Memᴰ·cases-cons m) [ inl g ↦ Memᴰ·append-right a (here g) | inr k ↦ Memᴰ·append-left (c ∷ []) (o x k) ]
@@ -111,7 +116,8 @@ module _ (f : Cubes) where
       go : (b : Bool) → dropped e c l ≡ b
           → absorbFrom (c ∷ e) l ≡ map (λ p. getD f p []) (keep stays (from (length (a ++ (c ∷ []))) (length l)))
           → cond b (absorbFrom (c ∷ e) l) (c ∷ absorbFrom (c ∷ e) l)
-          ≡ map (λ p. getD f p []) (cond (stays (length a)) (length a ∷ keep stays (from (suc (length a)) (length l))) (keep stays (from (suc (length a)) (length l))))
+          ≡ map (λ p. getD f p []) (cond (stays (length a)) (length a ∷ keep stays (from (suc (length a)) (length l)))
+          (keep stays (from (suc (length a)) (length l))))
       go true t r = rw (same-test ∙ ap not t, ← more) r
       go false t r = rw (same-test ∙ ap not t, at, ← more) (ap (c ∷_) r)
 
@@ -136,7 +142,8 @@ module _ (e : Cubes) where
     absorb-kept h = rw h
 
     -- a fact of both
-    absorb-cases : (P : Cubes → Type 0) → (dropped e c l ≡ true → P (absorbFrom (c ∷ e) l)) → (dropped e c l ≡ false → P (c ∷ absorbFrom (c ∷ e) l)) → P (absorbFrom e (c ∷ l))
+    absorb-cases : (P : Cubes → Type 0) → (dropped e c l ≡ true → P (absorbFrom (c ∷ e) l)) → (dropped e c l ≡ false → P (c ∷ absorbFrom (c ∷ e) l))
+        → P (absorbFrom e (c ∷ l))
     absorb-cases P t u = elim (decided (dropped e c l)) [ inl h ↦ rw (absorb-dropped h) (t h) | inr h ↦ rw (absorb-kept h) (u h) ]
 
 -- a kept cube was there, and contains none that stood earlier
@@ -219,13 +226,6 @@ none-from e (c ∷ l) h k = absorb-cases e c l (λ x. x ≡ c ∷ l)
 loose-none : (f : Cubes) → pairwise loose f ≡ true → absorbed f ≡ f
 loose-none f h = none-from [] f h (λ d c m n. absurd (List·Memᴰ·not-nil m))
 
-pub absorbed-none : (f : Cubes) → expression f ≡ true → absorbed f ≡ f
-absorbed-none f h = loose-none f ((both (all isCube f) (pairwise loose f) h) .1)
-
--- and so absorbing again drops nothing
-pub absorbed-once : (f : Cubes) → absorbed (absorbed f) ≡ absorbed f
-absorbed-once f = loose-none (absorbed f) (absorbed-loose f)
-
 -- ---- the walk: K are the kept ones of the cubes E that are passed, L are left
 
 -- e contains a kept cube, or one that is left is smaller
@@ -275,13 +275,23 @@ module _ {K E L : Cubes} {c : List ℕ} (p : Passed K E (c ∷ L)) where
       ]
 
   pub pass-dropped : dropped E c L ≡ true → Passed K (c ∷ E) L
-  pass-dropped h = record { passed-asc = asc-more; left-asc = asc-left; cover = λ e m. elim (List·Memᴰ·cases-cons m) [ inl q ↦ rw q (cover-dropped h) | inr i ↦ old e i ] }
+  pass-dropped h = record {
+    passed-asc = asc-more;
+    left-asc = asc-left;
+    cover = λ e m. elim
+        (List·Memᴰ·cases-cons m) [ inl q ↦ rw q (cover-dropped h) | inr i ↦ old e i ];
+  }
     where
       old : (e : List ℕ) → e ∈ E → Covered K L e
       old e i = elim (first-left e (p .cover e i)) [ inl r ↦ r | inr r ↦ cover-up c e asc-left asc-first (cover-dropped h) (r .0) ]
 
   pub pass-kept : Passed (K ++ (c ∷ [])) (c ∷ E) L
-  pass-kept = record { passed-asc = asc-more; left-asc = asc-left; cover = λ e m. elim (List·Memᴰ·cases-cons m) [ inl q ↦ itself e (rw q (sub-refl c)) | inr i ↦ old e (first-left e (p .cover e i)) ] }
+  pass-kept = record {
+    passed-asc = asc-more;
+    left-asc = asc-left;
+    cover = λ e m. elim
+        (List·Memᴰ·cases-cons m) [ inl q ↦ itself e (rw q (sub-refl c)) | inr i ↦ old e (first-left e (p .cover e i)) ];
+  }
     where
       itself : (e : List ℕ) → sub c e ≡ true → Covered (K ++ (c ∷ [])) L e
       itself e s = inl (c, Memᴰ·append-right K (here refl), s)
@@ -294,7 +304,11 @@ module _ {K E L : Cubes} {c : List ℕ} (p : Passed K E (c ∷ L)) where
 -- ---- each cube contains a kept one, and so the value is the same
 
 covers-from : (K E L : Cubes) → Passed K E L → (e : List ℕ) → (e ∈ E) ⊎ (e ∈ L) → (k : List ℕ) × (k ∈ (K ++ absorbFrom E L)) × (sub k e ≡ true)
-covers-from K E [] p e (inl m) = elim (p .cover e m) [ inl (k, i, t) ↦ (k, Memᴰ·append-left (absorbFrom E []) i, t) | inr (l, i, t, d) ↦ absurd (List·Memᴰ·not-nil i) ]
+covers-from K E [] p e (inl m) = elim (p .cover e m) [
+  | inl (k, i, t) ↦ (k, Memᴰ·append-left (absorbFrom E []) i, t)
+  | inr (l, i, t, d) ↦ absurd
+      (List·Memᴰ·not-nil i)
+]
 covers-from K E [] p e (inr m) = absurd (List·Memᴰ·not-nil m)
 covers-from K E (c ∷ L) p e m = absorb-cases E c L (λ x. (k : List ℕ) × (k ∈ (K ++ x)) × (sub k e ≡ true))
     (λ h. covers-from K (c ∷ E) L (pass-dropped p h) e (shift m))

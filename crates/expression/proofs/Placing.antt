@@ -1,5 +1,5 @@
 -- Cubes put into words one after another: what then stands there, before and after; a part put anew; words filled from the front. Assumes nothing.
-use Prim.Native.Nat.{ℕ, suc, _+_, _-_, _*_, _<_, _≤_, min}
+use Prim.Native.Nat.{ℕ, _+_, _-_, _*_, _<_, _≤_, min}
 use mathlib.Core.Path.{_≡_, refl, sym, _∙_, ap, ap₂, subst}
 use mathlib.Core.List.{List, [], _∷_, _++_, append-assoc, append-nil}
 use native.Mathlib.Numerals.{add-one}
@@ -127,7 +127,8 @@ module _ {old new : List ℕ} {a : ℕ} {f : List (List ℕ)} (p : Placed old ne
   placed-more fits q = placed-then (omega arith) (put-placed (omega (arith, placed-length (omega arith))) q)
 
 -- where there is room for all of them, none is left out
-pub placed-fitting : {old new : List ℕ} {a : ℕ} (f : List (List ℕ)) → a + length f ≤ length (cubesOf old) → Placed old new a (fitting old a f) → Placed old new a f
+pub placed-fitting : {old new : List ℕ} {a : ℕ} (f : List (List ℕ)) → a + length f ≤ length (cubesOf old) → Placed old new a (fitting old a f)
+    → Placed old new a f
 placed-fitting {old} {a = a} f h p = placed-as (take-all (length (cubesOf old) - a) f (omega arith)) p
 
 pub placed-blanks : {old new : List ℕ} {a e : ℕ} → e ≤ length (cubesOf old) → Placed old new a (blanks old a e) → Placed old new a (replicate (e - a) [])
@@ -136,7 +137,8 @@ placed-blanks {old} {a = a} {e} h p = let z : min e (length (cubesOf old)) ≡ e
 -- ---- copied or cleared one by one
 
 -- one place more is cleared
-pub cleared-next : {old new next : List ℕ} {a i : ℕ} → a ≤ i → i < length (cubesOf old) → Placed old new a (replicate (i - a) []) → Put new next i [] → Placed old next a (replicate (i + 1 - a) [])
+pub cleared-next : {old new next : List ℕ} {a i : ℕ} → a ≤ i → i < length (cubesOf old) → Placed old new a (replicate (i - a) []) → Put new next i []
+    → Placed old next a (replicate (i + 1 - a) [])
 cleared-next {new = new} {next} {a} {i} h k p q =
     let l : length (replicate {A = List ℕ} (i - a) []) ≡ i - a = length-replicate (i - a) [] in
     let e : i ≡ a + length (replicate {A = List ℕ} (i - a) []) = omega arith in
@@ -185,8 +187,8 @@ module _ {old new : List ℕ} {a r : ℕ} {f : List (List ℕ)} (p : Appends old
   pub appends-put : {next : List ℕ} {c : List ℕ} → r < length (cubesOf old) → Put new next r c → Appends old next a (f ++ (c ∷ [])) (r + 1)
   appends-put h q = appends-then (omega arith) (appends-one (omega (arith, p .next, placed-length (p .placed) (omega (arith, p .next)))) q)
 
-  pub appends-sort : {next : List ℕ} → r ≤ length (cubesOf old) → Placed new next a (sort (take (r - a) (drop a (cubesOf new)))) → Appends old next a (sort f) r
-  appends-sort h w = record { next = p .next ∙ ap (a +_) (sym (sort-length f)); placed = placed-sort (p .placed) (omega (arith, p .next)) (p .next) w }
+  pub appends-sort : {next : List ℕ} → a ≤ length (cubesOf old) → Placed new next a (sort (take (r - a) (drop a (cubesOf new)))) → Appends old next a (sort f) r
+  appends-sort h w = record { next = p .next ∙ ap (a +_) (sym (sort-length f)); placed = placed-sort (p .placed) h (p .next) w }
 
 -- ---- cubes put in turn, while those to come are known
 
@@ -205,7 +207,8 @@ module _ {old new : List ℕ} {a n : ℕ} {whole : List (List ℕ)} where
   pub going-inside : {rest : List (List ℕ)} → Going old new a n rest whole → n + length rest ≤ length (cubesOf old)
   going-inside {rest} g = omega (arith, g .room, g .stand .next, ap length (g .sum), length-append (g .done) rest)
 
-  pub going-next : {next : List ℕ} {c : List ℕ} {rest : List (List ℕ)} → Going old new a n (c ∷ rest) whole → Put new next n c → Going old next a (n + 1) rest whole
+  pub going-next : {next : List ℕ} {c : List ℕ} {rest : List (List ℕ)} → Going old new a n (c ∷ rest) whole → Put new next n c
+      → Going old next a (n + 1) rest whole
   going-next {c = c} {rest} g p = record {
     done = g .done ++ (c ∷ []);
     stand = appends-put (g .stand) (omega (arith, going-inside g)) p;

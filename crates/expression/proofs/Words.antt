@@ -1,20 +1,21 @@
 -- The cubes of words: how many, which words each has, what writing one changes; they and the word left over are all that the words hold. Assumes nothing.
-use Prim.Native.Nat.{ℕ, zero, suc, _+_, _-_, _*_, _/_, _^_, _<_, _≤_, min}
+use Prim.Native.Nat.{ℕ, zero, suc, _+_, _-_, _*_, _/_, _%_, _^_, _<_, _≤_, min}
 use mathlib.Core.Path.{_≡_, refl, sym, _∙_, ap, ap₂, subst}
-use mathlib.Core.Bool.{Bool, true, false, _&&_}
+use mathlib.Core.Bool.{Bool, true, false}
 use mathlib.Core.Logic.{inl, inr}
 use mathlib.Core.List.{List, [], _∷_, _++_, append-assoc, nil≢cons, cons≢nil, head-eq-of-cons-eq, tail-eq-of-cons-eq, List·Memᴰ·not-nil, List·Memᴰ·cases-cons}
 use native.Mathlib.Omega.{arith}
 use lib.Dec.{ltb}
-use lib.ListN.{length, getD, set, take, drop, replicate, length-set, length-take, length-drop, take-append-drop, drop-of-length-le, List·getD-eq-default}
+use lib.ListN.{length, getD, set, take, drop, replicate, length-take, length-drop, take-append-drop, drop-of-length-le, List·getD-eq-default}
 use lib.Seq.{set-out, take-nil, drop-nil, take-all, drop-drop, drop-append-le, length-take-le}
 use borrow.Rule.Slice.PartMut.{putMid, postOf, post-is}
 use borrow.Author.Tests.{ltb-true}
-use Rattle.sets.specs.Lists.{all}
+use Rattle.sets.specs.Lists.{all, isNil}
 use Rattle.sets.specs.Sets.{mem, asc}
 use Rattle.sets.specs.Masks.{literals}
 use Rattle.sets.proofs.Truth.{both, Stand, below, equal, beyond, stand}
 use Rattle.sets.proofs.Lists.{_∈_}
+use Rattle.sets.proofs.Rows.{nil-of, nil-some}
 use Rattle.sets.proofs.Literals.{literals-none, plain-injective, negated-injective}
 use Rattle.cube.specs.Cube.{width, lits}
 use Rattle.cube.specs.declared.Cube.{Cube}
@@ -140,19 +141,18 @@ spare-drop [] (suc j) h = absurd (omega arith)
 spare-drop (p ∷ []) (suc j) h = absurd (omega arith)
 spare-drop (p ∷ n ∷ ws) (suc j) h = let a : 2 * suc j ≡ suc (suc (2 * j)) = omega arith in rw a (spare-drop ws j (omega arith))
 
-nil-of : {A : Type 0} (l : List A) → length l ≡ 0 → l ≡ []
-nil-of [] h = refl
-nil-of (x ∷ l) h = absurd (omega arith)
-
 -- g written over the front of a part, and the part put back
 module _ {A : Type 0} (f g : List A) where
-  over : (n m : ℕ) → length g ≤ m → m ≤ length (drop n f) → take n f ++ ((g ++ drop (length g) (take m (drop n f))) ++ drop m (drop n f)) ≡ take n f ++ (g ++ drop (length g) (drop n f))
+  over : (n m : ℕ) → length g ≤ m → m ≤ length (drop n f) → take n f ++ ((g ++ drop (length g) (take m (drop n f))) ++ drop m (drop n f)) ≡ take n f ++
+      (g ++ drop (length g) (drop n f))
   over n m h k =
-      ap (take n f ++_) (append-assoc g _ _ ∙ ap (g ++_) (sym (drop-append-le (length g) (take m (drop n f)) (drop m (drop n f)) (omega (arith, length-take-le m (drop n f) k)))
+      ap (take n f ++_) (append-assoc g _ _ ∙ ap (g ++_) (sym
+      (drop-append-le (length g) (take m (drop n f)) (drop m (drop n f)) (omega (arith, length-take-le m (drop n f) k)))
       ∙ ap (drop (length g)) (take-append-drop m (drop n f))))
 
   pub over-held : (a e : ℕ) → length g ≤ length (take (e - a) (drop a f))
-      → take (min a (min e (length f))) f ++ ((g ++ drop (length g) (take (min e (length f) - min a (min e (length f))) (drop (min a (min e (length f))) f))) ++ drop (min e (length f)) f)
+      → take (min a (min e (length f))) f ++
+      ((g ++ drop (length g) (take (min e (length f) - min a (min e (length f))) (drop (min a (min e (length f))) f))) ++ drop (min e (length f)) f)
       ≡ take a f ++ (g ++ drop (length g) (drop a f))
   over-held a e h = go (stand a (min e (length f)))
     where
@@ -160,14 +160,16 @@ module _ {A : Type 0} (f g : List A) where
       n = min e (length f)
 
       -- nothing is there from a on, so g is nothing
-      gone : n ≤ a → take (min a n) f ++ ((g ++ drop (length g) (take (n - min a n) (drop (min a n) f))) ++ drop n f) ≡ take a f ++ (g ++ drop (length g) (drop a f))
+      gone : n ≤ a → take (min a n) f ++ ((g ++ drop (length g) (take (n - min a n) (drop (min a n) f))) ++ drop n f) ≡ take a f ++
+          (g ++ drop (length g) (drop a f))
       gone k =
           let q : min a n ≡ n = omega arith in
           let z : n - n ≡ 0 = omega arith in
           let l : length g ≡ 0 = omega (arith, h, length-take (e - a) (drop a f), length-drop a f) in
           rw (q, z, nil-of g l) (take-append-drop n f ∙ sym (take-append-drop a f))
 
-      go : Stand a n → take (min a n) f ++ ((g ++ drop (length g) (take (n - min a n) (drop (min a n) f))) ++ drop n f) ≡ take a f ++ (g ++ drop (length g) (drop a f))
+      go : Stand a n → take (min a n) f ++ ((g ++ drop (length g) (take (n - min a n) (drop (min a n) f))) ++ drop n f) ≡ take a f ++
+          (g ++ drop (length g) (drop a f))
       go (below k _ _) =
           let q : min a n ≡ a = omega arith in
           let w : a + (n - a) ≡ n = omega arith in
@@ -212,7 +214,8 @@ module _ (ws : List ℕ) (a e from to : ℕ) (s : Spans ws a e from to) where
 
   -- so what an operation makes of the part's cubes stands in their place
   pub placed-by : (op : List (List ℕ) → List (List ℕ)) → ((f : List (List ℕ)) → length (op f) ≤ length f) → (p : List ℕ)
-      → Written (take (to - from) (drop from ws)) p (op (cubesOf (take (to - from) (drop from ws)))) → Placed ws (putMid from (to - from) ws p) a (op (take (e - a) (drop a (cubesOf ws))))
+      → Written (take (to - from) (drop from ws)) p (op (cubesOf (take (to - from) (drop from ws))))
+      → Placed ws (putMid from (to - from) ws p) a (op (take (e - a) (drop a (cubesOf ws))))
   placed-by op le p w = placed-part p _ (le _) (subst (λ f. Written (take (to - from) (drop from ws)) p (op f)) (part-of .0) w)
 
 -- ---- each of the cubes is one that two masks hold
@@ -251,6 +254,17 @@ spare-length [] = refl
 spare-length (p ∷ []) = refl
 spare-length (p ∷ n ∷ ws) = omega (arith, spare-length ws)
 
+-- the words of whole cubes are a multiple of those of one
+module _ (ws : List ℕ) where
+  pub spare-few : length (spareOf ws) < cubeWords
+  spare-few = omega (arith, spare-length ws, cubes-length ws)
+
+  pub spare-none : length ws % cubeWords ≡ 0 → isNil (spareOf ws) ≡ true
+  spare-none h = ap isNil (nil-of (spareOf ws) (omega (arith, spare-length ws, spare-few)))
+
+  pub spare-some : (length ws % cubeWords ≡ 0 → ⊥) → isNil (spareOf ws) ≡ false
+  spare-some h = nil-some (spareOf ws) (λ e. omega (arith, spare-length ws))
+
 pub cubes-few : (ws : List ℕ) → length (cubesOf ws) ≤ length ws
 cubes-few ws = omega (arith, cubes-length ws)
 
@@ -270,9 +284,6 @@ module _ (ws : List ℕ) (n : ℕ) where
 
 pub put-past : (ws : List ℕ) (i : ℕ) (c : List ℕ) → length ws / 2 ≤ i → Put ws ws i c
 put-past ws i c h = record { cubes = sym (set-out (cubesOf ws) i c (omega (arith, cubes-length ws))); spare = refl }
-
-pub put-length : {old new : List ℕ} {i : ℕ} {c : List ℕ} → Put old new i c → length (cubesOf new) ≡ length (cubesOf old)
-put-length {old} {i = i} {c} p = ap length (p .cubes) ∙ length-set (cubesOf old) i c
 
 -- ---- words of 64 bits are known from their cubes and the word left over
 

@@ -3,15 +3,15 @@ use Prim.Native.Nat.{ℕ, zero, suc, _+_, _-_, _/_, _<_, _≤_}
 use mathlib.Core.Path.{_≡_, refl, sym, _∙_, ap, subst}
 use mathlib.Core.Bool.{Bool, true, false, cond, false≢true}
 use mathlib.Core.List.{List, [], Memᴰ·cast}
-use mathlib.Core.Logic.{_⊎_, inl, inr, _↔_}
+use mathlib.Core.Logic.{_↔_}
 use mathlib.Core.Option.{Option, none, some}
 use native.Mathlib.Omega.{arith}
 use lib.Dec.{ltb}
 use lib.ListN.{length, getD}
 use borrow.Author.Tests.{lt-ltb, le-ltb, ltb-true}
-use Rattle.sets.specs.Lists.{all, pairwise, isSome}
+use Rattle.sets.specs.Lists.{isSome}
 use Rattle.sets.specs.Sets.{before}
-use Rattle.sets.proofs.Truth.{iff, decided, clash, Stand, below, equal, beyond, stand}
+use Rattle.sets.proofs.Truth.{iff, Stand, below, equal, beyond, stand}
 use Rattle.sets.proofs.Places.{pairwise-at, at-in, in-at}
 use Rattle.sets.proofs.Ordering.{before-irrefl, before-asym, before-linear}
 use Rattle.expression.specs.Expression.{ordered, has}
@@ -36,7 +36,8 @@ left-start c f = record { turns = length f; enough = omega arith; going = refl }
 module _ (c : List ℕ) (f : List (List ℕ)) (low high : ℕ) where
   -- one turn
   turn : (k : ℕ) → low < high → halve (suc k) c f low high
-      ≡ cond (before (middle f low high) c) (halve k c f (low + (high - low) / 2 + 1) high) (cond (before c (middle f low high)) (halve k c f low (low + (high - low) / 2)) (some (low + (high - low) / 2)))
+      ≡ cond (before (middle f low high) c) (halve k c f (low + (high - low) / 2 + 1) high)
+      (cond (before c (middle f low high)) (halve k c f low (low + (high - low) / 2)) (some (low + (high - low) / 2)))
   unfolding halve
   turn k h = rw (lt-ltb low high h)
 

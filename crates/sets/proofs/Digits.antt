@@ -1,5 +1,5 @@
 -- A bit of a mask: of what `|`, `&`, `^` and `!` give, of a power of two; masks with the same bits are equal. Assumes nothing.
-use mathlib.Core.Path.{_≡_, refl, sym, _∙_, ap, ap₂, subst}
+use mathlib.Core.Path.{_≡_, refl, sym, _∙_, ap}
 use mathlib.Core.Bool.{Bool, true, false, not, _&&_, _||_, xor, and-false}
 use mathlib.Core.Logic.{_⊎_, inl, inr, ⊎-elim}
 use Prim.Native.Nat.{ℕ, zero, suc, _+_, _-_, _*_, _/_, _%_, _^_, _<_, _≤_}
@@ -11,7 +11,7 @@ use lib.Dec.{eqb, eqb·zero-suc, eqb·suc-zero, eqb·suc-suc}
 use lib.Arith.{lt-one}
 use lib.Count.{trailingZeros, under}
 use lib.Pow.{shr-shr, pow-pos, shl-exact}
-use lib.Bits.{bitAnd, bitOr, bitXor, and-le-r, and-shr, or-shr, xor-shr, and-mod, or-mod, xor-mod, and-mask, and-lt, or-lt, xor-lt}
+use lib.Bits.{bitAnd, bitOr, bitXor, and-le-r, and-shr, or-shr, xor-shr, and-mod, or-mod, xor-mod, and-mask}
 use Rattle.sets.specs.Masks.{bit, nonzero}
 use Rattle.sets.proofs.Truth.{decided}
 
@@ -149,7 +149,11 @@ bit-mask m v = go (decided (bit m v))
         rw (ne-eqb (bitAnd m (2 ^ v)) 0 (λ z. mathlib.Core.Bool.true≢false (sym there ∙ ap (λ (x : ℕ). bit x v) z ∙ bit-none v)), t)
     go (inr f) =
         let e : 2 ^ suc v ≡ 2 ^ v * 2 = pow-suc 2 v in
-        rw (eq-eqb (bitAnd m (2 ^ v)) 0 (no-bits (suc v) (bitAnd m (2 ^ v)) (omega (arith, and-le-r m (2 ^ v), pow-pos v)) (λ u h. only u ∙ pick u (decided (eqb u v)))), f)
+        rw (
+          eq-eqb (bitAnd m (2 ^ v)) 0 (no-bits (suc v) (bitAnd m (2 ^ v)) (omega (arith, and-le-r m (2 ^ v), pow-pos v))
+              (λ u h. only u ∙ pick u (decided (eqb u v)))),
+          f,
+        )
       where
         pick : (u : ℕ) → (eqb u v ≡ true) ⊎ (eqb u v ≡ false) → (bit m u && eqb u v) ≡ false
         pick u (inl t) = ap (λ (x : ℕ). bit m x && eqb u v) (eqb-true u v t) ∙ rw f
@@ -179,7 +183,8 @@ unfolding trailingZeros
 trailing-below zero m i h = absurd (not-suc-le-zero h)
 trailing-below (suc k) m i h = go (m % 2) refl i h (trailing-below k (m / 2))
   where
-    go : (d : ℕ) → m % 2 ≡ d → (i : ℕ) → i < under d (trailingZeros k (m / 2)) → ((i : ℕ) → i < trailingZeros k (m / 2) → bit (m / 2) i ≡ false) → bit m i ≡ false
+    go : (d : ℕ) → m % 2 ≡ d → (i : ℕ) → i < under d (trailingZeros k (m / 2)) → ((i : ℕ) → i < trailingZeros k (m / 2) → bit (m / 2) i ≡ false)
+        → bit m i ≡ false
     go zero e zero b ih = bit-zero m ∙ ap nonzero e
     go zero e (suc i) b ih = bit-suc m i ∙ ih i (le-of-suc-le-suc b)
     go (suc d) e i b ih = absurd (not-suc-le-zero b)

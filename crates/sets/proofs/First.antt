@@ -1,13 +1,13 @@
 -- The first element of an ascending list that is not below a number: it is known from the members, and they from it. Assumes nothing.
-use mathlib.Core.Path.{_≡_, refl, sym, _∙_, ap, subst}
-use mathlib.Core.Bool.{Bool, true, false, cond, _||_, false≢true}
+use mathlib.Core.Path.{_≡_, refl, sym}
+use mathlib.Core.Bool.{true, false, cond, _||_, false≢true}
 use mathlib.Core.List.{List, [], _∷_}
 use mathlib.Core.Logic.{_⊎_, inl, inr, ⊎-elim}
 use mathlib.Core.Option.{Option, none, some}
 use Prim.Native.Nat.{ℕ, _+_, _<_, _≤_}
 use native.Mathlib.Omega.{arith}
 use lib.Dec.{eqb, leb}
-use borrow.Author.Tests.{eqb-true, leb-true, leb-false, eq-eqb, ne-eqb, le-leb, lt-leb}
+use borrow.Author.Tests.{eqb-true, leb-true, leb-false, ne-eqb, le-leb, lt-leb}
 use Rattle.sets.specs.Sets.{mem, asc, firstFrom}
 use Rattle.sets.proofs.Truth.{clash, either, or-left, or-right, decided, refuted, Stand, below, equal, beyond, stand}
 use Rattle.sets.proofs.Sets.{mem-head, head-le, tail-asc}

@@ -1,27 +1,25 @@
 -- Masks of w + k bits made of k high bits and w low ones, as P * 2 ^ w + p: their literals are those of the low masks, and then those of the
 -- high masks, 2w further on. Assumes nothing.
 use mathlib.Core.Path.{_≡_, refl, sym, _∙_, ap, ap₂, subst}
-use mathlib.Core.Bool.{Bool, true, false, _&&_}
+use mathlib.Core.Bool.{false, _&&_}
 use mathlib.Core.List.{List}
-use mathlib.Core.Logic.{_⊎_, inl, inr, ⊎-elim}
 use mathlib.Core.Option.{Option, none, some}
 use Prim.Native.Nat.{ℕ, zero, suc, _+_, _-_, _*_, _/_, _%_, _^_, _<_, _≤_}
 use native.Mathlib.Nat.{not-suc-le-zero, le-of-suc-le-suc, add-comm}
 use native.Mathlib.Omega.{arith}
-use lib.Dec.{ltb}
 use lib.Pow.{high, pow-add}
 use lib.Arith.{digits-lt}
-use lib.Count.{ones, ones-cat}
+use lib.Count.{ones-cat}
 use lib.ListN.{length}
 use lib.Bits.{bitOr, bitAnd, bitXor, xor-block, block-half, block-odd, or-block, and-block}
-use borrow.Author.Tests.{ltb-true, lt-ltb, le-ltb}
+use borrow.Author.Tests.{ltb-true, lt-ltb}
 use Rattle.sets.specs.Lists.{further, orElse}
 use Rattle.sets.specs.Sets.{mem, firstFrom, union, meet}
 use Rattle.sets.specs.Masks.{bit, nonzero, side, test, literals}
 use Rattle.sets.proofs.Truth.{iff}
 use Rattle.sets.proofs.Digits.{bit-zero, bit-suc, bit-shr}
 use Rattle.sets.proofs.Literals.{literals-mem, literals-asc, mem-inside, literals-union, literals-meet, literals-length}
-use Rattle.sets.proofs.First.{IsFirst, some-first, none-first, first-some, first-none, first-past}
+use Rattle.sets.proofs.First.{some-first, none-first, first-some, first-none, first-past}
 
 pub bit-low : (w a p v : ℕ) → v < w → bit (a * 2 ^ w + p) v ≡ bit p v
 bit-low zero a p v h = absurd (not-suc-le-zero h)

@@ -2,7 +2,8 @@
 use mathlib.Core.Path.{_≡_, refl, sym, ap, ap₂, _∙_, subst}
 use mathlib.Core.Logic.{_⊎_, inl, inr}
 use mathlib.Core.Bool.{Bool, true, false, cond, not, _&&_, _||_, false≢true, or-true, and-assoc}
-use mathlib.Core.List.{List, [], _∷_, _++_, map, List·Memᴰ, List·Memᴰ·head as here, List·Memᴰ·tail as there, List·Memᴰ·not-nil, List·Memᴰ·cases-cons, List·Memᴰ·append-cases}
+use mathlib.Core.List.{List, [], _∷_, _++_, map, List·Memᴰ, List·Memᴰ·head as here, List·Memᴰ·tail as there, List·Memᴰ·not-nil, List·Memᴰ·cases-cons}
+use mathlib.Core.List.{List·Memᴰ·append-cases}
 use Prim.Native.Nat.{ℕ, zero, suc, _+_, _*_, _≤_, _<_}
 use native.Mathlib.Omega.{arith}
 use lib.ListN.{length, take, drop, take-append-drop}
@@ -79,7 +80,8 @@ module _ {A : Type 0} where
   keep-le p q [] h = omega arith
   keep-le p q (x ∷ l) h = go (p x) (q x) (h x (here refl)) (keep-le p q l (λ y m. h y (there m)))
     where
-      go : (b c : Bool) → (b ≡ true → c ≡ true) → length (keep p l) ≤ length (keep q l) → length (cond b (x ∷ keep p l) (keep p l)) ≤ length (cond c (x ∷ keep q l) (keep q l))
+      go : (b c : Bool) → (b ≡ true → c ≡ true) → length (keep p l) ≤ length (keep q l)
+          → length (cond b (x ∷ keep p l) (keep p l)) ≤ length (cond c (x ∷ keep q l) (keep q l))
       go true true k r = omega arith
       go true false k r = clash (k refl) refl
       go false true k r = omega arith
@@ -114,11 +116,13 @@ module _ {A : Type 0} where
       go false false e f r = r
 
   -- one element more, and so a longer list
-  pub keep-fewer : (p q : A → Bool) (l : List A) {y : A} → y ∈ l → ((x : A) → x ∈ l → p x ≡ true → q x ≡ true) → p y ≡ false → q y ≡ true → length (keep p l) < length (keep q l)
+  pub keep-fewer : (p q : A → Bool) (l : List A) {y : A} → y ∈ l → ((x : A) → x ∈ l → p x ≡ true → q x ≡ true) → p y ≡ false → q y ≡ true
+      → length (keep p l) < length (keep q l)
   keep-fewer p q [] m h b c = absurd (List·Memᴰ·not-nil m)
   keep-fewer p q (x ∷ l) {y} m h b c = go (p x) (q x) refl refl (List·Memᴰ·cases-cons m) (λ i. keep-fewer p q l i (λ z j. h z (there j)) b c)
     where
-      go : (t u : Bool) → p x ≡ t → q x ≡ u → (y ≡ x) ⊎ (y ∈ l) → (y ∈ l → length (keep p l) < length (keep q l)) → length (cond t (x ∷ keep p l) (keep p l)) < length (cond u (x ∷ keep q l) (keep q l))
+      go : (t u : Bool) → p x ≡ t → q x ≡ u → (y ≡ x) ⊎ (y ∈ l) → (y ∈ l → length (keep p l) < length (keep q l))
+          → length (cond t (x ∷ keep p l) (keep p l)) < length (cond u (x ∷ keep q l) (keep q l))
       go true true d e (inl w) k = clash d (ap p (sym w) ∙ b)
       go true true d e (inr i) k = omega (arith, k i)
       go true false d e w k = clash (h x (here refl) d) e
@@ -181,7 +185,8 @@ module _ {A : Type 0} where
   pub total-split : (f : A → ℕ) (p : A → Bool) (l : List A) → total f l ≡ total f (keep p l) + total f (keep (λ x. not (p x)) l)
   total-split f p [] = refl
   total-split f p (x ∷ l) =
-      elim (p x) as (λ b. f x + total f l ≡ total f (cond b (x ∷ keep p l) (keep p l)) + total f (cond (not b) (x ∷ keep (λ y. not (p y)) l) (keep (λ y. not (p y)) l)))
+      elim (p x) as (λ b. f x + total f l ≡ total f (cond b (x ∷ keep p l) (keep p l)) + total f
+      (cond (not b) (x ∷ keep (λ y. not (p y)) l) (keep (λ y. not (p y)) l)))
       [ true ↦ omega (arith, total-split f p l) | false ↦ omega (arith, total-split f p l) ]
 
   pub total-or : (f : A → ℕ) (p q : A → Bool) (l : List A) → ((x : A) → x ∈ l → p x ≡ true → q x ≡ true → ⊥)
@@ -190,7 +195,8 @@ module _ {A : Type 0} where
   total-or f p q (x ∷ l) h = go (p x) (q x) (h x (here refl)) (total-or f p q l (λ y m. h y (there m)))
     where
       go : (b c : Bool) → (b ≡ true → c ≡ true → ⊥) → total f (keep (λ y. p y || q y) l) ≡ total f (keep p l) + total f (keep q l)
-          → total f (cond (b || c) (x ∷ keep (λ y. p y || q y) l) (keep (λ y. p y || q y) l)) ≡ total f (cond b (x ∷ keep p l) (keep p l)) + total f (cond c (x ∷ keep q l) (keep q l))
+          → total f (cond (b || c) (x ∷ keep (λ y. p y || q y) l) (keep (λ y. p y || q y) l)) ≡ total f (cond b (x ∷ keep p l) (keep p l)) + total f
+          (cond c (x ∷ keep q l) (keep q l))
       go true true n k = absurd (n refl refl)
       go true false n k = omega arith
       go false true n k = omega arith
@@ -215,7 +221,8 @@ module _ {A : Type 0} where
       ]
 
   -- two elements are one, or r holds between them
-  pub pairwise-out : (r : A → A → Bool) → ((x y : A) → r x y ≡ true → r y x ≡ true) → {x y : A} {l : List A} → pairwise r l ≡ true → x ∈ l → y ∈ l → (x ≡ y) ⊎ (r x y ≡ true)
+  pub pairwise-out : (r : A → A → Bool) → ((x y : A) → r x y ≡ true → r y x ≡ true) → {x y : A} {l : List A} → pairwise r l ≡ true → x ∈ l → y ∈ l
+      → (x ≡ y) ⊎ (r x y ≡ true)
   pairwise-out r flip h (here e) (here g) = inl (e ∙ sym g)
   pairwise-out r flip {y = y} h (here {x = z} {xs = l} e) (there n) = inr (rw e (all-out (r z) n ((ahead r z l h) .0)))
   pairwise-out r flip {x = x} h (there {x = z} {xs = l} m) (here g) = inr (rw g (flip z x (all-out (r z) m ((ahead r z l h) .0))))
@@ -226,7 +233,8 @@ module _ {A : Type 0} where
   pairwise-imp r s (x ∷ l) k h =
       rw (all-in (s x) l (λ y m. k x y (all-out (r x) m ((ahead r x l h) .0)))) (pairwise-imp r s l k ((ahead r x l h) .1))
 
-  pub pairwise-append : (r : A → A → Bool) (l m : List A) → pairwise r l ≡ true → pairwise r m ≡ true → ((x y : A) → x ∈ l → y ∈ m → r x y ≡ true) → pairwise r (l ++ m) ≡ true
+  pub pairwise-append : (r : A → A → Bool) (l m : List A) → pairwise r l ≡ true → pairwise r m ≡ true → ((x y : A) → x ∈ l → y ∈ m → r x y ≡ true)
+      → pairwise r (l ++ m) ≡ true
   pairwise-append r [] m h k c = k
   pairwise-append r (x ∷ l) m h k c =
       rw (all-in (r x) (l ++ m) (λ y i. elim (List·Memᴰ·append-cases l i) [ inl j ↦ all-out (r x) j ((ahead r x l h) .0) | inr j ↦ c x y (here refl) j ]))
@@ -241,7 +249,8 @@ module _ {A : Type 0} where
     total-take f {x} (there {x = y} {xs = l} m) h =
         rw (flip y x (all-out (r y) m ((ahead r y l h) .0))) (omega (arith, total-take f m ((ahead r y l h) .1)))
 
-    pub total-same : (f : A → ℕ) (l m : List A) → pairwise r l ≡ true → pairwise r m ≡ true → ((x : A) → x ∈ l → x ∈ m) → ((x : A) → x ∈ m → x ∈ l) → total f l ≡ total f m
+    pub total-same : (f : A → ℕ) (l m : List A) → pairwise r l ≡ true → pairwise r m ≡ true → ((x : A) → x ∈ l → x ∈ m) → ((x : A) → x ∈ m → x ∈ l)
+        → total f l ≡ total f m
     total-same f [] [] h k i o = refl
     total-same f [] (y ∷ m) h k i o = absurd (List·Memᴰ·not-nil (o y (here refl)))
     total-same f (x ∷ l) m h k i o =

@@ -1,13 +1,13 @@
 -- The literals of two masks, for every width: the bit test, the order, what the mask operations do to them, and how many there are. Assumes nothing.
 use mathlib.Core.Path.{_≡_, refl, sym, _∙_, ap, ap₂, subst}
-use mathlib.Core.Bool.{Bool, true, false, not, cond, _&&_, _||_, xor, and-or-distrib-left, and-false, or-comm, false≢true}
+use mathlib.Core.Bool.{Bool, true, false, not, cond, _&&_, _||_, xor, and-or-distrib-left, and-false, or-comm}
 use mathlib.Core.List.{List, [], _∷_}
 use mathlib.Core.Logic.{_⊎_, inl, inr}
 use Prim.Native.Nat.{ℕ, zero, suc, _+_, _-_, _*_, _/_, _%_, _^_, _<_, _≤_}
 use native.Mathlib.Nat.{mod-lt, zero-lt-suc, zero-add, pow-suc, div-one}
 use native.Mathlib.Numerals.{add-one}
 use native.Mathlib.Omega.{arith}
-use lib.Dec.{eqb, ltb, leb, leb·zero}
+use lib.Dec.{eqb, ltb, leb·zero}
 use lib.ListN.{length}
 use lib.Count.{ones, ones-step}
 use lib.Bits.{bitAnd, bitOr, bitXor, and-lt, or-lt, and-zero-r, or-zero-l, or-zero-r}
@@ -20,7 +20,8 @@ use Rattle.sets.specs.Sets.{mem, asc, proper, insert, union, without, me
 use Rattle.sets.specs.Masks.{bit, nonzero, side, test, literals, single}
 use Rattle.sets.proofs.Truth.{iff, both, together, or-left, or-right, decided, clash, refuted}
 use Rattle.sets.proofs.Lists.{pairwise-keep}
-use Rattle.sets.proofs.Sets.{keep-mem, from-mem, from-asc, insert-mem, union-mem, without-mem, meet-mem, insert-asc, union-asc, without-asc, meet-asc, ext, nil-mem, mem-nil, same-eq, eq-same, proper-in, proper-out}
+use Rattle.sets.proofs.Sets.{keep-mem, from-mem, from-asc, insert-mem, union-mem, without-mem, meet-mem, insert-asc, union-asc, without-asc}
+use Rattle.sets.proofs.Sets.{meet-asc, ext, nil-mem, mem-nil, same-eq, eq-same, proper-in, proper-out}
 use Rattle.sets.proofs.Digits.{bit-or, bit-and, bit-xor, bit-not, bit-pow, bits-ext, bit-none, no-bits, bit-mask}
 
 -- ---- the bit test
@@ -187,10 +188,12 @@ module _ (w l : ℕ) where
     pub literals-single : literals w (bitOr p (single w l 0)) (bitOr n (single w l 1)) ≡ cond (ltb l (2 * w)) (insert l (literals w p n)) (literals w p n)
     literals-single = go (decided (ltb l (2 * w)))
       where
-        go : (ltb l (2 * w) ≡ true) ⊎ (ltb l (2 * w) ≡ false) → literals w (bitOr p (single w l 0)) (bitOr n (single w l 1)) ≡ cond (ltb l (2 * w)) (insert l (literals w p n)) (literals w p n)
+        go : (ltb l (2 * w) ≡ true) ⊎ (ltb l (2 * w) ≡ false)
+            → literals w (bitOr p (single w l 0)) (bitOr n (single w l 1)) ≡ cond (ltb l (2 * w)) (insert l (literals w p n)) (literals w p n)
         go (inl t) =
             insert-by w p n (bitOr p (single w l 0)) (bitOr n (single w l 1)) l (ltb-true l (2 * w) t)
-            (λ k. op-test bitOr _||_ bit-or p n (single w l 0) (single w l 1) k ∙ ap (λ (b : Bool). test p n k || b) (single-test t k) ∙ or-comm (test p n k) (eqb k l))
+            (λ k. op-test bitOr _||_ bit-or p n (single w l 0) (single w l 1) k ∙ ap (λ (b : Bool). test p n k || b) (single-test t k)
+            ∙ or-comm (test p n k) (eqb k l))
             ∙ rw t
         go (inr t) = rw (single-none 0 t, single-none 1 t, or-zero-r p, or-zero-r n, t)
 
@@ -204,11 +207,13 @@ module _ (w l : ℕ) where
         go (inl t) (inl e) =
             let z = eqb-true (l % 2) 0 e in
             let h = ltb-true l (2 * w) t in
-            rw (single-one 0 t z, single-other 1 (λ o. omega arith), and-zero-r n, or-zero-r (bitAnd p (2 ^ (l / 2)))) (bit-mask p (l / 2) ∙ sym (mem-even w p n l (omega arith) z))
+            rw (single-one 0 t z, single-other 1 (λ o. omega arith), and-zero-r n, or-zero-r (bitAnd p (2 ^ (l / 2))))
+            (bit-mask p (l / 2) ∙ sym (mem-even w p n l (omega arith) z))
         go (inl t) (inr e) =
             let z = eqb-false (l % 2) 0 e in
             let h = ltb-true l (2 * w) t in
-            rw (single-other 0 z, single-one 1 t (omega arith), and-zero-r p, or-zero-l (bitAnd n (2 ^ (l / 2)))) (bit-mask n (l / 2) ∙ sym (mem-odd w p n l (omega arith) z))
+            rw (single-other 0 z, single-one 1 t (omega arith), and-zero-r p, or-zero-l (bitAnd n (2 ^ (l / 2))))
+            (bit-mask n (l / 2) ∙ sym (mem-odd w p n l (omega arith) z))
 
 -- ---- how many
 
@@ -240,7 +245,8 @@ count-from (suc w) v p n hp hn =
     let sn = ones-step (n / 2 ^ v) ∙ ap (λ (x : ℕ). dn + ones x) (up n) in
     ap (λ (k : ℕ). length (keep (test p n) (from (2 * v) k))) twice
     ∙ length-keep (test p n) (2 * v) (suc (2 * v) ∷ from (suc (suc (2 * v))) (2 * w)) dp (mod-lt (p / 2 ^ v) (zero-lt-suc 1)) (plain-digit p n v)
-    ∙ ap (λ (k : ℕ). dp + k) (length-keep (test p n) (suc (2 * v)) (from (suc (suc (2 * v))) (2 * w)) dn (mod-lt (n / 2 ^ v) (zero-lt-suc 1)) (negated-digit p n v))
+    ∙ ap (λ (k : ℕ). dp + k) (length-keep (test p n) (suc (2 * v)) (from (suc (suc (2 * v))) (2 * w)) dn (mod-lt (n / 2 ^ v) (zero-lt-suc 1))
+    (negated-digit p n v))
     ∙ ap (λ (k : ℕ). dp + (dn + length (keep (test p n) (from k (2 * w))))) next
     ∙ ap (λ (k : ℕ). dp + (dn + k)) ih
     ∙ omega (arith, sp, sn)
@@ -296,7 +302,8 @@ proper-literals w p n hp hn = iff
     (λ e. eq-eqb (bitAnd p n) 0 (no-bits w (bitAnd p n) (and-lt w p n hp hn) (λ v h. refuted (λ b.
     let q = both (bit p v) (bit n v) (sym (bit-and p n v) ∙ b) in
     let o : oppositeOf (2 * v) ≡ 2 * v + 1 = omega arith in
-    clash (mem-negated w p n v h ∙ q .1) (ap (λ (l : ℕ). mem l (literals w p n)) (sym o) ∙ proper-out (literals w p n) (2 * v) e (mem-plain w p n v h ∙ q .0))))))
+    clash (mem-negated w p n v h ∙ q .1) (ap (λ (l : ℕ). mem l (literals w p n)) (sym o)
+    ∙ proper-out (literals w p n) (2 * v) e (mem-plain w p n v h ∙ q .0))))))
   where
     zero-bit : bitAnd p n ≡ 0 → (v : ℕ) → (bit p v && bit n v) ≡ false
     zero-bit e v = sym (bit-and p n v) ∙ ap (λ (x : ℕ). bit x v) e ∙ bit-none v

@@ -1,18 +1,19 @@
--- The cube order: decided by the first difference, a prefix first; found from the least literal that only one of two cubes has; kept where a literal of both is removed. Assumes nothing.
+-- The cube order: decided by the first difference, a prefix first; found from the least literal that only one of two cubes has; kept where
+-- a literal of both is removed. Assumes nothing.
 use mathlib.Core.Path.{_≡_, refl, sym, _∙_, ap, ap₂, subst}
-use mathlib.Core.Bool.{Bool, true, false, cond, not, _&&_, _||_, xor, true≢false, false≢true}
+use mathlib.Core.Bool.{Bool, true, false, cond, xor, true≢false, false≢true}
 use mathlib.Core.List.{List, [], _∷_, _++_}
 use mathlib.Core.Logic.{_⊎_, inl, inr}
-use mathlib.Core.Option.{Option, none, some}
+use mathlib.Core.Option.{none, some}
 use Prim.Native.Nat.{ℕ, zero-le, _<_, _≤_}
 use native.Mathlib.Omega.{arith}
 use lib.Bits.{bitXor}
 use lib.Dec.{eqb, ltb, leb}
-use borrow.Author.Tests.{eqb-true, ltb-true, ltb-false, eq-eqb, ne-eqb, lt-ltb, le-ltb, le-leb, lt-leb}
+use borrow.Author.Tests.{ltb-true, ne-eqb, lt-ltb, le-leb, lt-leb}
 use Rattle.sets.specs.Sets.{mem, asc, before, firstFrom}
 use Rattle.sets.specs.Lists.{isSome}
 use Rattle.sets.specs.Masks.{literals}
-use Rattle.sets.proofs.Truth.{decided, clash, refuted, Stand, below, equal, beyond, stand}
+use Rattle.sets.proofs.Truth.{decided, clash, Stand, below, equal, beyond, stand}
 use Rattle.sets.proofs.Orders.{ltb-order, before-order, asym, lex-true, lex-self}
 use Rattle.sets.proofs.Sets.{mem-head, head-le, tail-asc, tail-mem, ext}
 use Rattle.sets.proofs.Literals.{literals-asc, mem-xor}

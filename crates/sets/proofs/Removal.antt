@@ -1,17 +1,17 @@
 -- A literal that two cubes share is removed from both: where neither contains the other, their order stays. Assumes nothing.
 use mathlib.Core.Path.{_≡_, refl, sym, _∙_, ap, ap₂, subst}
-use mathlib.Core.Bool.{Bool, true, false, cond, not, _||_, false≢true, or-false}
+use mathlib.Core.Bool.{true, false, _||_, or-false}
 use mathlib.Core.List.{List, [], _∷_}
 use mathlib.Core.Logic.{_⊎_, inl, inr}
-use Prim.Native.Nat.{ℕ, _<_, _≤_}
+use Prim.Native.Nat.{ℕ, _<_}
 use native.Mathlib.Omega.{arith}
 use lib.Dec.{eqb, ltb}
 use borrow.Author.Tests.{eqb-true, eq-eqb, ne-eqb, ltb-true}
-use Rattle.sets.specs.Lists.{all, keep}
+use Rattle.sets.specs.Lists.{all}
 use Rattle.sets.specs.Sets.{mem, sub, asc, without, before}
 use Rattle.sets.proofs.Truth.{both, either, decided, clash, refuted, or-left, or-right, Stand, below, equal, beyond, stand}
 use Rattle.sets.proofs.Lists.{ahead}
-use Rattle.sets.proofs.Sets.{sub-in, sub-out, mem-head, head-le, tail-asc, head-once}
+use Rattle.sets.proofs.Sets.{sub-in, sub-out, head-le, tail-asc, head-once}
 use Rattle.sets.proofs.Ordering.{before-same, before-head, before-asym}
 
 module _ (l : ℕ) where
@@ -55,7 +55,8 @@ lower l x y a b p q m n s h = rw (without-there l x a (λ e. omega (arith, head-
     go (equal t _ _) (z ∷ c) e =
         let o : asc (y ∷ z ∷ c) ≡ true = subst (λ w. asc (y ∷ w) ≡ true) e q in
         let u : y < z = ltb-true y z ((both (ltb y z) (all (ltb y) c) ((ahead ltb y (z ∷ c) o) .0)) .0) in
-        let k : without (y ∷ b) (l ∷ []) ≡ z ∷ c = ap (λ w. without (w ∷ b) (l ∷ [])) t ∙ without-here l b ∙ without-absent l b (ap (λ w. mem w b) (sym t) ∙ head-once y b q) ∙ e in
+        let k : without (y ∷ b) (l ∷ []) ≡ z ∷ c = ap (λ w. without (w ∷ b) (l ∷ [])) t ∙ without-here l b
+        ∙ without-absent l b (ap (λ w. mem w b) (sym t) ∙ head-once y b q) ∙ e in
         rw k (before-head x z _ _ (omega arith))
     go (beyond t _ _) c e = absurd (omega (arith, head-le y b l q n))
 

@@ -1,12 +1,10 @@
 -- The first literal of two masks from a variable on, for every width: by the lowest bit of the two masks shifted and joined. Assumes nothing.
-use mathlib.Core.Path.{_≡_, refl, sym, _∙_, ap, subst}
+use mathlib.Core.Path.{_≡_, sym, _∙_, ap}
 use mathlib.Core.Bool.{Bool, true, false, _&&_, and-false}
-use mathlib.Core.Logic.{_⊎_, inl, inr, ⊎-elim}
-use mathlib.Core.Option.{Option, none, some}
+use mathlib.Core.Option.{none, some}
 use Prim.Native.Nat.{ℕ, zero, suc, _+_, _-_, _*_, _/_, _%_, _^_, _<_, _≤_}
 use native.Mathlib.Omega.{arith}
-use lib.Dec.{eqb, ltb}
-use borrow.Author.Tests.{ltb-true}
+use lib.Dec.{ltb}
 use lib.Bits.{bitOr}
 use Rattle.sets.specs.Sets.{mem, firstFrom}
 use Rattle.sets.specs.Masks.{bit, side, test, literals}
@@ -38,8 +36,10 @@ module _ (w p n v : ℕ) where
       at m = ap (bit m) (sym place) ∙ sym (bit-shr m v (k / 2 - v))
 
       go : (s : ℕ) → bit (side s p n) (k / 2) ≡ false
-      go zero = refuted (λ b. clash (bit-or (p / 2 ^ v) (n / 2 ^ v) (k / 2 - v) ∙ or-left (bit (p / 2 ^ v) (k / 2 - v)) (bit (n / 2 ^ v) (k / 2 - v)) (sym (at p) ∙ b)) no)
-      go (suc s) = refuted (λ b. clash (bit-or (p / 2 ^ v) (n / 2 ^ v) (k / 2 - v) ∙ or-right (bit (p / 2 ^ v) (k / 2 - v)) (bit (n / 2 ^ v) (k / 2 - v)) (sym (at n) ∙ b)) no)
+      go zero = refuted (λ b. clash (bit-or (p / 2 ^ v) (n / 2 ^ v) (k / 2 - v)
+          ∙ or-left (bit (p / 2 ^ v) (k / 2 - v)) (bit (n / 2 ^ v) (k / 2 - v)) (sym (at p) ∙ b)) no)
+      go (suc s) = refuted (λ b. clash (bit-or (p / 2 ^ v) (n / 2 ^ v) (k / 2 - v)
+          ∙ or-right (bit (p / 2 ^ v) (k / 2 - v)) (bit (n / 2 ^ v) (k / 2 - v)) (sym (at n) ∙ b)) no)
 
   pub first-empty : bitOr (p / 2 ^ v) (n / 2 ^ v) ≡ 0 → none ≡ firstFrom (2 * v) (literals w p n)
   first-empty e =

@@ -1,13 +1,13 @@
 -- Ascending lists as sets of numbers: membership in what the operations make, and what follows from it. Assumes nothing.
 use mathlib.Core.Path.{_≡_, refl, sym, ap, ap₂, _∙_, subst}
 use mathlib.Core.Logic.{_⊎_, inl, inr}
-use mathlib.Core.Bool.{Bool, true, false, cond, not, _&&_, _||_, false≢true, and-comm, and-assoc, or-comm, or-assoc, or-self-left}
+use mathlib.Core.Bool.{Bool, true, false, cond, not, _&&_, _||_, false≢true, or-comm, or-assoc, or-self-left}
 use mathlib.Core.List.{List, [], _∷_, _++_, List·Memᴰ·head as here, List·Memᴰ·tail as there, Memᴰ·cast}
-use Prim.Native.Nat.{ℕ, zero, suc, _+_, _<_, _≤_}
+use Prim.Native.Nat.{ℕ, zero, suc, _+_, _≤_}
 use native.Mathlib.Omega.{arith}
 use lib.Dec.{leb, ltb, eqb}
 use lib.ListN.{length}
-use borrow.Author.Tests.{ltb-true, ltb-false, eqb-true, eqb-false, leb-true, lt-ltb, le-leb, eq-eqb, ne-eqb, not-true}
+use borrow.Author.Tests.{ltb-true, ltb-false, eqb-true, eqb-false, leb-true, lt-ltb, le-leb, eq-eqb, not-true}
 use Rattle.sets.specs.Lists.{any, all, keep, isNil, from}
 use Rattle.sets.specs.Literal.{oppositeOf}
 use Rattle.sets.specs.Sets.{mem, sub, apart, asc, proper, insert, union, without, meet, same}
@@ -69,7 +69,8 @@ from-mem k zero z = sym (refuted (λ h. let q = both (leb k z) (ltb z (k + zero)
 from-mem k (suc m) z = let r = from-mem (suc k) m z in
     iff (λ h. into r (either (eqb z k) (mem z (from (suc k) m)) h)) (λ h. back r (both (leb k z) (ltb z (k + suc m)) h) (decided (eqb z k)))
   where
-    into : mem z (from (suc k) m) ≡ (leb (suc k) z && ltb z (suc k + m)) → (eqb z k ≡ true) ⊎ (mem z (from (suc k) m) ≡ true) → (leb k z && ltb z (k + suc m)) ≡ true
+    into : mem z (from (suc k) m) ≡ (leb (suc k) z && ltb z (suc k + m)) → (eqb z k ≡ true) ⊎ (mem z (from (suc k) m) ≡ true)
+        → (leb k z && ltb z (k + suc m)) ≡ true
     into r (inl e) = together (leb k z) (ltb z (k + suc m)) (omega (arith, eqb-true z k e, le-leb)) (omega (arith, eqb-true z k e, lt-ltb))
     into r (inr t) = let q = both (leb (suc k) z) (ltb z (suc k + m)) (sym r ∙ t) in
         together (leb k z) (ltb z (k + suc m)) (omega (arith, leb-true (suc k) z (q .0), le-leb)) (omega (arith, ltb-true z (suc k + m) (q .1), lt-ltb))
@@ -77,7 +78,8 @@ from-mem k (suc m) z = let r = from-mem (suc k) m z in
     back : mem z (from (suc k) m) ≡ (leb (suc k) z && ltb z (suc k + m)) → (leb k z ≡ true) × (ltb z (k + suc m) ≡ true) → (eqb z k ≡ true) ⊎ (eqb z k ≡ false)
         → (eqb z k || mem z (from (suc k) m)) ≡ true
     back r q (inl e) = rw e
-    back r q (inr e) = rw e (r ∙ together (leb (suc k) z) (ltb z (suc k + m)) (omega (arith, leb-true k z (q .0), eqb-false z k e, le-leb)) (omega (arith, ltb-true z (k + suc m) (q .1), lt-ltb)))
+    back r q (inr e) = rw e (r ∙ together (leb (suc k) z) (ltb z (suc k + m)) (omega (arith, leb-true k z (q .0), eqb-false z k e, le-leb))
+        (omega (arith, ltb-true z (k + suc m) (q .1), lt-ltb)))
 
 pub mem-append : (z : ℕ) (a b : List ℕ) → mem z (a ++ b) ≡ (mem z a || mem z b)
 unfolding mem
@@ -264,21 +266,11 @@ sub-trans a b c p q = sub-in a c (λ z m. sub-out b c z q (sub-out a b z p m))
 pub sub-antisym : (a b : List ℕ) → asc a ≡ true → asc b ≡ true → sub a b ≡ true → sub b a ≡ true → a ≡ b
 sub-antisym a b h k p q = ext a b h k (λ z. iff (sub-out a b z p) (sub-out b a z q))
 
-pub meet-left : (a b : List ℕ) → sub (meet a b) a ≡ true
-meet-left a b = sub-in (meet a b) a (λ z m. (both (mem z a) (mem z b) (sym (meet-mem z a b) ∙ m)) .0)
-
-pub meet-right : (a b : List ℕ) → sub (meet a b) b ≡ true
-meet-right a b = sub-in (meet a b) b (λ z m. (both (mem z a) (mem z b) (sym (meet-mem z a b) ∙ m)) .1)
-
 -- nothing is in both exactly where the two are apart
 pub meet-none : (a b : List ℕ) → isNil (meet a b) ≡ apart a b
 unfolding meet apart
 meet-none [] b = refl
 meet-none (x ∷ a) b = elim (decided (mem x b)) [ inl h ↦ rw h | inr h ↦ rw h (meet-none a b) ]
-
--- the largest that is in both
-pub meet-most : (a b c : List ℕ) → sub c a ≡ true → sub c b ≡ true → sub c (meet a b) ≡ true
-meet-most a b c p q = sub-in c (meet a b) (λ z m. meet-mem z a b ∙ together _ _ (sub-out c a z p m) (sub-out c b z q m))
 
 pub union-left : (a b : List ℕ) → sub a (union a b) ≡ true
 union-left a b = sub-in a (union a b) (λ z m. union-mem z a b ∙ rw m)
@@ -292,18 +284,12 @@ without-sub a b = sub-in (without a b) a (λ z m. (both (mem z a) (not (mem z b)
 pub union-comm : (a b : List ℕ) → asc a ≡ true → asc b ≡ true → union a b ≡ union b a
 union-comm a b h k = ext (union a b) (union b a) (union-asc a b k) (union-asc b a h) (λ z. simp union-mem (or-comm (mem z a) (mem z b)))
 
-pub union-assoc : (a b c : List ℕ) → asc c ≡ true → union (union a b) c ≡ union a (union b c)
-union-assoc a b c h = ext (union (union a b) c) (union a (union b c)) (union-asc (union a b) c h) (union-asc a (union b c) (union-asc b c h))
-    (λ z. simp (union-mem, or-assoc))
-
-pub meet-comm : (a b : List ℕ) → asc a ≡ true → asc b ≡ true → meet a b ≡ meet b a
-meet-comm a b h k = ext (meet a b) (meet b a) (meet-asc a b h) (meet-asc b a k) (λ z. simp meet-mem (and-comm (mem z a) (mem z b)))
-
 -- nothing is left of a cube that another contains
 pub without-none : (a b : List ℕ) → isNil (without a b) ≡ sub a b
 unfolding without sub
 without-none [] b = refl
-without-none (x ∷ a) b = elim (mem x b) as (λ t. isNil (cond (not t) (x ∷ keep (λ z. not (mem z b)) a) (keep (λ z. not (mem z b)) a)) ≡ (t && all (λ z. mem z b) a))
+without-none (x ∷ a) b = elim (mem x b) as (λ t. isNil (cond (not t) (x ∷ keep (λ z. not (mem z b)) a) (keep (λ z. not (mem z b)) a)) ≡
+    (t && all (λ z. mem z b) a))
     [ true ↦ without-none a b | false ↦ refl ]
 
 -- a list is empty exactly when it has no member

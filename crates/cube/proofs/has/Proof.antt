@@ -18,7 +18,8 @@ bit-requires-2 c κs = search needs
 returns : tie.Need-returns
 returns c =
     let a = c .before .before .before .before .args in
-    ap₂ (λ (x y : ℕ). not (eqb (bitOr (bitAnd (a .c .plain) x) (bitAnd (a .c .negated) y)) 0)) (c .before .before .before .bit .ensures) (c .before .bit2 .ensures)
+    ap₂ (λ (x y : ℕ). not (eqb (bitOr (bitAnd (a .c .plain) x) (bitAnd (a .c .negated) y)) 0)) (c .before .before .before .bit .ensures)
+    (c .before .bit2 .ensures)
     ∙ mem-single 64 (a .l .0) (a .c .plain) (a .c .negated)
 
 pub has-spec : {M : Type 1} → statement M

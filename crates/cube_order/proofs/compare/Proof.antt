@@ -23,22 +23,38 @@ goes-on-requires : tie.Need-goes-on-requires
 goes-on-requires c κs = search needs
 
 returns : tie.Need-returns
-returns c = is-before _ _ (left-before 64 _ _ _ _ _ (ap answer (sym (c .before .before .before .before .before .f .given .1)) ∙ c .before .before .before .before .before .before .before .first-at .ensures) (sym (c .before .before .before .has .ensures) ∙ c .before .before .if1 .taken) (sym (c .before .goes-on .ensures) ∙ c .if2 .taken))
+returns c =
+    let h = c .before .before .before in
+    let k = h .before .before in
+    is-before _ _ (left-before 64 _ _ _ _ _ (ap answer (sym (k .f .given .1)) ∙ k .before .before .first-at .ensures)
+    (sym (h .has .ensures) ∙ c .before .before .if1 .taken) (sym (c .before .goes-on .ensures) ∙ c .if2 .taken))
 
 returns-2 : tie.Need-returns-2
-returns-2 c = is-after _ _ (left-after 64 _ _ _ _ _ (ap answer (sym (c .before .before .before .before .before .f .given .1)) ∙ c .before .before .before .before .before .before .before .first-at .ensures) (sym (c .before .before .before .has .ensures) ∙ c .before .before .if1 .taken) (sym (c .before .goes-on .ensures) ∙ c .if2 .left))
+returns-2 c =
+    let h = c .before .before .before in
+    let k = h .before .before in
+    is-after _ _ (left-after 64 _ _ _ _ _ (ap answer (sym (k .f .given .1)) ∙ k .before .before .first-at .ensures)
+    (sym (h .has .ensures) ∙ c .before .before .if1 .taken) (sym (c .before .goes-on .ensures) ∙ c .if2 .left))
 
 goes-on-requires-2 : tie.Need-goes-on-requires-2
 goes-on-requires-2 c κs = search needs
 
 returns-3 : tie.Need-returns-3
-returns-3 c = is-after _ _ (right-after 64 _ _ _ _ _ (ap answer (sym (c .before .before .before .before .before .f .given .1)) ∙ c .before .before .before .before .before .before .before .first-at .ensures) (sym (c .before .before .before .has .ensures) ∙ c .before .before .if1 .left) (sym (c .before .goes-on2 .ensures) ∙ c .if3 .taken))
+returns-3 c =
+    let h = c .before .before .before in
+    let k = h .before .before in
+    is-after _ _ (right-after 64 _ _ _ _ _ (ap answer (sym (k .f .given .1)) ∙ k .before .before .first-at .ensures)
+    (sym (h .has .ensures) ∙ c .before .before .if1 .left) (sym (c .before .goes-on2 .ensures) ∙ c .if3 .taken))
 
 returns-4 : tie.Need-returns-4
 returns-4 c = is-same _ _ (none-odd 64 _ _ _ _ (ap answer (sym (c .enum-told .given .1)) ∙ c .before .before .first-at .ensures))
 
 returns-5 : tie.Need-returns-5
-returns-5 c = is-before _ _ (right-before 64 _ _ _ _ _ (ap answer (sym (c .before .before .before .before .before .f .given .1)) ∙ c .before .before .before .before .before .before .before .first-at .ensures) (sym (c .before .before .before .has .ensures) ∙ c .before .before .if1 .left) (sym (c .before .goes-on2 .ensures) ∙ c .if3 .left))
+returns-5 c =
+    let h = c .before .before .before in
+    let k = h .before .before in
+    is-before _ _ (right-before 64 _ _ _ _ _ (ap answer (sym (k .f .given .1)) ∙ k .before .before .first-at .ensures)
+    (sym (h .has .ensures) ∙ c .before .before .if1 .left) (sym (c .before .goes-on2 .ensures) ∙ c .if3 .left))
 
 pub compare-spec : {M : Type 1} → statement M
 compare-spec =

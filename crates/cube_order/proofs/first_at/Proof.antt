@@ -48,7 +48,8 @@ negated-requires c κs = search needs
 returns-3 : tie.Need-returns-3
 returns-3 c =
     let t = c .before .before .lowest .ensures in
-    ap some (omega (arith, t .inside)) ∙ first-plain 64 _ _ _ (search needs) (search needs) _ (t .clear) (sym (bit-test _ _) ∙ eq-eqb _ _ (c .before .if3 .taken))
+    ap some (omega (arith, t .inside)) ∙ first-plain 64 _ _ _ (search needs) (search needs) _ (t .clear)
+    (sym (bit-test _ _) ∙ eq-eqb _ _ (c .before .if3 .taken))
 
 returns-4 : tie.Need-returns-4
 returns-4 c =

@@ -31,7 +31,8 @@ returns-2 c =
     let p = c .before in
     let s = p .before .before in
     let e : p .plain .result .0 ≡ 2 * s .args .v = omega (arith, p .plain .ensures, p .before .if1 .left) in
-    ap not (c .goes-on .ensures ∙ ap (λ (l : ℕ). isSome (firstFrom l (lits (s .args .c)))) e) ∙ first-below (s .args .v) (lits (s .args .c)) (lits-asc (s .args .c))
+    ap not (c .goes-on .ensures ∙ ap (λ (l : ℕ). isSome (firstFrom l (lits (s .args .c)))) e)
+    ∙ first-below (s .args .v) (lits (s .args .c)) (lits-asc (s .args .c))
 
 pub is-below-spec : {M : Type 1} → statement M
 is-below-spec = tie.close (tie.spec returns cast-t5 plain-requires goes-on-requires returns-2)

@@ -1,6 +1,6 @@
 -- `cube_sets::count` meets its contract. Assumes nothing.
 use borrow.Author.Needs.{needs}
-use mathlib.Core.Path.{sym, _∙_, ap}
+use mathlib.Core.Path.{sym}
 use native.Mathlib.Omega.{arith}
 use lib.Count.{ones-le}
 use Rattle.sets.proofs.Literals.{literals-length}

@@ -1,9 +1,9 @@
 -- `expression::clear` meets its contract. The loop's invariant: the places from a up to i hold the empty cube. Assumes nothing.
-use Prim.Native.Nat.{ℕ, suc, _+_, _-_, _≤_, min}
+use Prim.Native.Nat.{_-_, _≤_, min}
 use mathlib.Core.Path.{_≡_, refl, _∙_, ap, subst}
-use mathlib.Core.List.{List, [], _∷_, _++_}
+use mathlib.Core.List.{[]}
 use native.Mathlib.Omega.{arith}
-use lib.ListN.{length, replicate, length-replicate, replicate-append-replicate}
+use lib.ListN.{length, replicate}
 use borrow.Author.Needs.{needs}
 use Rattle.expression.specs.Words.{cubesOf, Put, Placed}
 use Rattle.expression.proofs.Placing.{placed-none, placed-as, cleared-next}

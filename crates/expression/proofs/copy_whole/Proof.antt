@@ -74,7 +74,8 @@ loop-again c =
     let l = p .before .before .before .before in (
       omega arith,
       p .put-cube .kept .0 ∙ l .loop .inv .1,
-      copied-next (cubesOf (start l .args .s .now)) (omega (arith, number l)) (omega (arith, number l)) (l .loop .inv .2) (p .before .cube-at .ensures) (p .put-cube .ensures),
+      copied-next (cubesOf (start l .args .s .now)) (omega (arith, number l)) (omega (arith, number l)) (l .loop .inv .2) (p .before .cube-at .ensures)
+          (p .put-cube .ensures),
     )
 
 same-length-2 : tie.Need-same-length-2 Inv-loop μ-loop

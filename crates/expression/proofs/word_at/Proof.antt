@@ -1,5 +1,4 @@
 -- `expression::word_at` meets its contract. Assumes nothing.
-use native.Mathlib.Omega.{arith}
 use borrow.Author.Needs.{needs}
 use borrow.Author.Tests.{lt-ltb, le-ltb}
 use Rattle.expression.proofs.word_at.Statement.{statement}

@@ -28,7 +28,8 @@ returns : tie.Need-returns
 returns c =
     let a = c .before .before .before .before .args in
     let n = cubes-length (a .s .now) in
-    let h : c .before .least .result ≡ min (a .e) (length (cubesOf (a .s .now))) = c .before .least .ensures ∙ ap (min _) (c .before .before .number .ensures) in
+    let h : c .before .least .result ≡ min (a .e) (length (cubesOf (a .s .now))) = c .before .least .ensures
+    ∙ ap (min _) (c .before .before .number .ensures) in
     let l : c .least2 .result ≡ min (a .a) (min (a .e) (length (cubesOf (a .s .now)))) = c .least2 .ensures ∙ ap (min _) h in
     record { start = ap (2 *_) l; stop = ap (2 *_) h; forth = omega arith; within = omega arith }
 

@@ -1,5 +1,5 @@
 -- `expression_survey::find` meets its contract. The loop's invariant: what is left of the search answers as the whole. Assumes nothing.
-use mathlib.Core.Path.{_≡_, refl}
+use mathlib.Core.Path.{refl}
 use mathlib.Core.List.{List}
 use Prim.Native.Nat.{ℕ, _-_, _≤_}
 use native.Mathlib.Omega.{arith}
@@ -60,8 +60,11 @@ loop-less c = search needs
 
 loop-again : tie.Need-loop-again Inv-loop μ-loop
 loop-again c =
-    let h = head (c .before .before) in
-    (go-up _ _ _ _ (h .loop .inv .0) (c .before .before .before .before .loop-test .taken) (heard (c .before .before) .first (c .enum-told .given .1)), h .loop .inv .1)
+    let h = head (c .before .before) in (
+      go-up _ _ _ _ (h .loop .inv .0) (c .before .before .before .before .loop-test .taken)
+          (heard (c .before .before) .first (c .enum-told .given .1)),
+      h .loop .inv .1,
+    )
 
 enum-told-2 : tie.Need-enum-told-2 Inv-loop μ-loop
 enum-told-2 c = search needs
@@ -79,8 +82,11 @@ loop-less-2 c = search needs
 
 loop-again-2 : tie.Need-loop-again-2 Inv-loop μ-loop
 loop-again-2 c =
-    let h = head (c .before .before) in
-    (go-down _ _ _ _ (h .loop .inv .0) (c .before .before .before .before .loop-test .taken) (heard (c .before .before) .last (c .enum-told3 .given .1)), omega arith)
+    let h = head (c .before .before) in (
+      go-down _ _ _ _ (h .loop .inv .0) (c .before .before .before .before .loop-test .taken)
+          (heard (c .before .before) .last (c .enum-told3 .given .1)),
+      omega arith,
+    )
 
 returns-2 : tie.Need-returns-2 Inv-loop μ-loop
 returns-2 c = stop-none _ _ _ _ (c .before .loop .inv .0) (c .loop-test .left)

@@ -1,5 +1,5 @@
 -- `expression_survey::literals` meets its contract. The loop's invariant: the sum is that of the cubes passed, as 64 bits hold it. Assumes nothing.
-use mathlib.Core.Path.{_≡_, refl, sym, _∙_, ap}
+use mathlib.Core.Path.{_≡_, sym, _∙_, ap}
 use mathlib.Core.List.{[]}
 use mathlib.Core.Logic.{inl, inr}
 use Prim.Native.Nat.{_+_, _-_, _<_, _≤_}

@@ -55,8 +55,11 @@ loop-less c = search needs
 
 loop-again : tie.Need-loop-again Inv-loop μ-loop
 loop-again c =
-    let l = c .before .before .before .before .before in
-    (search needs, sym (all-on (cubes l) (l .loop .i) [] (omega arith) (readsBelow (start l .args .v)) (tested (c .before) ∙ not-false _ (c .if2 .left))) ∙ l .loop .inv .1)
+    let l = c .before .before .before .before .before in (
+      search needs,
+      sym (all-on (cubes l) (l .loop .i) [] (omega arith) (readsBelow (start l .args .v)) (tested (c .before) ∙ not-false _ (c .if2 .left)))
+          ∙ l .loop .inv .1,
+    )
 
 returns-2 : tie.Need-returns-2 Inv-loop μ-loop
 returns-2 c =
