@@ -3,7 +3,8 @@ use Prim.Native.Nat.{ℕ, _+_, _-_, _<_, _≤_}
 use mathlib.Core.Path.{_≡_, refl, sym, _∙_, ap, subst}
 use mathlib.Core.Logic.{inl, inr}
 use mathlib.Core.Bool.{Bool, true, false, not, _&&_, _||_}
-use mathlib.Core.List.{List, [], _∷_, _++_, append-nil, List·Memᴰ·head as here, List·Memᴰ·tail as there, List·Memᴰ·eq-of-singleton, List·Memᴰ·append-cases, Memᴰ·cast}
+use mathlib.Core.List.{List, [], _∷_, _++_, append-nil, List·Memᴰ·head as here, List·Memᴰ·tail as there, List·Memᴰ·eq-of-singleton}
+use mathlib.Core.List.{List·Memᴰ·append-cases, Memᴰ·cast}
 use native.Mathlib.Numerals.{add-one}
 use native.Mathlib.Omega.{arith}
 use lib.Dec.{ltb}
@@ -17,7 +18,8 @@ use Rattle.sets.proofs.Lists.{_∈_}
 use Rattle.sets.proofs.Sets.{eq-same}
 use Rattle.expression.specs.Expression.{dropped, absorbFrom, absorbed}
 use Rattle.sets.proofs.Places.{at-in, in-at, set-in, drop-next}
-use Rattle.expression.proofs.Absorbing.{Cubes, Covered, Passed, pass-none, pass-dropped, pass-kept, cover-dropped, dropped-early, dropped-late, absorb-nil, absorb-dropped, absorb-kept}
+use Rattle.expression.proofs.Absorbing.{Cubes, Covered, Passed, pass-none, pass-dropped, pass-kept, cover-dropped, dropped-early, dropped-late}
+use Rattle.expression.proofs.Absorbing.{absorb-nil, absorb-dropped, absorb-kept}
 
 -- of the cubes f the first i are passed, and g now stands there: at its front the kept ones of those passed, from their number on what was there
 pub record Stands (f g : Cubes) (i kept : ℕ) : Type 0 where
@@ -104,7 +106,8 @@ module _ {f g : Cubes} {i kept : ℕ} (t : Stands f g i kept) (h : i < length f)
     earlier = c ∷ t .earlier;
     passed = rw front (pass-kept ready);
     sum = rw (front, append-snoc) (ap (λ l. take kept g ++ l) (sym (absorb-kept (t .earlier) c later d)) ∙ sum-next);
-    known = λ x m. elim (set-in (take (i + 1) g) kept c (rw (take-set-lt (i + 1) g kept c (omega (arith, t .order))) at m)) [ inl q ↦ here q | inr k ↦ known-next x k ];
+    known = λ x m. elim (set-in (take (i + 1) g) kept c (rw (take-set-lt (i + 1) g kept c (omega (arith, t .order))) at m))
+        [ inl q ↦ here q | inr k ↦ known-next x k ];
     past = drop-set-lt (kept + 1) g kept c (omega arith) ∙ sym (drop-drop 1 kept g) ∙ ap (drop 1) (t .past) ∙ drop-drop 1 kept f;
     whole = length-set g kept c ∙ t .whole;
     order = omega (arith, t .order);
@@ -169,5 +172,6 @@ module _ {f g : Cubes} {i kept : ℕ} (t : Stands f g i kept) (h : i < length f)
     pub turn-dropped : (j : ℕ) (d : List ℕ) → j < length f → d ≡ getD g j [] → (sub d x && (ltb j i || not (same d x))) ≡ true → Stands f g (i + 1) kept
     turn-dropped j d b e u = stands-dropped (scan-found j b (rw (present, e) at u))
 
-    pub turn-kept : ((j : ℕ) → j < length f → (sub (getD g j []) x && (ltb j i || not (same (getD g j []) x))) ≡ false) → Stands f (set g kept x) (i + 1) (kept + 1)
+    pub turn-kept : ((j : ℕ) → j < length f → (sub (getD g j []) x && (ltb j i || not (same (getD g j []) x))) ≡ false)
+        → Stands f (set g kept x) (i + 1) (kept + 1)
     turn-kept n = rw present (stands-kept (scan-none (λ j b. rw present at (n j b))))

@@ -23,8 +23,9 @@ fn absorbs(d: Cube, c: Cube, earlier: bool) -> bool
 }
 
 // Each cube that strictly contains another or equals an earlier one is dropped; the rest stand at the front in their order, and their number is returned.
-pub fn absorb(s: &mut [u64]) -> usize
-    ensures { λ r. ⌜ (r ≡ length (absorbed (cubesOf (now (s .entry))))) × Written (now (s .entry)) (now (s .exit)) (absorbed (cubesOf (now (s .entry)))) ⌝ }
+fn absorb(s: &mut [u64]) -> usize
+    ensures number { λ r. ⌜ r ≡ length (absorbed (cubesOf (now (s .entry)))) ⌝ }
+    ensures cubes { λ r. ⌜ Written (now (s .entry)) (now (s .exit)) (absorbed (cubesOf (now (s .entry)))) ⌝ }
 {
     let n = expression::number(s);
     let mut kept = 0;
@@ -48,7 +49,8 @@ pub fn absorb(s: &mut [u64]) -> usize
 
 // The same of cubes a up to e; the others stay.
 pub fn absorb_part(s: &mut [u64], a: usize, e: usize) -> usize
-    ensures { λ r. ⌜ (r ≡ length (absorbed (take (e - a) (drop a (cubesOf (now (s .entry))))))) × Placed (now (s .entry)) (now (s .exit)) a (absorbed (take (e - a) (drop a (cubesOf (now (s .entry)))))) ⌝ }
+    ensures number { λ r. ⌜ r ≡ length (absorbed (take (e - a) (drop a (cubesOf (now (s .entry)))))) ⌝ }
+    ensures cubes { λ r. ⌜ Placed (now (s .entry)) (now (s .exit)) a (absorbed (take (e - a) (drop a (cubesOf (now (s .entry)))))) ⌝ }
 {
     let p = expression::words_of(s, a, e);
     let from = p.from;

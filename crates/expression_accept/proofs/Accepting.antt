@@ -3,28 +3,32 @@ use Prim.Native.Nat.{ℕ, _*_, _%_, _<_, _≤_}
 use mathlib.Core.Path.{_≡_, refl, sym, _∙_, ap}
 use mathlib.Core.Logic.{_↔_, inl, inr}
 use mathlib.Core.Bool.{Bool, true, false, cond, _&&_}
-use mathlib.Core.List.{List, [], _∷_}
+use mathlib.Core.List.{List, []}
 use mathlib.Core.Option.{Option, none, some}
 use native.Mathlib.Omega.{arith}
 use lib.Dec.{ltb, eqb}
 use lib.ListN.{length, getD}
 use borrow.Author.Tests.{ltb-true, ltb-false, lt-ltb, le-ltb, eqb-true, eqb-false}
-use Rattle.sets.specs.Lists.{all, pairwise, isNil}
+use Rattle.sets.specs.Lists.{all, pairwise}
 use Rattle.sets.specs.Sets.{sub, asc, proper}
 use Rattle.sets.proofs.Truth.{both, decided, stand, below, equal, beyond}
 use Rattle.sets.proofs.First.{some-not-none}
 use Rattle.sets.proofs.Lists.{_∈_, all-in, all-out, all-cong}
-use Rattle.expression.specs.Words.{cubesOf, spareOf}
-use Rattle.expression.specs.Expression.{isCube, loose}
+use Rattle.expression.specs.Words.{cubeWords, cubesOf}
+use Rattle.expression.specs.Expression.{isCube, loose, expression}
 use Rattle.expression.specs.Answers.{mostHanded, refusal}
-use Rattle.expression.proofs.Words.{cubes-length, cubes-asc, spare-length}
+use Rattle.expression.proofs.Words.{cubes-asc, spare-length, spare-none, spare-some}
 use Rattle.sets.proofs.Places.{pairwise-at, at-pairwise}
 use Rattle.expression.proofs.Absorbing.{loose-in, loose-out}
 
 -- no cube contains or equals another, by places
 pub loose-iff : (f : List (List ℕ))
     → (pairwise loose f ≡ true) ↔ ((i j : ℕ) → i < length f → j < length f → (i ≡ j → ⊥) → sub (getD f i []) (getD f j []) ≡ false)
-loose-iff f = (out, λ k. at-pairwise loose [] f (λ i j b h. loose-in (getD f i []) (getD f j []) (k i j (omega arith) h (λ e. omega arith)) (k j i h (omega arith) (λ e. omega arith))))
+loose-iff f = (
+  out,
+  λ k. at-pairwise loose [] f (λ i j b h.
+      loose-in (getD f i []) (getD f j []) (k i j (omega arith) h (λ e. omega arith)) (k j i h (omega arith) (λ e. omega arith))),
+)
   where
     out : pairwise loose f ≡ true → (i j : ℕ) → i < length f → j < length f → (i ≡ j → ⊥) → sub (getD f i []) (getD f j []) ≡ false
     out h i j a b n = elim (stand i j) [
@@ -38,57 +42,61 @@ module _ (ws : List ℕ) where
   pub cubes-proper : all isCube (cubesOf ws) ≡ all proper (cubesOf ws)
   cubes-proper = all-cong isCube proper (cubesOf ws) (λ c m. ap (λ t. t && proper c) (all-out asc m (cubes-asc ws)))
 
-  spare-none : length ws % 2 ≡ 0 → isNil (spareOf ws) ≡ true
-  spare-none h = go (spareOf ws) (omega (arith, spare-length ws, cubes-length ws))
-    where
-      go : (l : List ℕ) → length l ≡ 0 → isNil l ≡ true
-      go [] e = refl
-      go (x ∷ l) e = absurd (omega arith)
-
-  spare-some : (length ws % 2 ≡ 0 → ⊥) → isNil (spareOf ws) ≡ false
-  spare-some h = go (spareOf ws) (omega (arith, spare-length ws, cubes-length ws))
-    where
-      go : (l : List ℕ) → 0 < length l → isNil l ≡ false
-      go [] e = absurd (omega arith)
-      go (x ∷ l) e = refl
-
-  pub refused-many : 2 * mostHanded < length ws → refusal ws ≡ some 6
+  pub refused-many : cubeWords * mostHanded < length ws → refusal ws ≡ some 6
   unfolding refusal
-  refused-many h = rw (lt-ltb (2 * mostHanded) (length ws) h)
+  refused-many h = rw (lt-ltb (cubeWords * mostHanded) (length ws) h)
 
-  module _ (few : length ws ≤ 2 * mostHanded) where
-    pub refused-spare : (length ws % 2 ≡ 0 → ⊥) → refusal ws ≡ some 7
+  module _ (few : length ws ≤ cubeWords * mostHanded) where
+    pub refused-spare : (length ws % cubeWords ≡ 0 → ⊥) → refusal ws ≡ some 7
     unfolding refusal
-    refused-spare h = rw (le-ltb (2 * mostHanded) (length ws) few, spare-some h)
+    refused-spare h = rw (le-ltb (cubeWords * mostHanded) (length ws) few, spare-some ws h)
 
-    pub refused-else : length ws % 2 ≡ 0 → refusal ws ≡ cond (all proper (cubesOf ws) && pairwise loose (cubesOf ws)) none (some 7)
+    pub refused-else : length ws % cubeWords ≡ 0 → refusal ws ≡ cond (all proper (cubesOf ws) && pairwise loose (cubesOf ws)) none (some 7)
     unfolding refusal
-    refused-else h = rw (le-ltb (2 * mostHanded) (length ws) few, spare-none h, cubes-proper)
+    refused-else h = rw (le-ltb (cubeWords * mostHanded) (length ws) few, spare-none ws h, cubes-proper)
 
-  -- accepted: at most 1,024 cubes, no word left over, each cube with no variable both ways, and none containing or equal to another
-  pub accepted-iff : (refusal ws ≡ none) ↔ ((length ws ≤ 2048) × (length ws % 2 ≡ 0) × ((c : List ℕ) → c ∈ cubesOf ws → proper c ≡ true)
-      × ((i j : ℕ) → i < length (cubesOf ws) → j < length (cubesOf ws) → (i ≡ j → ⊥) → sub (getD (cubesOf ws) i []) (getD (cubesOf ws) j []) ≡ false))
+  -- at most 1,024 cubes, no word left over, each cube with no variable both ways, and none containing or equal to another
+  abbrev pub Acceptable : Type 0
+  Acceptable = (length ws ≤ cubeWords * mostHanded) × (length ws % cubeWords ≡ 0) × ((c : List ℕ) → c ∈ cubesOf ws → proper c ≡ true)
+      × ((i j : ℕ) → i < length (cubesOf ws) → j < length (cubesOf ws) → (i ≡ j → ⊥) → sub (getD (cubesOf ws) i []) (getD (cubesOf ws) j []) ≡ false)
+
+  pub accepted-iff : (refusal ws ≡ none) ↔ Acceptable
   accepted-iff = (
     out,
     λ (few, even, one, apart). refused-else few even
         ∙ rw (all-in proper (cubesOf ws) one, (loose-iff (cubesOf ws)) .1 apart),
   )
     where
-      few-of : refusal ws ≡ none → length ws ≤ 2048
-      few-of h = elim (decided (ltb 2048 (length ws))) [ inl t ↦ some-not-none (refusal ws) (refused-many (ltb-true 2048 (length ws) t)) h | inr t ↦ ltb-false 2048 (length ws) t ]
+      few-of : refusal ws ≡ none → length ws ≤ cubeWords * mostHanded
+      few-of h = elim (decided (ltb (cubeWords * mostHanded) (length ws))) [
+        | inl t ↦ some-not-none (refusal ws) (refused-many (ltb-true _ _ t)) h
+        | inr t ↦ ltb-false _ _ t
+      ]
 
-      even-of : refusal ws ≡ none → length ws % 2 ≡ 0
-      even-of h = elim (decided (eqb (length ws % 2) 0)) [
-        | inl t ↦ eqb-true (length ws % 2) 0 t
-        | inr t ↦ some-not-none (refusal ws) (refused-spare (few-of h) (eqb-false (length ws % 2) 0 t)) h
+      even-of : refusal ws ≡ none → length ws % cubeWords ≡ 0
+      even-of h = elim (decided (eqb (length ws % cubeWords) 0)) [
+        | inl t ↦ eqb-true (length ws % cubeWords) 0 t
+        | inr t ↦ some-not-none (refusal ws) (refused-spare (few-of h) (eqb-false (length ws % cubeWords) 0 t)) h
       ]
 
       rest : (b : Bool) → cond {A = Option ℕ} b none (some 7) ≡ none → b ≡ true
       rest true e = refl
       rest false e = some-not-none (some 7) refl e
 
-      out : refusal ws ≡ none → (length ws ≤ 2048) × (length ws % 2 ≡ 0) × ((c : List ℕ) → c ∈ cubesOf ws → proper c ≡ true)
-          × ((i j : ℕ) → i < length (cubesOf ws) → j < length (cubesOf ws) → (i ≡ j → ⊥) → sub (getD (cubesOf ws) i []) (getD (cubesOf ws) j []) ≡ false)
+      out : refusal ws ≡ none → Acceptable
       out h =
           let q = both (all proper (cubesOf ws)) (pairwise loose (cubesOf ws)) (rest _ (sym (refused-else (few-of h) (even-of h)) ∙ h)) in
           (few-of h, even-of h, λ c m. all-out proper m (q .0), (loose-iff (cubesOf ws)) .0 (q .1))
+
+-- so what is accepted is an expression, of no more cubes than may be handed in
+pub record Accepted (ws : List ℕ) : Type 0 where
+  pub cubes : expression (cubesOf ws) ≡ true
+  pub few : length (cubesOf ws) ≤ mostHanded
+
+pub accepted-out : (ws : List ℕ) → refusal ws ≡ none → Accepted ws
+accepted-out ws h =
+    let (few, even, one, apart) = (accepted-iff ws) .0 h in
+    record {
+      cubes = rw (cubes-proper ws, all-in proper (cubesOf ws) one, (loose-iff (cubesOf ws)) .1 apart);
+      few = omega (arith, spare-length ws);
+    }

@@ -15,7 +15,7 @@ ghost use Rattle.expression.specs.Answers.{refusalOf, refusal};
 // The most cubes of an expression handed in, and their words.
 pub const CUBES: usize = 1024;
 
-pub const WORDS: usize = 2 * CUBES;
+pub const WORDS: usize = expression::WORDS * CUBES;
 
 // Whether no cube has a variable both ways.
 fn all_proper(s: &[u64]) -> bool
@@ -88,7 +88,7 @@ pub fn accept(s: &[u64]) -> Verdict
     if s.len() > WORDS {
         return Verdict::Refused(6);
     }
-    if s.len() % 2 != 0 {
+    if s.len() % expression::WORDS != 0 {
         return Verdict::Refused(7);
     }
     if !all_proper(s) {

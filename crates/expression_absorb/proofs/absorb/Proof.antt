@@ -1,4 +1,5 @@
--- `expression_absorb::absorb` meets its contract. The outer loop's invariant: what stands after i cubes are passed; the inner loop's: none of the first j cubes drops cube i. Assumes nothing.
+-- `expression_absorb::absorb` meets its contract. The outer loop's invariant: what stands after i cubes are passed; the inner loop's: none
+-- of the first j cubes drops cube i. Assumes nothing.
 use mathlib.Core.Path.{_≡_, refl, sym, _∙_}
 use mathlib.Core.Bool.{false, not, _&&_, _||_}
 use mathlib.Core.List.{[]}
@@ -32,7 +33,8 @@ abbrev μ-next : tie.MeasureT-next
 
 -- what stands in a scan, of which the present i is still the outer loop's, and the cube that it is for
 scanned : (l : tie.At-loop Inv-loop μ-loop Inv-next μ-next)
-    → Stands (cubesOf (l .before .before .before .before .before .before .before .before .args .s .now)) (cubesOf (l .before .before .before .before .next .s)) (l .loop .i)
+    → Stands (cubesOf (l .before .before .before .before .before .before .before .before .args .s .now))
+    (cubesOf (l .before .before .before .before .next .s)) (l .loop .i)
     (l .before .before .before .before .next .kept)
 scanned l = rw (l .loop .inv .0) (l .before .before .before .before .next .inv .1)
 
@@ -69,7 +71,8 @@ next-again c =
     let l = c .before .before .before .before .before in
     let n = l .before .before .before .before in (
       n .next .inv .0,
-      turn-dropped (scanned l) (omega arith) _ (present l) (l .loop .j) _ (omega arith) (c .before .before .cube-at2 .ensures) (sym (c .before .absorbs .ensures) ∙ c .if1 .taken),
+      turn-dropped (scanned l) (omega arith) _ (present l) (l .loop .j) _ (omega arith) (c .before .before .cube-at2 .ensures)
+          (sym (c .before .absorbs .ensures) ∙ c .if1 .taken),
       n .next .inv .2,
       n .next .inv .3,
     )

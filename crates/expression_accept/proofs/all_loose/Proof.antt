@@ -31,7 +31,8 @@ is-loose-from-requires c κs = search needs
 returns : tie.Need-returns Inv-loop μ-loop
 returns c =
     let l = c .before .before .before .before in
-    sym (pairwise-stop (cubesOf (l .before .before .args .s .now)) (l .loop .i) [] (omega arith) loose (sym (c .before .is-loose-from .ensures) ∙ not-true _ (c .if2 .taken)))
+    sym (pairwise-stop (cubesOf (l .before .before .args .s .now)) (l .loop .i) [] (omega arith) loose
+    (sym (c .before .is-loose-from .ensures) ∙ not-true _ (c .if2 .taken)))
     ∙ l .loop .inv .1
 
 add-i : tie.Need-add-i Inv-loop μ-loop
@@ -44,7 +45,8 @@ loop-again : tie.Need-loop-again Inv-loop μ-loop
 loop-again c =
     let l = c .before .before .before .before in (
       search needs,
-      sym (pairwise-on (cubesOf (l .before .before .args .s .now)) (l .loop .i) [] (omega arith) loose (sym (c .before .is-loose-from .ensures) ∙ not-false _ (c .if2 .left)))
+      sym (pairwise-on (cubesOf (l .before .before .args .s .now)) (l .loop .i) [] (omega arith) loose
+          (sym (c .before .is-loose-from .ensures) ∙ not-false _ (c .if2 .left)))
           ∙ l .loop .inv .1,
     )
 

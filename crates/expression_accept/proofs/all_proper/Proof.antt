@@ -1,10 +1,10 @@
 -- `expression_accept::all_proper` meets its contract. The loop's invariant: the test of the cubes from i on is the test of all. Assumes nothing.
 use mathlib.Core.Path.{_≡_, sym, _∙_, ap}
-use Prim.Native.Nat.{_≤_, _-_}
+use Prim.Native.Nat.{ℕ, _≤_, _-_}
 use native.Mathlib.Omega.{arith}
 use borrow.Author.Needs.{needs}
 use borrow.Author.Tests.{not-true, not-false}
-use mathlib.Core.List.{[]}
+use mathlib.Core.List.{List, []}
 use lib.ListN.{length, drop, getD}
 use Rattle.sets.specs.Lists.{all}
 use Rattle.sets.specs.Sets.{proper}
@@ -19,9 +19,11 @@ Inv-loop s i₀ i = (i ≤ length (cubesOf s)) × (all proper (drop i (cubesOf s
 abbrev μ-loop : tie.MeasureT-loop
 μ-loop s i₀ i = length (cubesOf s) - i
 
+abbrev cubes : tie.At-loop Inv-loop μ-loop → List (List ℕ)
+cubes l = cubesOf (l .before .before .args .s .now)
+
 -- what the test says of the cube at place i
-tested : (c : tie.After-is-proper Inv-loop μ-loop)
-    → proper (getD (cubesOf (c .before .before .before .before .before .before .args .s .now)) (c .before .before .before .before .loop .i) []) ≡ c .is-proper .result
+tested : (c : tie.After-is-proper Inv-loop μ-loop) → let l = c .before .before .before .before in proper (getD (cubes l) (l .loop .i) []) ≡ c .is-proper .result
 tested c = ap proper (sym (c .before .cube-at .ensures)) ∙ sym (c .is-proper .ensures)
 
 loop-holds : tie.Need-loop-holds Inv-loop μ-loop
@@ -39,7 +41,8 @@ is-proper-requires c κs = search needs
 returns : tie.Need-returns Inv-loop μ-loop
 returns c =
     let l = c .before .before .before .before .before in
-    sym (all-stop (cubesOf (l .before .before .args .s .now)) (l .loop .i) [] (omega arith) proper (tested (c .before) ∙ not-true _ (c .if2 .taken))) ∙ l .loop .inv .1
+    sym (all-stop (cubes l) (l .loop .i) [] (omega arith) proper (tested (c .before) ∙ not-true _ (c .if2 .taken)))
+    ∙ l .loop .inv .1
 
 add-i : tie.Need-add-i Inv-loop μ-loop
 add-i c = search needs
@@ -50,12 +53,12 @@ loop-less c = search needs
 loop-again : tie.Need-loop-again Inv-loop μ-loop
 loop-again c =
     let l = c .before .before .before .before .before in
-    (search needs, sym (all-on (cubesOf (l .before .before .args .s .now)) (l .loop .i) [] (omega arith) proper (tested (c .before) ∙ not-false _ (c .if2 .left))) ∙ l .loop .inv .1)
+    (search needs, sym (all-on (cubes l) (l .loop .i) [] (omega arith) proper (tested (c .before) ∙ not-false _ (c .if2 .left))) ∙ l .loop .inv .1)
 
 returns-2 : tie.Need-returns-2 Inv-loop μ-loop
 returns-2 c =
     let l = c .before .before in
-    sym (all-done (cubesOf (l .before .before .args .s .now)) (l .loop .i) (omega arith) proper) ∙ l .loop .inv .1
+    sym (all-done (cubes l) (l .loop .i) (omega arith) proper) ∙ l .loop .inv .1
 
 pub all-proper-spec : {M : Type 1} → statement M
 all-proper-spec =

@@ -1,4 +1,5 @@
--- `expression_accept::is_loose_from` meets its contract. The loop's invariant: the test of the cubes from j on is the test of those after cube i. Assumes nothing.
+-- `expression_accept::is_loose_from` meets its contract. The loop's invariant: the test of the cubes from j on is the test of those after
+-- cube i. Assumes nothing.
 use mathlib.Core.Path.{_≡_, sym, _∙_, ap}
 use Prim.Native.Nat.{ℕ, _≤_, _-_, _+_}
 use native.Mathlib.Omega.{arith}
@@ -10,7 +11,7 @@ use Rattle.sets.specs.Lists.{all}
 use Rattle.cube.specs.Cube.{lits}
 use Rattle.expression.specs.Words.{cubesOf}
 use Rattle.expression.specs.Expression.{loose}
-use Rattle.expression.proofs.Words.{cubes-length}
+use Rattle.expression.proofs.Words.{cubes-few}
 use Rattle.sets.proofs.Places.{all-stop, all-on, all-done}
 use Rattle.expression_accept.proofs.is_loose_from.Statement.{statement}
 use Rattle.expression_accept.proofs.is_loose_from.Tie as tie
@@ -31,7 +32,8 @@ first l = lits (l .before .cube-at .result)
 
 -- what the test says of the cube at place j, and of all from there on
 tested : (c : tie.After-is-loose Inv-loop μ-loop)
-    → loose (first (c .before .before .before .before)) (getD (cubesOf (words (c .before .before .before .before))) (c .before .before .before .before .loop .j) []) ≡ c .is-loose .result
+    → loose (first (c .before .before .before .before)) (getD (cubesOf (words (c .before .before .before .before)))
+    (c .before .before .before .before .loop .j) []) ≡ c .is-loose .result
 tested c = ap (loose (first (c .before .before .before .before))) (sym (c .before .cube-at2 .ensures)) ∙ sym (c .is-loose .ensures)
 
 whole : (l : tie.At-loop Inv-loop μ-loop)
@@ -43,7 +45,7 @@ cube-at-requires : tie.Need-cube-at-requires Inv-loop μ-loop
 cube-at-requires c κs = search needs
 
 add-j : tie.Need-add-j Inv-loop μ-loop
-add-j c = omega (arith, cubes-length (c .before .before .args .s .now))
+add-j c = omega (arith, cubes-few (c .before .before .args .s .now))
 
 loop-holds : tie.Need-loop-holds Inv-loop μ-loop
 loop-holds c = search needs
@@ -70,8 +72,11 @@ loop-less c = search needs
 
 loop-again : tie.Need-loop-again Inv-loop μ-loop
 loop-again c =
-    let l = c .before .before .before .before .before in
-    (search needs, sym (all-on (cubesOf (words l)) (l .loop .j) [] (omega arith) (loose (first l)) (tested (c .before) ∙ not-false _ (c .if2 .left))) ∙ l .loop .inv .1)
+    let l = c .before .before .before .before .before in (
+      search needs,
+      sym (all-on (cubesOf (words l)) (l .loop .j) [] (omega arith) (loose (first l)) (tested (c .before) ∙ not-false _ (c .if2 .left)))
+          ∙ l .loop .inv .1,
+    )
 
 returns-2 : tie.Need-returns-2 Inv-loop μ-loop
 returns-2 c =
