@@ -2,16 +2,15 @@
 use Prim.Native.Nat.{ℕ, _<_, _≤_}
 use mathlib.Core.Path.{_≡_, refl, sym, _∙_, subst}
 use mathlib.Core.Logic.{inl, inr, _↔_}
-use mathlib.Core.Bool.{Bool, true}
+use mathlib.Core.Bool.{true}
 use mathlib.Core.List.{List, [], _∷_, List·Memᴰ·head as here, List·Memᴰ·tail as there, List·Memᴰ·not-nil, List·Memᴰ·cases-cons}
 use native.Mathlib.Omega.{arith}
 use lib.Dec.{leb}
 use lib.ListN.{length}
 use borrow.Author.Tests.{leb-true, le-leb}
-use Rattle.sets.specs.Lists.{keep}
 use Rattle.sets.specs.Sets.{mem, sub, asc, same}
 use Rattle.sets.proofs.Truth.{iff, both, together}
-use Rattle.sets.proofs.Lists.{_∈_, keep-in, keep-out, keep-le}
+use Rattle.sets.proofs.Lists.{_∈_, keep-in, keep-out, keep-le, keep-cong}
 use Rattle.sets.proofs.Sets.{meet-mem, meet-asc, sub-in, sub-out, sub-trans, same-eq, eq-same, ext}
 use Rattle.cokernel.specs.Cokernels.{above, common, isCokernel}
 
@@ -47,10 +46,6 @@ common-asc (x ∷ []) k = k x (here refl)
 common-asc (x ∷ y ∷ f) k = meet-asc x (common (y ∷ f)) (k x (here refl))
 
 -- ---- the cubes above a cube
-
-keep-cong : {A : Type 0} (p q : A → Bool) (l : List A) → ((x : A) → x ∈ l → p x ≡ q x) → keep p l ≡ keep q l
-keep-cong p q [] k = refl
-keep-cong p q (x ∷ l) k = rw (k x (here refl), keep-cong p q l (λ y m. k y (there m)))
 
 module _ (f : Cubes) where
   pub above-asc : (n : ℕ) (c : List ℕ) → Held n f → asc (common (above f c)) ≡ true
@@ -88,8 +83,14 @@ module _ (f : Cubes) where
   pub cokernel-iff : (n : ℕ) → Held n f → (c : List ℕ) → asc c ≡ true
       → (isCokernel f c ≡ true) ↔ ((2 ≤ length (above f c)) × ((l : ℕ) → (mem l c ≡ true) ↔ ((d : List ℕ) → d ∈ above f c → mem l d ≡ true)))
   cokernel-iff n g c a = (
-    λ h. let q = cokernel-out c h in
-        (q .0, λ l. (λ m d i. common-out (above f c) l i (rw (q .1) m), λ k. subst (λ z. mem l z ≡ true) (q .1) (common-in (above f c) l (omega (arith, q .0)) k))),
+    λ h. let q = cokernel-out c h in (
+      q .0,
+      λ l. (
+        λ m d i. common-out (above f c) l i (rw (q .1) m),
+        λ k. subst (λ z. mem l z ≡ true) (q .1)
+            (common-in (above f c) l (omega (arith, q .0)) k),
+      ),
+    ),
     λ (two, k). cokernel-in c two (ext _ c (above-asc n c g) a (λ l. iff
         (λ m. (k l) .1 (λ d i. common-out (above f c) l i m))
         (λ m. common-in (above f c) l (omega arith) ((k l) .0 m)))),

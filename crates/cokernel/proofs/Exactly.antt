@@ -1,34 +1,35 @@
--- The co-kernels of an expression whose literals a cube has places for: exactly those, each once, in cube order, and no other list is that; none of fewer than two cubes; each step of the walk stands for one. Assumes nothing.
+-- The co-kernels of an expression whose literals a cube has places for: exactly those, each once, in cube order, and no other list is
+-- that; none of fewer than two cubes; each step of the walk stands for one. Assumes nothing.
 use Prim.Native.Nat.{ℕ, suc, _+_, _*_, _<_, _≤_}
 use mathlib.Core.Path.{_≡_, refl, sym, _∙_, ap, subst}
 use mathlib.Core.Logic.{_⊎_, inl, inr, _↔_}
 use mathlib.Core.Bool.{Bool, true, false, cond}
-use mathlib.Core.List.{List, [], _∷_, _++_, List·Memᴰ·head as here, List·Memᴰ·tail as there, List·Memᴰ·append-cases, List·Memᴰ·eq-of-singleton, Memᴰ·append-left, Memᴰ·append-right}
+use mathlib.Core.List.{List, [], _∷_, _++_, List·Memᴰ·head as here, List·Memᴰ·tail as there, List·Memᴰ·append-cases, List·Memᴰ·eq-of-singleton}
+use mathlib.Core.List.{Memᴰ·append-left, Memᴰ·append-right}
 use native.Mathlib.Omega.{arith}
 use lib.Dec.{ltb}
 use lib.ListN.{length}
 use borrow.Author.Tests.{ltb-true, ltb-false}
-use Rattle.sets.specs.Lists.{isSome, all, pairwise}
+use Rattle.sets.specs.Lists.{isSome, pairwise}
 use Rattle.sets.specs.Sets.{mem, sub, asc, insert, firstFrom, before}
 use Rattle.sets.proofs.Truth.{clash, decided}
-use Rattle.sets.proofs.Lists.{_∈_, all-in, all-out, keep-all, keep-le, pairwise-append}
+use Rattle.sets.proofs.Lists.{_∈_, all-in, all-out, keep-all, keep-length, pairwise-append}
 use Rattle.sets.proofs.Orders.{before-order, ext-in}
 use Rattle.sets.proofs.Sets.{sub-in, sub-out, ext}
-use Rattle.sets.proofs.Literals.{mem-inside}
-use Rattle.sets.proofs.Places.{in-at}
 use Rattle.cube.specs.Cube.{width}
 use Rattle.expression.specs.Words.{cubesOf}
 use Rattle.expression.specs.Expression.{ordered}
-use Rattle.expression.proofs.Words.{cubes-asc, cubes-at, cubes-length}
+use Rattle.expression.proofs.Words.{cubes-asc, cubes-inside}
 use Rattle.cokernel.specs.Cokernels.{above, common, isCokernel, opens, beyond, cokernels}
 use Rattle.cokernel.proofs.Closing.{Cubes, Held, above-asc, common-more, common-above, cokernel-out, cokernel-iff, common-cokernel}
-use Rattle.cokernel.proofs.Walking.{Prefix, prefix-none, prefix-with, Alike, branch, cond-out, cond-in, mem-there, prefix-past, up-to, alike-end, alike-before, opens-out, beyond-out, beyond-in, beyond-ordered}
+use Rattle.cokernel.proofs.Walking.{Prefix, prefix-none, prefix-with, Alike, branch, cond-out, cond-in, mem-there, prefix-past, up-to}
+use Rattle.cokernel.proofs.Walking.{alike-end, alike-before, opens-out, beyond-out, beyond-in, beyond-ordered}
 
 -- what words hold
 pub held-words : (ws : List ℕ) → Held (2 * width) (cubesOf ws)
 held-words ws = record {
   rising = λ c m. all-out asc m (cubes-asc ws);
-  inside = λ c m l i. let r = in-at [] m in mem-inside width _ _ l (subst (λ z. mem l z ≡ true) (sym (r .2) ∙ cubes-at ws (r .0) (omega (arith, r .1, cubes-length ws))) i);
+  inside = λ c m l i. cubes-inside ws m l i;
 }
 
 no-member : (l : Cubes) → ((c : List ℕ) → c ∈ l → ⊥) → l ≡ []
@@ -63,7 +64,7 @@ module _ (f : Cubes) where
   pub cokernels-few : length f < 2 → cokernels f ≡ []
   cokernels-few h = no-member (cokernels f) (λ c m.
       let two = (cokernel-out f c ((cokernels-out c m) .1)) .0 in
-      omega (arith, two, keep-le (sub c) (λ d. true) f (λ d i t. refl), ap length (keep-all (λ d. true) f (all-in (λ d. true) f (λ d i. refl)))))
+      omega (arith, two, keep-length (sub c) f))
 
   -- ---- complete
 

@@ -2,5 +2,4 @@ pub mod Closing
 pub mod Walking
 pub mod Exactly
 pub mod Steps
-pub mod Placing
 pub mod Telling

@@ -51,7 +51,8 @@ none-low j x e = sym (all-mem (leb j) x (λ l m. clash m (none-first 0 x (sym e)
 
 pub first-low : (j : ℕ) (x : List ℕ) (l : ℕ) → asc x ≡ true → some l ≡ firstFrom 0 x → leb j l ≡ all (leb j) x
 first-low j x l a e = iff
-    (λ h. all-mem (leb j) x (λ z m. elim (decided (ltb z l)) [ inl t ↦ clash m (r .least z zero-le (ltb-true z l t)) | inr t ↦ omega (arith, leb-true j l h, ltb-false z l t, le-leb) ]))
+    (λ h. all-mem (leb j) x (λ z m. elim (decided (ltb z l))
+    [ inl t ↦ clash m (r .least z zero-le (ltb-true z l t)) | inr t ↦ omega (arith, leb-true j l h, ltb-false z l t, le-leb) ]))
     (λ h. mem-all (leb j) x l h (r .isIn))
   where
     r : IsFirst 0 x l
@@ -65,12 +66,18 @@ module _ (n : ℕ) (f : Cubes) (g : Held n f) (j : ℕ) (q : List ℕ) (a : asc 
 
   pub opens-test : (leb 2 (length (above f q)) && all (leb j) (without m q)) ≡ opens f j q
   opens-test = iff
-      (λ h. let w = both (leb 2 (length (above f q))) (all (leb j) (without m q)) h in opens-in f j q (above-asc f n q g) a (leb-true _ _ (w .0)) (alike (leb-true _ _ (w .0)) (w .1)))
-      (λ h. let w = opens-out f j q h in together _ _ (le-leb _ _ (w .0)) (all-mem (leb j) (without m q) (λ l i. from-j (w .1) l (both (mem l m) (not (mem l q)) (sym (without-mem l m q) ∙ i)))))
+      (λ h. let w = both (leb 2 (length (above f q))) (all (leb j) (without m q)) h in
+      opens-in f j q (above-asc f n q g) a (leb-true _ _ (w .0)) (alike (leb-true _ _ (w .0)) (w .1)))
+      (λ h. let w = opens-out f j q h in together _ _ (le-leb _ _ (w .0))
+      (all-mem (leb j) (without m q) (λ l i. from-j (w .1) l (both (mem l m) (not (mem l q)) (sym (without-mem l m q) ∙ i)))))
     where
       alike : 2 ≤ length (above f q) → all (leb j) (without m q) ≡ true → Alike j m q
       alike two h l s = iff
-          (λ i. elim (decided (mem l q)) [ inl t ↦ t | inr t ↦ absurd (omega (arith, leb-true j l (mem-all (leb j) (without m q) l h (without-mem l m q ∙ rw (i, t))))) ])
+          (λ i. elim (decided (mem l q)) [
+            | inl t ↦ t
+            | inr t ↦ absurd
+                (omega (arith, leb-true j l (mem-all (leb j) (without m q) l h (without-mem l m q ∙ rw (i, t)))))
+          ])
           (λ i. sub-out q m l (common-above f q (omega arith)) i)
 
       from-j : Alike j m q → (l : ℕ) → (mem l m ≡ true) × (not (mem l q) ≡ true) → leb j l ≡ true
@@ -145,16 +152,20 @@ module _ (f : Cubes) (p m : List ℕ) (j : ℕ) (w : Walks f p m j) where
     beyond-last q r o e h b i = beyond-next f p j h q r o e b ∙ rw (none, append-nil)
       where
         none : beyond (2 * width - (j + 1)) f p (j + 1) ≡ []
-        none = rw (add-one j) (beyond-none (2 * width - suc j) f p (suc j) j (prefix-on p j prefix) (omega arith) (prefix-past p j prefix j (omega arith)) (subst (λ z. mem j z ≡ true) (w .common) i))
+        none = rw (add-one j) (beyond-none (2 * width - suc j) f p (suc j) j (prefix-on p j prefix) (omega arith) (prefix-past p j prefix j (omega arith))
+            (subst (λ z. mem j z ≡ true) (w .common) i))
 
 -- ---- counting, up to a most
 
 module _ (most : ℕ) where
   -- one cube or none, and then those beyond it
-  pub count-open : (b : Bool) (q : List ℕ) (l : Cubes) (here n : ℕ) → 0 < most → here ≡ cond b 1 0 → n ≡ min (most - here) (length l) → here + n ≡ min most (length (only b q ++ l))
+  pub count-open : (b : Bool) (q : List ℕ) (l : Cubes) (here n : ℕ) → 0 < most → here ≡ cond b 1 0 → n ≡ min (most - here) (length l)
+      → here + n ≡ min most (length (only b q ++ l))
   count-open true q l here n h e k = omega arith
   count-open false q l here n h e k = omega arith
 
-  pub count-next : (f : Cubes) (p : List ℕ) (j : ℕ) (q r : List ℕ) (o e : Bool) (n k : ℕ) → j < 2 * width → Branched f p j q r o e → n ≡ min most (length (withIt f j q o e))
+  pub count-next : (f : Cubes) (p : List ℕ) (j : ℕ) (q r : List ℕ) (o e : Bool) (n k : ℕ) → j < 2 * width → Branched f p j q r o e
+      → n ≡ min most (length (withIt f j q o e))
       → k ≡ min (most - n) (length (beyond (2 * width - (j + 1)) f p (j + 1))) → n + k ≡ min most (length (beyond (2 * width - j) f p j))
-  count-next f p j q r o e n k h b t u = rw (beyond-next f p j h q r o e b) (omega (arith, length-append (withIt f j q o e) (beyond (2 * width - (j + 1)) f p (j + 1))))
+  count-next f p j q r o e n k h b t u = rw (beyond-next f p j h q r o e b)
+      (omega (arith, length-append (withIt f j q o e) (beyond (2 * width - (j + 1)) f p (j + 1))))

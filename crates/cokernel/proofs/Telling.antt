@@ -1,6 +1,6 @@
 -- The whole answer: the empty cube, then those beyond it; and what is told of it. Assumes nothing.
 use Prim.Native.Nat.{ℕ, zero-le, _+_, _-_, _*_, _<_, _≤_, min}
-use mathlib.Core.Path.{_≡_, refl, sym, _∙_, ap, subst}
+use mathlib.Core.Path.{_≡_, refl, sym, _∙_, ap}
 use mathlib.Core.Bool.{Bool, true, cond, _&&_}
 use mathlib.Core.List.{List, [], _++_}
 use mathlib.Core.Option.{Option, none, some}
@@ -10,18 +10,18 @@ use lib.ListN.{length, length-append}
 use borrow.Author.Tests.{lt-ltb, le-ltb}
 use Rattle.sets.specs.Sets.{same}
 use Rattle.cube.specs.Cube.{width}
-use Rattle.expression.specs.Words.{cubesOf, Written}
+use Rattle.expression.specs.Words.{cubesOf, Written, Appends}
 use Rattle.expression.specs.Answers.{refusal}
 use Rattle.expression.proofs.Words.{fit, written-one}
+use Rattle.expression.proofs.Placing.{placed-as, appends-then}
 use Rattle.cokernel.specs.Cokernels.{beyond, cokernels}
 use Rattle.cokernel.specs.Answers.{refusedBy, Told}
-use Rattle.cokernel.specs.Parts.{only, Shared, Walks, Wrote}
+use Rattle.cokernel.specs.Parts.{only, Shared, Walks}
 use Rattle.cokernel.specs.declared.Listed.{Listed}
 use Rattle.cokernel.specs.declared.Listed.the-variants.{All, Refused}
 use Rattle.cokernel.proofs.Closing.{Cubes}
 use Rattle.cokernel.proofs.Walking.{prefix-none}
 use Rattle.cokernel.proofs.Steps.{cokernel-test, count-open}
-use Rattle.cokernel.proofs.Placing.{placed-written, wrote-more}
 
 module _ (f : Cubes) (p : List ℕ) (e : p ≡ []) (n : ℕ) (m : List ℕ) (c : Shared f p n m) where
   pub walks-first : Walks f p m 0
@@ -35,14 +35,13 @@ module _ (f : Cubes) (p : List ℕ) (e : p ≡ []) (n : ℕ) (m : List ℕ) (c :
     pub whole-length : length (only b p) + length (beyond (2 * width) f p 0) ≡ length (cokernels f)
     whole-length = sym (length-append (only b p) (beyond (2 * width) f p 0)) ∙ ap length whole
 
-    pub whole-count : (most here k : ℕ) → 0 < most → here ≡ cond b 1 0 → k ≡ min (most - here) (length (beyond (2 * width) f p 0)) → here + k ≡ min most (length (cokernels f))
+    pub whole-count : (most here k : ℕ) → 0 < most → here ≡ cond b 1 0 → k ≡ min (most - here) (length (beyond (2 * width) f p 0))
+        → here + k ≡ min most (length (cokernels f))
     whole-count most here k t u v = count-open most b p (beyond (2 * width) f p 0) here k t u v ∙ ap (λ l. min most (length l)) whole
 
-    pub whole-written : {old new mid : List ℕ} {i j : ℕ} → length (cokernels f) ≤ length (cubesOf old) → Wrote old mid 0 (only b p) i → Wrote mid new i (beyond (2 * width) f p 0) j
-        → Written old new (cokernels f)
-    whole-written {old} {new} t u v =
-        let room : 0 + length (only b p) ≤ length (cubesOf old) = omega (arith, whole-length) in
-        subst (Written old new) whole (placed-written (wrote-more room u v .placed))
+    pub whole-written : {old new mid : List ℕ} {i j : ℕ} → length (cokernels f) ≤ length (cubesOf old)
+        → Appends old mid 0 (only b p) i → Appends mid new i (beyond (2 * width) f p 0) j → Written old new (cokernels f)
+    whole-written t u v = placed-as whole (appends-then u (omega (arith, u .next, whole-length)) v .placed)
 
 -- ---- what is told
 
@@ -68,11 +67,12 @@ module _ (f o : List ℕ) where
     pub told-short : length (cubesOf o) < length (cokernels (cubesOf f)) → Told (refusedBy f o) f o o (Refused 9)
     told-short h = rw (refused-short h) (refl, refl)
 
-    pub told-all : (o′ : List ℕ) (n : ℕ) → length (cokernels (cubesOf f)) ≤ length (cubesOf o) → n ≡ length (cokernels (cubesOf f)) → Written o o′ (cokernels (cubesOf f))
-        → Told (refusedBy f o) f o o′ (All n)
+    pub told-all : (o′ : List ℕ) (n : ℕ) → length (cokernels (cubesOf f)) ≤ length (cubesOf o) → n ≡ length (cokernels (cubesOf f))
+        → Written o o′ (cokernels (cubesOf f)) → Told (refusedBy f o) f o o′ (All n)
     told-all o′ n h k w = rw (refused-none h) (ap All k, w)
 
 -- no two answers are told
-pub told-one : (x : Option ℕ) (f o a b : List ℕ) (r s : Listed) → fit a ≡ true → fit b ≡ true → Told x f o a r → Told x f o b s → (r ≡ s) × (a ≡ b)
+pub told-one : (x : Option ℕ) (f o a b : List ℕ) (r s : Listed) → fit a ≡ true → fit b ≡ true → Told x f o a r → Told x f o b s
+    → (r ≡ s) × (a ≡ b)
 told-one (some k) f o a b r s h i (e, u) (d, v) = (e ∙ sym d, u ∙ sym v)
 told-one none f o a b r s h i (e, u) (d, v) = (e ∙ sym d, written-one h i u v)

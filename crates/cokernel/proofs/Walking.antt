@@ -3,7 +3,8 @@ use Prim.Native.Nat.{ℕ, zero, suc, _+_, _<_, _≤_}
 use mathlib.Core.Path.{_≡_, refl, sym, _∙_, ap, subst}
 use mathlib.Core.Logic.{_⊎_, inl, inr}
 use mathlib.Core.Bool.{Bool, true, false, cond, and-true}
-use mathlib.Core.List.{List, [], _∷_, _++_, List·Memᴰ·head as here, List·Memᴰ·not-nil, List·Memᴰ·append-cases, List·Memᴰ·eq-of-singleton, Memᴰ·append-left, Memᴰ·append-right}
+use mathlib.Core.List.{List, [], _∷_, _++_, List·Memᴰ·head as here, List·Memᴰ·not-nil, List·Memᴰ·append-cases, List·Memᴰ·eq-of-singleton}
+use mathlib.Core.List.{Memᴰ·append-left, Memᴰ·append-right}
 use mathlib.Core.Option.{Option, none, some}
 use native.Mathlib.Omega.{arith}
 use lib.Dec.{leb, ltb, eqb}
@@ -28,7 +29,8 @@ on-in j c l h m = go (firstFrom j c) refl
     go none e = clash m (none-first j c e l h)
     go (some x) e = refl
 
-pub on-out : (j : ℕ) (c : List ℕ) → asc c ≡ true → isSome (firstFrom j c) ≡ true → (l : ℕ) × (j ≤ l) × (mem l c ≡ true) × ((k : ℕ) → j ≤ k → k < l → mem k c ≡ false)
+pub on-out : (j : ℕ) (c : List ℕ) → asc c ≡ true → isSome (firstFrom j c) ≡ true → (l : ℕ) × (j ≤ l) × (mem l c ≡ true)
+    × ((k : ℕ) → j ≤ k → k < l → mem k c ≡ false)
 on-out j c a h = go (firstFrom j c) refl h
   where
     go : (o : Option ℕ) → firstFrom j c ≡ o → isSome o ≡ true → (l : ℕ) × (j ≤ l) × (mem l c ≡ true) × ((k : ℕ) → j ≤ k → k < l → mem k c ≡ false)
@@ -166,7 +168,13 @@ beyond-out (suc k) f p j h c m =
     inner w (inl i) =
         let q = cond-out (isCokernel f (insert j p)) (insert j p ∷ []) i in
         let e = List·Memᴰ·eq-of-singleton (q .1) in
-        rw e (record { rising = insert-asc j p (h .rising); closed = q .0; alike = λ l s. mem-with p j l s; on = on-in j (insert j p) j (omega arith) (mem-there p j) })
+        rw e (record {
+          rising = insert-asc j p (h .rising);
+          closed = q .0;
+          alike = λ l s. mem-with p j l s;
+          on = on-in j (insert j p) j (omega arith)
+              (mem-there p j);
+        })
     inner w (inr i) = let r = w i in with-it (r .alike j (omega arith) ∙ mem-there p j) (r .alike) (r .closed) (r .rising)
 
     go : (c ∈ beyond k f (insert j p) (suc j) → Beyond f (insert j p) (suc j) c) → (c ∈ beyond k f p (suc j) → Beyond f p (suc j) c)
@@ -181,10 +189,12 @@ beyond-out (suc k) f p j h c m =
 module _ (n : ℕ) (f : Cubes) (p : List ℕ) (j : ℕ) (g : Held n f) (h : Prefix p j) where
   -- where c has j besides, the branch with j is open
   branch-open : (c : List ℕ) → isCokernel f c ≡ true → Alike j c p → mem j c ≡ true → opens f j (insert j p) ≡ true
-  branch-open c e a m = opens-in f j (insert j p) (above-asc f n (insert j p) g) (insert-asc j p (h .rising)) (omega (arith, above-fewer f (insert j p) c inside, two))
+  branch-open c e a m = opens-in f j (insert j p) (above-asc f n (insert j p) g) (insert-asc j p (h .rising))
+      (omega (arith, above-fewer f (insert j p) c inside, two))
       (λ l s. elim (decided (mem l (insert j p))) [
         | inl t ↦ sub-out _ _ l (common-above f (insert j p) (omega (arith, above-fewer f (insert j p) c inside, two))) t ∙ sym t
-        | inr t ↦ refuted (λ i. clash (mem-with p j l s ∙ sym (a l s) ∙ subst (λ z. mem l z ≡ true) ((cokernel-out f c e) .1) (sub-out _ _ l (common-more f (insert j p) c inside (omega (arith, two))) i)) t) ∙ sym t
+        | inr t ↦ refuted (λ i. clash (mem-with p j l s ∙ sym (a l s)
+            ∙ subst (λ z. mem l z ≡ true) ((cokernel-out f c e) .1) (sub-out _ _ l (common-more f (insert j p) c inside (omega (arith, two))) i)) t) ∙ sym t
       ])
     where
       two : 2 ≤ length (above f c)
@@ -210,18 +220,22 @@ beyond-in zero n f p j e g h c b =
             let q = keep-out (sub c) f (subst (λ z. d ∈ z) (sym t) (here refl)) in
             omega (arith, g .inside d (q .0) l (sub-out c d l (q .1) m))
 beyond-in (suc k) n f p j e g h c b =
-    go (decided (mem j c)) (beyond-in k n f (insert j p) (suc j) (omega arith) g (prefix-with p j h) c) (beyond-in k n f p (suc j) (omega arith) g (prefix-on p j h) c)
+    go (decided (mem j c)) (beyond-in k n f (insert j p) (suc j) (omega arith) g (prefix-with p j h) c)
+    (beyond-in k n f p (suc j) (omega arith) g (prefix-on p j h) c)
   where
-    go : (mem j c ≡ true) ⊎ (mem j c ≡ false) → (Beyond f (insert j p) (suc j) c → c ∈ beyond k f (insert j p) (suc j)) → (Beyond f p (suc j) c → c ∈ beyond k f p (suc j))
+    go : (mem j c ≡ true) ⊎ (mem j c ≡ false) → (Beyond f (insert j p) (suc j) c → c ∈ beyond k f (insert j p) (suc j))
+        → (Beyond f p (suc j) c → c ∈ beyond k f p (suc j))
         → c ∈ (cond (opens f j (insert j p)) (branch k f (insert j p) (suc j)) [] ++ beyond k f p (suc j))
-    go (inl m) w v = Memᴰ·append-left (beyond k f p (suc j)) (cond-in (opens f j (insert j p)) (branch-open n f p j g h c (b .closed) (b .alike) m) (inner (decided (isSome (firstFrom (suc j) c)))))
+    go (inl m) w v = Memᴰ·append-left (beyond k f p (suc j))
+        (cond-in (opens f j (insert j p)) (branch-open n f p j g h c (b .closed) (b .alike) m) (inner (decided (isSome (firstFrom (suc j) c)))))
       where
         alike : Alike (suc j) c (insert j p)
         alike = up-to j c (insert j p) (λ l s. b .alike l s ∙ sym (mem-with p j l s)) (m ∙ sym (mem-there p j))
 
         inner : (isSome (firstFrom (suc j) c) ≡ true) ⊎ (isSome (firstFrom (suc j) c) ≡ false)
             → c ∈ (branch k f (insert j p) (suc j))
-        inner (inl s) = Memᴰ·append-right (cond (isCokernel f (insert j p)) (insert j p ∷ []) []) (w (record { rising = b .rising; closed = b .closed; alike = alike; on = s }))
+        inner (inl s) = Memᴰ·append-right (cond (isCokernel f (insert j p)) (insert j p ∷ []) [])
+            (w (record { rising = b .rising; closed = b .closed; alike = alike; on = s }))
         inner (inr s) =
             let t = alike-end (suc j) c (insert j p) (b .rising) (prefix-with p j h) alike s in
             Memᴰ·append-left (beyond k f (insert j p) (suc j)) (cond-in (isCokernel f (insert j p)) (subst (λ z. isCokernel f z ≡ true) t (b .closed)) (here t))
@@ -235,7 +249,12 @@ beyond-in (suc k) n f p j e g h c b =
         }))
       where
         later : (l : ℕ) → j ≤ l → mem l c ≡ true → suc j ≤ l
-        later l u i = elim (stand l j) [ lower t _ _ ↦ absurd (omega arith) | equal t _ _ ↦ clash (subst (λ z. mem z c ≡ true) t i) m | upper t _ _ ↦ omega arith ]
+        later l u i = elim (stand l j) [
+          | lower t _ _ ↦ absurd (omega arith)
+          | equal t _ _ ↦ clash
+              (subst (λ z. mem z c ≡ true) t i) m
+          | upper t _ _ ↦ omega arith
+        ]
 
 -- ---- in cube order
 

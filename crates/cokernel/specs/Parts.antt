@@ -1,12 +1,11 @@
 -- What the steps of the search for co-kernels answer.
-use Prim.Native.Nat.{ℕ, _+_, _*_, _<_, _≤_}
+use Prim.Native.Nat.{ℕ, _*_, _<_, _≤_}
 use mathlib.Core.Path.{_≡_}
 use mathlib.Core.Bool.{Bool, true, cond}
 use mathlib.Core.List.{List, [], _∷_}
 use lib.ListN.{length}
 use Rattle.sets.specs.Sets.{mem, insert}
 use Rattle.cube.specs.Cube.{width}
-use Rattle.expression.specs.Words.{Placed}
 use Rattle.cokernel.specs.Cokernels.{above, common, isCokernel, opens}
 
 -- the cube c alone, or none
@@ -30,8 +29,3 @@ pub record Walks (f : List (List ℕ)) (p m : List ℕ) (j : ℕ) : Type 0 where
   pub inside : j ≤ 2 * width
   pub low : (l : ℕ) → mem l p ≡ true → l < j
   pub common : m ≡ common (above f p)
-
--- the cubes g stand from place i on, and r is the place after them
-pub record Wrote (old new : List ℕ) (i : ℕ) (g : List (List ℕ)) (r : ℕ) : Type 0 where
-  pub next : r ≡ i + length g
-  pub placed : Placed old new i g

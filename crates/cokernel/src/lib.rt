@@ -11,10 +11,10 @@ ghost use lib.ListN.{length};
 ghost use Rattle.sets.specs.Lists.{all};
 ghost use Rattle.sets.specs.Sets.{without, meet, same};
 ghost use Rattle.cube.specs.Cube.{width, lits};
-ghost use Rattle.expression.specs.Words.{cubesOf, Written};
+ghost use Rattle.expression.specs.Words.{cubesOf, Written, Appends};
 ghost use Rattle.cokernel.specs.Cokernels.{beyond, cokernels};
 ghost use Rattle.cokernel.specs.Answers.{refusedBy, Told};
-ghost use Rattle.cokernel.specs.Parts.{only, Shared, Branched, Walks, Wrote};
+ghost use Rattle.cokernel.specs.Parts.{only, Shared, Branched, Walks};
 
 // The fewest cubes that contain a co-kernel.
 const FEWEST: usize = 2;
@@ -157,7 +157,7 @@ fn count_beyond(f: &[u64], p: Cube, m: Cube, j: u32, most: usize) -> usize
 // The cube c at place i, if it is wanted; the place after it.
 fn put_if(o: &mut [u64], i: usize, c: Cube, wanted: bool) -> usize
     requires { ⌜ i + length (only wanted (lits c)) ≤ length (cubesOf (now o)) ⌝ }
-    ensures { λ r. ⌜ Wrote (now (o .entry)) (now (o .exit)) i (only wanted (lits c)) r ⌝ }
+    ensures { λ r. ⌜ Appends (now (o .entry)) (now (o .exit)) i (only wanted (lits c)) r ⌝ }
 {
     if !wanted {
         return i;
@@ -170,7 +170,7 @@ fn put_if(o: &mut [u64], i: usize, c: Cube, wanted: bool) -> usize
 fn write_beyond(f: &[u64], p: Cube, m: Cube, j: u32, o: &mut [u64], i: usize) -> usize
     requires walks { ⌜ Walks (cubesOf (now f)) (lits p) (lits m) j ⌝ }
     requires room { ⌜ i + length (beyond (2 * width - j) (cubesOf (now f)) (lits p) j) ≤ length (cubesOf (now o)) ⌝ }
-    ensures { λ r. ⌜ Wrote (now (o .entry)) (now (o .exit)) i (beyond (2 * width - j) (cubesOf (now (f .entry))) (lits p) j) r ⌝ }
+    ensures { λ r. ⌜ Appends (now (o .entry)) (now (o .exit)) i (beyond (2 * width - j) (cubesOf (now (f .entry))) (lits p) j) r ⌝ }
 {
     if j == cube::LITERALS {
         return i;

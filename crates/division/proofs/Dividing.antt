@@ -10,13 +10,16 @@ use borrow.Author.Tests.{not-true}
 use Rattle.sets.specs.Lists.{any, all, total, keep, pairwise}
 use Rattle.sets.specs.Sets.{mem, sub, apart, asc, proper, union, without, same, before}
 use Rattle.sets.proofs.Truth.{iff, both, together, either, or-left, or-right, decided, clash, refuted}
-use Rattle.sets.proofs.Lists.{_∈_, any-in, any-out, all-in, all-out, keep-in, keep-out, keep-all, map-in, map-out, map-fixed, total-split, total-or, total-same, ahead, pairwise-keep, pairwise-imp, pairwise-map}
+use Rattle.sets.proofs.Lists.{_∈_, any-in, any-out, all-in, all-out, keep-in, keep-out, keep-all, map-in, map-out, map-fixed, total-split, total-or}
+use Rattle.sets.proofs.Lists.{total-same, ahead, pairwise-keep, pairwise-imp, pairwise-map}
 use Rattle.sets.proofs.Orders.{before-order, ext-in}
-use Rattle.sets.proofs.Sets.{sub-in, apart-in, apart-out, union-mem, union-all, union-left, union-right, union-comm, without-apart, rejoin, unjoin, sub-antisym, sub-out, same-eq, same-self, eq-same}
+use Rattle.sets.proofs.Sets.{sub-in, apart-in, apart-out, union-mem, union-all, union-left, union-right, union-comm, without-apart, rejoin, unjoin}
+use Rattle.sets.proofs.Sets.{sub-antisym, sub-out, same-eq, same-self, eq-same}
 use Rattle.expression.specs.Expression.{isCube, loose, expression, sort, ordered}
 use Rattle.expression.proofs.Sorting.{sort-in, sort-out, total-sort, loose-differ, expression-sort}
 use Rattle.division.specs.Division.{divides, leftOver, quotient, product, remainder}
-use Rattle.division.proofs.Quotients.{cube-asc, expression-keep, DividesAll, divides-in, quotient-in, quotient-out, quotient-form, product-in, product-out, remainder-in, remainder-out, remainder-form}
+use Rattle.division.proofs.Quotients.{cube-asc, expression-keep, DividesAll, divides-in, quotient-in, quotient-out, quotient-form, product-in}
+use Rattle.division.proofs.Quotients.{product-out, remainder-in, remainder-out, remainder-form}
 
 module _ (f d : List (List ℕ)) (ef : expression f ≡ true) (ed : expression d ≡ true) where
   -- the quotient is every cube that shares no literal with any cube of d and whose union with each is in f
@@ -66,7 +69,8 @@ module _ (f d : List (List ℕ)) (ef : expression f ≡ true) (ed : expression d
             | inl p ↦
                 let s = product-out (quotient f d) d e p in
                 let w = both (all v (s .0)) (all v (s .1)) (sym (union-all v (s .0) (s .1)) ∙ subst (λ z. all v z ≡ true) (s .4) t) in
-                or-left (any (all v) d && any (all v) (quotient f d)) (any (all v) (remainder f d)) (together (any (all v) d) (any (all v) (quotient f d)) (any-in (all v) (s .3) (w .1)) (any-in (all v) (s .2) (w .0)))
+                or-left (any (all v) d && any (all v) (quotient f d)) (any (all v) (remainder f d))
+                (together (any (all v) d) (any (all v) (quotient f d)) (any-in (all v) (s .3) (w .1)) (any-in (all v) (s .2) (w .0)))
             | inr p ↦ or-right (any (all v) d && any (all v) (quotient f d)) (any (all v) (remainder f d)) (any-in (all v) (remainder-in f d e m p) t)
           ]
 
@@ -76,7 +80,8 @@ module _ (f d : List (List ℕ)) (ef : expression f ≡ true) (ed : expression d
             let w = both (any (all v) d) (any (all v) (quotient f d)) p in
             let i = any-out (all v) d (w .0) in
             let j = any-out (all v) (quotient f d) (w .1) in
-            any-in (all v) ((quotient-out f d (j .0) (j .1) (i .0) (i .1)) .1) (union-all v (j .0) (i .0) ∙ together (all v (j .0)) (all v (i .0)) (j .2) (i .2))
+            any-in (all v) ((quotient-out f d (j .0) (j .1) (i .0) (i .1)) .1)
+            (union-all v (j .0) (i .0) ∙ together (all v (j .0)) (all v (i .0)) (j .2) (i .2))
         | inr p ↦ let i = any-out (all v) (remainder f d) p in any-in (all v) ((remainder-out f d (i .0) (i .1)) .0) (i .2)
       ]
 
@@ -147,9 +152,11 @@ module _ (f d : List (List ℕ)) (ef : expression f ≡ true) (ed : expression d
   count-one c a k =
       total-same differ differ-flip differ-self one (keep (unions c) f) (map (union c) d)
       (pairwise-keep differ (unions c) f (differ-all f ef))
-      (pairwise-map differ differ (union c) d (λ b b′ i j h. differ-in (union c b) (union c b′) (λ e. differ-out b b′ h (factor-right c b b′ a k i j e))) (differ-all d ed))
+      (pairwise-map differ differ (union c) d (λ b b′ i j h. differ-in (union c b) (union c b′) (λ e. differ-out b b′ h (factor-right c b b′ a k i j e)))
+      (differ-all d ed))
       (λ e m. let r = unions-out c e ((keep-out (unions c) f m) .1) in Memᴰ·cast (r .2) (map-in (union c) (r .1)))
-      (λ e m. let r = map-out (union c) d m in Memᴰ·cast (r .2) (keep-in (unions c) ((k (r .0) (r .1)) .1) (any-in (λ b. same (union c (r .0)) (union c b)) (r .1) (same-self (union c (r .0))))))
+      (λ e m. let r = map-out (union c) d m in Memᴰ·cast (r .2)
+      (keep-in (unions c) ((k (r .0) (r .1)) .1) (any-in (λ b. same (union c (r .0)) (union c b)) (r .1) (same-self (union c (r .0))))))
       ∙ ones (map (union c) d) ∙ length-map d (union c)
 
   count-all : (q : List (List ℕ)) → pairwise differ q ≡ true → ((c : List ℕ) → c ∈ q → asc c ≡ true) → ((c : List ℕ) → c ∈ q → DividesAll f d c)
@@ -162,7 +169,8 @@ module _ (f d : List (List ℕ)) (ef : expression f ≡ true) (ed : expression d
       let x = unions-out c e s in
       let y = product-out q d e t in
       differ-out c (y .0) (all-out (differ c) (y .2) (w .0))
-      (factor-left c (y .0) (x .0) (y .1) (a c (here refl)) (a (y .0) (there (y .2))) (k c (here refl)) (k (y .0) (there (y .2))) (x .1) (y .3) (sym (x .2) ∙ y .4)))
+      (factor-left c (y .0) (x .0) (y .1) (a c (here refl)) (a (y .0) (there (y .2))) (k c (here refl)) (k (y .0) (there (y .2))) (x .1) (y .3)
+      (sym (x .2) ∙ y .4)))
       ∙ omega (arith, count-one c (a c (here refl)) (k c (here refl)), count-all q (w .1) (λ x m. a x (there m)) (λ x m. k x (there m)))
 
   -- as many cubes as quotient times divisor and the remainder
@@ -195,7 +203,8 @@ module _ (f : List (List ℕ)) (c : List ℕ) (ef : expression f ≡ true) (ec :
     (λ m. let (i, s) = keep-out (λ e. not (sub c e)) f (sort-out _ m) in
         (i, λ x b j k h. clash (subst (λ z. sub c z ≡ true) (sym (h ∙ ap (union x) (List·Memᴰ·eq-of-singleton k))) (union-right x c)) (not-true _ s))),
     (λ (i, k). sort-in (keep-in (λ e. not (sub c e)) i (ap not (refuted (λ s.
-        k (without e c) c (rw quotient-cube (sort-in (map-in (λ e. without e c) (keep-in (sub c) i s)))) (here refl) (sym (rejoin e c (cube-asc f ef i) ac s))))))),
+        k (without e c) c (rw quotient-cube (sort-in (map-in (λ e. without e c) (keep-in (sub c) i s)))) (here refl)
+        (sym (rejoin e c (cube-asc f ef i) ac s))))))),
   )))
 
 -- ---- division by constant 1

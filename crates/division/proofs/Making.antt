@@ -1,7 +1,7 @@
 -- What the parts of a division compute is the quotient and the remainder: the lists made of the dividend in cube order. Assumes nothing.
 use Prim.Native.Nat.{ℕ, _<_, _≤_}
 use mathlib.Core.Path.{_≡_, refl, sym, _∙_, ap, subst}
-use mathlib.Core.Bool.{Bool, true, not, _&&_}
+use mathlib.Core.Bool.{true, not, _&&_}
 use mathlib.Core.List.{List, [], _∷_}
 use native.Mathlib.Omega.{arith}
 use lib.ListN.{length, length-map}
@@ -9,7 +9,7 @@ use borrow.Author.Tests.{not-true}
 use Rattle.sets.specs.Lists.{keep}
 use Rattle.sets.specs.Sets.{sub, asc, without, before}
 use Rattle.sets.proofs.Truth.{iff, both, together, clash, refuted}
-use Rattle.sets.proofs.Lists.{all-in, all-out, keep-in, keep-out, keep-all, keep-le, pairwise-keep}
+use Rattle.sets.proofs.Lists.{all-in, all-out, keep-in, keep-out, keep-length, pairwise-keep}
 use Rattle.sets.proofs.Orders.{before-order, ext-in}
 use Rattle.sets.proofs.Sets.{rejoin, unjoin, union-right}
 use Rattle.expression.specs.Expression.{expression, has, sort}
@@ -17,12 +17,10 @@ use Rattle.expression.proofs.Members.{has-in, has-out}
 use Rattle.expression.proofs.Sorting.{sort-in, sort-out, expression-sort}
 use Rattle.division.specs.Division.{divides, leftOver, quotient, product, remainder}
 use Rattle.division.specs.Parts.{divisors, spared}
-use Rattle.division.proofs.Quotients.{cube-asc, quotient-in, quotient-out, quotient-form, product-in, product-out, remainder-in, remainder-out, remainder-form}
+use Rattle.division.proofs.Quotients.{cube-asc, quotient-in, quotient-out, quotient-form, product-in, product-out, remainder-in, remainder-out}
+use Rattle.division.proofs.Quotients.{remainder-form}
 
 -- ---- the lists, one cube of the dividend after the other
-
-pub keep-length : {A : Type 0} (p : A → Bool) (l : List A) → length (keep p l) ≤ length l
-keep-length p l = rw (keep-all (λ x. true) l (all-in (λ x. true) l (λ x m. refl))) at (keep-le p (λ x. true) l (λ x m h. refl))
 
 module _ (f d : List (List ℕ)) (first : List ℕ) where
   -- the divisors that the cubes l give
@@ -61,7 +59,8 @@ module _ (f d : List (List ℕ)) (ef : expression f ≡ true) (ed : expression d
   spared-product e a = iff
       (λ h. ap not (refuted (λ t.
       let (c, b, i, j, u) = product-out (quotient f d) d e t in
-      let w : without e b ≡ c = ap (λ z. without z b) u ∙ unjoin c b (cube-asc (quotient f d) ((quotient-form f d ef ed) .0) i) (cube-asc d ed j) ((quotient-out f d c i b j) .0) in
+      let w : without e b ≡ c = ap (λ z. without z b) u ∙ unjoin c b (cube-asc (quotient f d) ((quotient-form f d ef ed) .0) i) (cube-asc d ed j)
+      ((quotient-out f d c i b j) .0) in
       clash (together (sub b e) (has (without e b) (quotient f d)) (subst (λ z. sub b z ≡ true) (sym u) (union-right c b)) (rw w (has-in i)))
       (not-true _ (all-out (λ b. not (sub b e && has (without e b) (quotient f d))) j h)))))
       (λ h. all-in (λ b. not (sub b e && has (without e b) (quotient f d))) d (λ b j. ap not (refuted (λ t.

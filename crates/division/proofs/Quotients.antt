@@ -30,7 +30,8 @@ cube-proper {c} f h m = (both (asc c) (proper c) (all-out isCube m ((both (all i
 pub expression-keep : (p : List ℕ → Bool) (f : List (List ℕ)) → expression f ≡ true → expression (keep p f) ≡ true
 expression-keep p f h =
     let q = both (all isCube f) (pairwise loose f) h in
-    together (all isCube (keep p f)) (pairwise loose (keep p f)) (all-in isCube (keep p f) (λ c m. all-out isCube ((keep-out p f m) .0) (q .0))) (pairwise-keep loose p f (q .1))
+    together (all isCube (keep p f)) (pairwise loose (keep p f)) (all-in isCube (keep p f) (λ c m. all-out isCube ((keep-out p f m) .0) (q .0)))
+    (pairwise-keep loose p f (q .1))
 
 -- ---- what divides
 
@@ -92,7 +93,8 @@ module _ (f : List (List ℕ)) (c : List ℕ) (ef : expression f ≡ true) (ac :
 
 -- ---- the quotient
 
-pub quotient-in : (f d : List (List ℕ)) (x : List ℕ) → expression f ≡ true → expression d ≡ true → 0 < length d → asc x ≡ true → DividesAll f d x → x ∈ quotient f d
+pub quotient-in : (f d : List (List ℕ)) (x : List ℕ) → expression f ≡ true → expression d ≡ true → 0 < length d → asc x ≡ true → DividesAll f d x
+    → x ∈ quotient f d
 unfolding quotient
 quotient-in f [] x ef ed n a k = absurd (omega arith)
 quotient-in f (c ∷ d) x ef ed n a k =
@@ -109,7 +111,8 @@ pub quotient-form : (f d : List (List ℕ)) → expression f ≡ true → expres
     → (expression (quotient f d) ≡ true) × (ordered (quotient f d) ≡ true)
 unfolding quotient
 quotient-form f [] ef ed = (refl, refl)
-quotient-form f (c ∷ d) ef ed = expression-sort _ (expression-keep (divides f (c ∷ d)) (leftOver f c) (left-expression f c ef (cube-asc (c ∷ d) ed (here refl))))
+quotient-form f (c ∷ d) ef ed = expression-sort _ (expression-keep (divides f (c ∷ d)) (leftOver f c)
+    (left-expression f c ef (cube-asc (c ∷ d) ed (here refl))))
 
 -- ---- unions of a cube of q and a cube of d
 

@@ -1,22 +1,22 @@
 -- Which divisions are refused, and with which number; what is known of the expressions where none is. Assumes nothing.
-use Prim.Native.Nat.{ℕ, _*_, _<_, _≤_}
+use Prim.Native.Nat.{ℕ, _<_, _≤_}
 use mathlib.Core.Path.{_≡_, refl, sym, subst}
-use mathlib.Core.Bool.{Bool, true, false, cond, _&&_}
-use mathlib.Core.List.{List, [], _∷_}
+use mathlib.Core.Bool.{Bool, true, false, cond}
+use mathlib.Core.List.{List}
 use mathlib.Core.Option.{Option, none, some}
 use native.Mathlib.Omega.{arith}
 use lib.Dec.{ltb}
 use lib.ListN.{length}
-use borrow.Author.Tests.{ltb-false, lt-ltb, le-ltb}
+use borrow.Author.Tests.{lt-ltb, le-ltb}
 use Rattle.sets.specs.Lists.{isNil, orElse}
-use Rattle.sets.proofs.Truth.{both, or-right}
+use Rattle.sets.proofs.Truth.{or-right}
 use Rattle.sets.proofs.First.{some-not-none}
-use Rattle.expression.specs.Words.{cubesOf, spareOf, Written}
-use Rattle.expression.specs.Expression.{expression}
-use Rattle.expression.specs.Answers.{mostHanded, refusal, refusalOf}
+use Rattle.sets.proofs.Rows.{nil-of, nil-some, some-nil}
+use Rattle.expression.specs.Words.{cubesOf, Written}
+use Rattle.expression.specs.Answers.{refusal, refusalOf}
 use Rattle.expression.specs.declared.Verdict.{Verdict}
 use Rattle.expression.specs.declared.Verdict.the-variants.{Accepted, Refused}
-use Rattle.expression.proofs.Words.{cubes-length}
+use Rattle.expression_accept.proofs.Accepting as accept
 use Rattle.division.specs.Division.{quotient, remainder}
 use Rattle.division.specs.Answers.{either, roomed, refusedBy, Told}
 use Rattle.division.specs.Parts.{noCubes, admitted, cramped, Handed}
@@ -38,22 +38,10 @@ module _ (a b : Verdict) (k : ℕ) (e : a ≡ Refused k) where
 
 -- ---- 6, 7, then 8
 
-nil-empty : {A : Type 0} (l : List A) → length l ≡ 0 → isNil l ≡ true
-nil-empty [] h = refl
-nil-empty (x ∷ l) h = absurd (omega arith)
-
-nil-some : {A : Type 0} (l : List A) → (length l ≡ 0 → ⊥) → isNil l ≡ false
-nil-some [] h = absurd (h refl)
-nil-some (x ∷ l) h = refl
-
-some-nil : {A : Type 0} (l : List A) → isNil l ≡ false → 0 < length l
-some-nil [] h = absurd (mathlib.Core.Bool.true≢false h)
-some-nil (x ∷ l) h = omega arith
-
 module _ (d : List ℕ) where
   pub no-cubes : length (cubesOf d) ≡ 0 → some 8 ≡ noCubes d
   unfolding noCubes
-  no-cubes z = rw (nil-empty (cubesOf d) z)
+  no-cubes z = rw (nil-of (cubesOf d) z)
 
   pub some-cubes : (length (cubesOf d) ≡ 0 → ⊥) → none ≡ noCubes d
   unfolding noCubes
@@ -71,26 +59,9 @@ module _ (f d : List ℕ) (v : Verdict) (h : refusalOf v ≡ either (refusal f) 
 
 -- ---- what is known where neither is refused
 
-pub record Accepting (ws : List ℕ) : Type 0 where
-  pub cubes : expression (cubesOf ws) ≡ true
-  pub few : length (cubesOf ws) ≤ mostHanded
-
-accepting : (ws : List ℕ) → refusal ws ≡ none → Accepting ws
-unfolding refusal
-accepting ws h = go (ltb (2 * mostHanded) (length ws)) refl (isNil (spareOf ws) && expression (cubesOf ws)) refl h
-  where
-    go : (s : Bool) → ltb (2 * mostHanded) (length ws) ≡ s → (t : Bool) → (isNil (spareOf ws) && expression (cubesOf ws)) ≡ t
-        → cond {A = Option ℕ} s (some 6) (cond t none (some 7)) ≡ none → Accepting ws
-    go true e t k h = some-not-none (some 6) refl h
-    go false e true k h = record {
-      cubes = (both (isNil (spareOf ws)) (expression (cubesOf ws)) k) .1;
-      few = omega (arith, ltb-false (2 * mostHanded) (length ws) e, cubes-length ws);
-    }
-    go false e false k h = some-not-none (some 7) refl h
-
 pub record Admitted (f d : List ℕ) : Type 0 where
-  pub dividend : Accepting f
-  pub divisor : Accepting d
+  pub dividend : accept.Accepted f
+  pub divisor : accept.Accepted d
   pub some : 0 < length (cubesOf d)
   pub neither : either (refusal f) (refusal d) ≡ none
 
@@ -106,11 +77,12 @@ pub admitted-known : (f d : List ℕ) → admitted f d ≡ none → Admitted f d
 unfolding admitted noCubes
 admitted-known f d h = go (either (refusal f) (refusal d)) refl (isNil (cubesOf d)) refl h
   where
-    go : (o : Option ℕ) → either (refusal f) (refusal d) ≡ o → (t : Bool) → isNil (cubesOf d) ≡ t → orElse o (cond t (some 8) none) ≡ none → Admitted f d
+    go : (o : Option ℕ) → either (refusal f) (refusal d) ≡ o → (t : Bool) → isNil (cubesOf d) ≡ t → orElse o (cond t (some 8) none) ≡ none
+        → Admitted f d
     go (some k) e t n h = some-not-none (some k) refl h
     go none e true n h = some-not-none (some 8) refl h
     go none e false n h = let q = either-none (refusal f) (refusal d) e in
-        record { dividend = accepting f (q .0); divisor = accepting d (q .1); some = some-nil (cubesOf d) n; neither = e }
+        record { dividend = accept.accepted-out f (q .0); divisor = accept.accepted-out d (q .1); some = some-nil (cubesOf d) n; neither = e }
 
 -- ---- too little room
 
@@ -121,7 +93,8 @@ module _ (a b : List (List ℕ)) (q r : List ℕ) where
 
   pub cramped-second : length (cubesOf r) < length b → cramped a b q r ≡ true
   unfolding cramped
-  cramped-second h = or-right (ltb (length (cubesOf q)) (length a)) (ltb (length (cubesOf r)) (length b)) (lt-ltb (length (cubesOf r)) (length b) h)
+  cramped-second h =
+      or-right (ltb (length (cubesOf q)) (length a)) (ltb (length (cubesOf r)) (length b)) (lt-ltb (length (cubesOf r)) (length b) h)
 
   pub cramped-none : length a ≤ length (cubesOf q) → length b ≤ length (cubesOf r) → cramped a b q r ≡ false
   unfolding cramped
@@ -160,15 +133,18 @@ module _ (f d q r : List ℕ) where
 
   late : Admitted f d → refusedBy f d q r ≡ cond tight (some 9) none
   unfolding refusedBy roomed cramped
-  late m = subst (λ o. after o (roomed f d q r) ≡ cond tight (some 9) none) (sym (m .neither)) (rw (nil-some (cubesOf d) (λ z. omega (arith, m .some))))
+  late m =
+      subst (λ o. after o (roomed f d q r) ≡ cond tight (some 9) none) (sym (m .neither)) (rw (nil-some (cubesOf d) (λ z. omega (arith, m .some))))
 
   -- what is handed over is the answer
-  pub told-late : {a b : List (List ℕ)} (q′ r′ : List ℕ) (t : Division) → Admitted f d → a ≡ quotient (cubesOf f) (cubesOf d) → b ≡ remainder (cubesOf f) (cubesOf d)
+  pub told-late : {a b : List (List ℕ)} (q′ r′ : List ℕ) (t : Division) → Admitted f d
+      → a ≡ quotient (cubesOf f) (cubesOf d) → b ≡ remainder (cubesOf f) (cubesOf d)
       → Handed (cramped a b q r) a b q r q′ r′ t → Told (refusedBy f d q r) f d q r q′ r′ t
   told-late {a} {b} q′ r′ t m e g h =
       rw (late m) (go tight (subst (λ x. Handed (cramped x (remainder (cubesOf f) (cubesOf d)) q r) x (remainder (cubesOf f) (cubesOf d)) q r q′ r′ t) e
       (subst (λ x. Handed (cramped a x q r) a x q r q′ r′ t) g h)))
     where
-      go : (s : Bool) → Handed s (quotient (cubesOf f) (cubesOf d)) (remainder (cubesOf f) (cubesOf d)) q r q′ r′ t → Told (cond s (some 9) none) f d q r q′ r′ t
+      go : (s : Bool) → Handed s (quotient (cubesOf f) (cubesOf d)) (remainder (cubesOf f) (cubesOf d)) q r q′ r′ t
+          → Told (cond s (some 9) none) f d q r q′ r′ t
       go true h = h
       go false h = h

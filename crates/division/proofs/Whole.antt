@@ -1,26 +1,28 @@
 -- What the steps of a division leave: the dividend in cube order, the quotient and the remainder, each in a room of its own. Assumes nothing.
-use Prim.Native.Nat.{ℕ, _≤_}
+use Prim.Native.Nat.{ℕ, _*_, _≤_}
 use mathlib.Core.Path.{_≡_, sym, _∙_, ap, subst}
 use mathlib.Core.Bool.{true}
 use mathlib.Core.List.{List}
-use lib.ListN.{length, replicate}
+use lib.ListN.{length, replicate, length-replicate}
 use Rattle.sets.specs.Lists.{keep}
-use Rattle.expression.specs.Words.{cubesOf}
+use Rattle.expression.specs.Words.{cubeWords, cubesOf, Appends}
 use Rattle.expression.specs.Expression.{sort, ordered}
-use Rattle.expression.proofs.Words.{cubes-length}
+use Rattle.expression.specs.Answers.{mostHanded}
+use Rattle.expression.proofs.Words.{room-cubes}
+use Rattle.expression.proofs.Placing.{appends-as}
 use Rattle.expression.proofs.Sorting.{sort-length, expression-sort}
 use Rattle.division.specs.Division.{quotient, remainder}
-use Rattle.division.specs.Parts.{OrderedRoom, ListedFront, divisors, spared}
+use Rattle.division.specs.Parts.{OrderedRoom, divisors, spared, sparedOf}
 use Rattle.division.proofs.Quotients.{quotient-form}
 use Rattle.division.proofs.Making.{made-quotient, made-remainder}
 use Rattle.division.proofs.Refusing.{Admitted}
 
--- a room of 1,024 cubes
+-- a room for an expression handed in
 abbrev pub blank : List ℕ
-blank = replicate 2048 0
+blank = replicate (cubeWords * mostHanded) 0
 
-pub blank-length : length (cubesOf blank) ≡ 1024
-blank-length = cubes-length blank
+blank-length : length (cubesOf blank) ≡ mostHanded
+blank-length = room-cubes blank mostHanded (length-replicate {A = ℕ} (cubeWords * mostHanded) 0)
 
 module _ {f d : List ℕ} (m : Admitted f d) where
   pub blank-room : length (cubesOf f) ≤ length (cubesOf blank)
@@ -28,21 +30,22 @@ module _ {f d : List ℕ} (m : Admitted f d) where
 
   module _ (s : List ℕ) (e : cubesOf s ≡ sort (cubesOf f)) where
     pub sorted-room : length (cubesOf s) ≤ length (cubesOf blank)
-    sorted-room = subst (λ g. length g ≤ length (cubesOf blank)) (sym e) (subst (λ n. n ≤ length (cubesOf blank)) (sym (sort-length (cubesOf f))) blank-room)
+    sorted-room = rw (e, sort-length (cubesOf f)) blank-room
 
     pub sorted-ready : OrderedRoom s blank
     sorted-ready = record { order = rw e ((expression-sort (cubesOf f) (m .dividend .cubes)) .1); room = sorted-room }
 
-    pub listed-quotient : {old new : List ℕ} {n : ℕ} → ListedFront old new n (sort (divisors (cubesOf s) (cubesOf d))) → ListedFront old new n (quotient (cubesOf f) (cubesOf d))
-    listed-quotient {old} {new} {n} l =
-        subst (λ g. ListedFront old new n g) (ap (λ g. sort (divisors g (cubesOf d))) e ∙ made-quotient (cubesOf f) (cubesOf d) (m .dividend .cubes) (m .divisor .cubes) (m .some)) l
+    pub listed-quotient : {old new : List ℕ} {n : ℕ} → Appends old new 0 (sort (divisors (cubesOf s) (cubesOf d))) n
+        → Appends old new 0 (quotient (cubesOf f) (cubesOf d)) n
+    listed-quotient l =
+        appends-as (ap (λ g. sort (divisors g (cubesOf d))) e ∙ made-quotient (cubesOf f) (cubesOf d) (m .dividend .cubes) (m .divisor .cubes) (m .some)) l
 
     module _ (q : List ℕ) (h : cubesOf q ≡ quotient (cubesOf f) (cubesOf d)) where
       pub quotient-order : ordered (cubesOf q) ≡ true
       quotient-order = rw h ((quotient-form (cubesOf f) (cubesOf d) (m .dividend .cubes) (m .divisor .cubes)) .1)
 
-      pub listed-remainder : {old new : List ℕ} {n : ℕ} → ListedFront old new n (keep (spared (cubesOf q) (cubesOf d)) (cubesOf s)) → ListedFront old new n (remainder (cubesOf f) (cubesOf d))
-      listed-remainder {old} {new} {n} l =
-          subst (λ g. ListedFront old new n g)
+      pub listed-remainder : {old new : List ℕ} {n : ℕ} → Appends old new 0 (sparedOf q d s) n → Appends old new 0 (remainder (cubesOf f) (cubesOf d)) n
+      listed-remainder l =
+          appends-as
           (ap (λ g. keep (spared g (cubesOf d)) (cubesOf s)) h ∙ ap (keep (spared (quotient (cubesOf f) (cubesOf d)) (cubesOf d))) e
           ∙ made-remainder (cubesOf f) (cubesOf d) (m .dividend .cubes) (m .divisor .cubes) (m .some)) l

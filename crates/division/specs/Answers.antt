@@ -23,7 +23,8 @@ either (some k) (some l) = cond (ltb l k) (some l) (some k)
 unfoldable pub roomed : List ℕ → List ℕ → List ℕ → List ℕ → Option ℕ
 roomed f d q r =
     cond (isNil (cubesOf d)) (some 8)
-    (cond (ltb (length (cubesOf q)) (length (quotient (cubesOf f) (cubesOf d))) || ltb (length (cubesOf r)) (length (remainder (cubesOf f) (cubesOf d)))) (some 9) none)
+    (cond (ltb (length (cubesOf q)) (length (quotient (cubesOf f) (cubesOf d))) || ltb (length (cubesOf r)) (length (remainder (cubesOf f) (cubesOf d))))
+    (some 9) none)
 
 -- 6 for either one, 7 for either one, 8, 9
 unfoldable pub refusedBy : List ℕ → List ℕ → List ℕ → List ℕ → Option ℕ
@@ -35,3 +36,7 @@ Told (some k) f d q r q′ r′ a = (a ≡ Refused k) × (q′ ≡ q) × (r′ �
 Told none f d q r q′ r′ a =
     (a ≡ Done (length (quotient (cubesOf f) (cubesOf d))) (length (remainder (cubesOf f) (cubesOf d))))
     × Written q q′ (quotient (cubesOf f) (cubesOf d)) × Written r r′ (remainder (cubesOf f) (cubesOf d))
+
+-- what f divided by d gives in the rooms q and r
+abbrev pub Divided : List ℕ → List ℕ → List ℕ → List ℕ → List ℕ → List ℕ → Division → Type 0
+Divided f d q r q′ r′ a = Told (refusedBy f d q r) f d q r q′ r′ a

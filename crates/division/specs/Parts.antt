@@ -29,11 +29,6 @@ pub record OrderedRoom (f to : List ℕ) : Type 0 where
   pub order : ordered (cubesOf f) ≡ true
   pub room : length (cubesOf f) ≤ length (cubesOf to)
 
--- the cubes f stand at the front, and n is their number
-pub record ListedFront (old new : List ℕ) (n : ℕ) (f : List (List ℕ)) : Type 0 where
-  pub count : n ≡ length f
-  pub written : Written old new f
-
 -- what is left of the cubes of f without the first cube of d, where it divides
 abbrev pub divisors : List (List ℕ) → List (List ℕ) → List (List ℕ)
 divisors f d = keep (divides f d) (leftOver f (getD d 0 []))
@@ -41,6 +36,10 @@ divisors f d = keep (divides f d) (leftOver f (getD d 0 []))
 -- no cube of d is in e with what is left of e in q
 unfoldable pub spared : List (List ℕ) → List (List ℕ) → List ℕ → Bool
 spared q d e = all (λ b. not (sub b e && has (without e b) q)) d
+
+-- the cubes of f that are spared, in their order
+abbrev pub sparedOf : List ℕ → List ℕ → List ℕ → List (List ℕ)
+sparedOf q d f = keep (spared (cubesOf q) (cubesOf d)) (cubesOf f)
 
 -- a room has fewer places than there are cubes for it
 unfoldable pub cramped : List (List ℕ) → List (List ℕ) → List ℕ → List ℕ → Bool
@@ -50,3 +49,7 @@ cramped f g q r = ltb (length (cubesOf q)) (length f) || ltb (length (cubesOf r)
 abbrev pub Handed : Bool → List (List ℕ) → List (List ℕ) → List ℕ → List ℕ → List ℕ → List ℕ → Division → Type 0
 Handed true f g q r q′ r′ t = (t ≡ Refused 9) × (q′ ≡ q) × (r′ ≡ r)
 Handed false f g q r q′ r′ t = (t ≡ Done (length f) (length g)) × Written q q′ f × Written r r′ g
+
+-- the cubes of a and of b, each in its room
+abbrev pub HandedOver : List ℕ → List ℕ → List ℕ → List ℕ → List ℕ → List ℕ → Division → Type 0
+HandedOver a b q r q′ r′ t = Handed (cramped (cubesOf a) (cubesOf b) q r) (cubesOf a) (cubesOf b) q r q′ r′ t

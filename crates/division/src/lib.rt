@@ -6,15 +6,14 @@ ghost use mathlib.Core.Path.{_≡_};
 ghost use mathlib.Core.Bool.{true, _&&_};
 ghost use Prim.Native.Nat.{_≤_};
 ghost use lib.ListN.{length};
-ghost use Rattle.sets.specs.Lists.{keep};
 ghost use Rattle.sets.specs.Sets.{sub, apart, union, without};
 ghost use Rattle.cube.specs.Cube.{lits};
-ghost use Rattle.expression.specs.Words.{cubesOf};
+ghost use Rattle.expression.specs.Words.{cubesOf, Appends};
 ghost use Rattle.expression.specs.Expression.{has, sort, ordered};
 ghost use Rattle.expression.specs.Answers.{refusalOf};
 ghost use Rattle.division.specs.Division.{divides};
-ghost use Rattle.division.specs.Answers.{either, refusedBy, Told};
-ghost use Rattle.division.specs.Parts.{noCubes, admitted, OrderedRoom, ListedFront, divisors, spared, cramped, Handed};
+ghost use Rattle.division.specs.Answers.{either, Divided};
+ghost use Rattle.division.specs.Parts.{noCubes, admitted, OrderedRoom, divisors, spared, sparedOf, HandedOver};
 
 pub enum Division {
     Done(usize, usize),
@@ -60,26 +59,13 @@ fn admit(f: &[u64], d: &[u64]) -> Verdict
     accept_divisor(d)
 }
 
-// The cubes of s at the front of `to`, in their order, and their number.
-fn copy(s: &[u64], to: &mut [u64]) -> usize
-    requires { ⌜ length (cubesOf (now s)) ≤ length (cubesOf (now to)) ⌝ }
-    ensures { λ r. ⌜ ListedFront (now (to .entry)) (now (to .exit)) r (cubesOf (now (s .entry))) ⌝ }
-{
-    let n = expression::number(s);
-    let mut i = 0;
-    while i < n {
-        expression::put_cube(to, i, expression::cube_at(s, i));
-        i += 1;
-    }
-    n
-}
-
-// The same, in cube order.
+// The cubes of s at the front of `to`, in cube order, and their number.
 fn copy_sorted(s: &[u64], to: &mut [u64]) -> usize
     requires { ⌜ length (cubesOf (now s)) ≤ length (cubesOf (now to)) ⌝ }
-    ensures { λ r. ⌜ ListedFront (now (to .entry)) (now (to .exit)) r (sort (cubesOf (now (s .entry)))) ⌝ }
+    ensures { λ r. ⌜ Appends (now (to .entry)) (now (to .exit)) 0 (sort (cubesOf (now (s .entry)))) r ⌝ }
 {
-    let n = copy(s, to);
+    let n = expression::number(s);
+    expression::copy(s, 0, n, to, 0);
     expression_sort::sort_part(to, 0, n);
     n
 }
@@ -129,7 +115,7 @@ fn fits_all(f: &[u64], d: &[u64], c: Cube) -> bool
 // What is left of each cube of f without the first cube of d, where it fits all of d.
 fn list_quotient(f: &[u64], d: &[u64], to: &mut [u64]) -> usize
     requires { ⌜ OrderedRoom (now f) (now to) ⌝ }
-    ensures { λ r. ⌜ ListedFront (now (to .entry)) (now (to .exit)) r (divisors (cubesOf (now (f .entry))) (cubesOf (now (d .entry)))) ⌝ }
+    ensures { λ r. ⌜ Appends (now (to .entry)) (now (to .exit)) 0 (divisors (cubesOf (now (f .entry))) (cubesOf (now (d .entry)))) r ⌝ }
 {
     let first = expression::cube_at(d, 0);
     let n = expression::number(f);
@@ -154,7 +140,7 @@ fn list_quotient(f: &[u64], d: &[u64], to: &mut [u64]) -> usize
 // The same, in cube order.
 fn list_quotient_sorted(f: &[u64], d: &[u64], to: &mut [u64]) -> usize
     requires { ⌜ OrderedRoom (now f) (now to) ⌝ }
-    ensures { λ r. ⌜ ListedFront (now (to .entry)) (now (to .exit)) r (sort (divisors (cubesOf (now (f .entry))) (cubesOf (now (d .entry))))) ⌝ }
+    ensures { λ r. ⌜ Appends (now (to .entry)) (now (to .exit)) 0 (sort (divisors (cubesOf (now (f .entry))) (cubesOf (now (d .entry))))) r ⌝ }
 {
     let k = list_quotient(f, d, to);
     expression_sort::sort_part(to, 0, k);
@@ -187,7 +173,7 @@ fn is_spared(q: &[u64], d: &[u64], e: Cube) -> bool
 // The cubes of f that are spared, in their order.
 fn list_spared(f: &[u64], q: &[u64], d: &[u64], to: &mut [u64]) -> usize
     requires { ⌜ length (cubesOf (now f)) ≤ length (cubesOf (now to)) ⌝ ∗ ⌜ ordered (cubesOf (now q)) ≡ true ⌝ }
-    ensures { λ r. ⌜ ListedFront (now (to .entry)) (now (to .exit)) r (keep (spared (cubesOf (now (q .entry))) (cubesOf (now (d .entry)))) (cubesOf (now (f .entry)))) ⌝ }
+    ensures { λ r. ⌜ Appends (now (to .entry)) (now (to .exit)) 0 (sparedOf (now (q .entry)) (now (d .entry)) (now (f .entry))) r ⌝ }
 {
     let n = expression::number(f);
     let mut kept = 0;
@@ -206,7 +192,7 @@ fn list_spared(f: &[u64], q: &[u64], d: &[u64], to: &mut [u64]) -> usize
 
 // The cubes of a and of b into the rooms q and r, or 9 where one of them is too long.
 fn hand_over(a: &[u64], b: &[u64], q: &mut [u64], r: &mut [u64]) -> Division
-    ensures { λ t. ⌜ Handed (cramped (cubesOf (now (a .entry))) (cubesOf (now (b .entry))) (now (q .entry)) (now (r .entry))) (cubesOf (now (a .entry))) (cubesOf (now (b .entry))) (now (q .entry)) (now (r .entry)) (now (q .exit)) (now (r .exit)) t ⌝ }
+    ensures { λ t. ⌜ HandedOver (now (a .entry)) (now (b .entry)) (now (q .entry)) (now (r .entry)) (now (q .exit)) (now (r .exit)) t ⌝ }
 {
     let k = expression::number(a);
     let m = expression::number(b);
@@ -216,14 +202,14 @@ fn hand_over(a: &[u64], b: &[u64], q: &mut [u64], r: &mut [u64]) -> Division
     if expression::number(r) < m {
         return Division::Refused(9);
     }
-    copy(a, q);
-    copy(b, r);
+    expression::copy(a, 0, k, q, 0);
+    expression::copy(b, 0, m, r, 0);
     Division::Done(k, m)
 }
 
 // Quotient and remainder of f by d, in cube order, into the rooms q and r.
 pub fn divide(f: &[u64], d: &[u64], q: &mut [u64], r: &mut [u64]) -> Division
-    ensures { λ a. ⌜ Told (refusedBy (now (f .entry)) (now (d .entry)) (now (q .entry)) (now (r .entry))) (now (f .entry)) (now (d .entry)) (now (q .entry)) (now (r .entry)) (now (q .exit)) (now (r .exit)) a ⌝ }
+    ensures { λ a. ⌜ Divided (now (f .entry)) (now (d .entry)) (now (q .entry)) (now (r .entry)) (now (q .exit)) (now (r .exit)) a ⌝ }
 {
     let v = admit(f, d);
     if let Verdict::Refused(k) = v {

@@ -7,7 +7,7 @@ use borrow.Author.Needs.{needs}
 use borrow.Fn.Kinds.{In}
 use borrow.Fn.PlainCycle.{Measures, is, falls, and}
 use lib.ListN.{length}
-use Rattle.sets.proofs.Literals.{literals-asc}
+use Rattle.cube.proofs.Lits.{lits-asc}
 use Rattle.cube.specs.Cube.{width, lits}
 use Rattle.expression.specs.Words.{cubesOf}
 use Rattle.cokernel.proofs.Steps.{withIt, beyond-end, beyond-last, walks-on, walks-with, count-open, count-next}
@@ -65,14 +65,16 @@ module _ (t : ℕ) where
   count-beyond-requires c κs =
       let b = c .before .before .before .before in
       let s = b .before .before .before .before in
-      (omega arith, walks-with _ _ _ _ (s .pre .1) (literals-asc _ (s .args .p .plain) (s .args .p .negated)) _ _ _ _ (omega arith) (b .branch-at .ensures))
+      (omega arith, walks-with _ _ _ _ (s .pre .1) (lits-asc (s .args .p)) _ _ _ _ (omega arith) (b .branch-at .ensures))
 
   add-n : lts.Need-add-n (known t) (at t) reads.Post
   add-n c = omega arith
 
   -- those with j are counted
   counted : (c : lts.Joined3 (known t) (at t) reads.Post) → let b = c .before in let s = b .before .before .before .before in
-      c .if3 .n ≡ min (s .args .most) (length (withIt (cubesOf (s .args .f .now)) (s .args .j) (lits (b .branch-at .result .cube)) (b .branch-at .result .opened) (b .branch-at .result .closed)))
+      c .if3 .n ≡ min (s .args .most)
+      (length (withIt (cubesOf (s .args .f .now)) (s .args .j) (lits (b .branch-at .result .cube)) (b .branch-at .result .opened)
+      (b .branch-at .result .closed)))
   counted c =
       let b = c .before in
       let s = b .before .before .before .before in
@@ -92,7 +94,7 @@ module _ (t : ℕ) where
       let f = cubesOf (s .args .f .now) in
       counted (h .before)
       ∙ ap (λ l. min (s .args .most) (length l))
-      (sym (beyond-last f _ _ _ (s .pre .1) (literals-asc _ (s .args .p .plain) (s .args .p .negated)) _ _ _ _ (omega arith) (b .branch-at .ensures) (sym (h .has .ensures) ∙ c .if4 .taken)))
+      (sym (beyond-last f _ _ _ (s .pre .1) (lits-asc (s .args .p)) _ _ _ _ (omega arith) (b .branch-at .ensures) (sym (h .has .ensures) ∙ c .if4 .taken)))
 
   add-count-beyond-2 : lts.Need-add-count-beyond-2 (known t) (at t) reads.Post
   add-count-beyond-2 c = omega arith
@@ -102,7 +104,8 @@ module _ (t : ℕ) where
 
   count-beyond-requires-2 : lts.Need-count-beyond-requires-2 (known t) (at t) reads.Post
   count-beyond-requires-2 c κs =
-      let s = c .before .before .before .before .before .before .before .before in
+      let b = c .before .before .before .before in
+      let s = b .before .before .before .before in
       (omega arith, walks-on _ _ _ _ (s .pre .1) (omega arith))
 
   add-result : lts.Need-add-result (known t) (at t) reads.Post
@@ -118,5 +121,6 @@ module _ (t : ℕ) where
 pub +count-beyond-spec : {M : Type 1} → statement M
 +count-beyond-spec =
     close μ
-    (λ t. lts.spec (known t) (at t) reads.Post (returns t) (returns-2 t) (branch-at-requires t) (one-if-requires t) (add-count-beyond t) (sub-count-beyond t) (count-beyond-requires t)
+    (λ t. lts.spec (known t) (at t) reads.Post (returns t) (returns-2 t) (branch-at-requires t) (one-if-requires t) (add-count-beyond t)
+    (sub-count-beyond t) (count-beyond-requires t)
     (add-n t) (has-requires t) (returns-3 t) (add-count-beyond-2 t) (sub-count-beyond-2 t) (count-beyond-requires-2 t) (add-result t) (returns-4 t))

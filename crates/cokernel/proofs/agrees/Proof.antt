@@ -2,7 +2,7 @@
 use borrow.Author.Needs.{needs}
 use mathlib.Core.Path.{sym, ap, _∙_}
 use Rattle.sets.specs.Sets.{firstFrom}
-use Rattle.sets.proofs.Literals.{literals-asc}
+use Rattle.cube.proofs.Lits.{lits-asc}
 use Rattle.sets.proofs.Sets.{without-asc}
 use Rattle.cube.specs.Cube.{answer}
 use Rattle.cokernel.proofs.Steps.{none-low, first-low}
@@ -23,12 +23,15 @@ enum-told c = search needs
 
 returns : tie.Need-returns
 returns c =
-    let a = c .before .before .before .before .before .before .args in
-    first-low (a .j) _ _ (without-asc _ _ (literals-asc _ (a .m .plain) (a .m .negated)))
-    (ap answer (sym (c .before .before .x .given .1)) ∙ c .before .before .before .before .first-from .ensures ∙ ap (firstFrom 0) (c .before .before .before .before .before .without .ensures))
+    let w = c .before .before .before .before .before in
+    let a = w .before .args in
+    first-low (a .j) _ _ (without-asc _ _ (lits-asc (a .m)))
+    (ap answer (sym (c .before .before .x .given .1)) ∙ c .before .before .before .before .first-from .ensures
+    ∙ ap (firstFrom 0) (w .without .ensures))
 
 returns-2 : tie.Need-returns-2
-returns-2 c = none-low _ _ (ap answer (sym (c .enum-told .given .1)) ∙ c .before .before .first-from .ensures ∙ ap (firstFrom 0) (c .before .before .before .without .ensures))
+returns-2 c = none-low _ _ (ap answer (sym (c .enum-told .given .1)) ∙ c .before .before .first-from .ensures
+    ∙ ap (firstFrom 0) (c .before .before .before .without .ensures))
 
 pub agrees-spec : {M : Type 1} → statement M
 agrees-spec =

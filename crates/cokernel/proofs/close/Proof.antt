@@ -50,8 +50,12 @@ loop-again c =
     let h = c .before .before .before .before .before in
     let f = cubesOf (h .before .before .before .before .args .f .now) in
     let back : h .loop .i - 1 + 1 ≡ h .loop .i = omega arith in
-    let k : Shared (drop (h .loop .i - 1 + 1) f) (lits (h .before .before .before .before .args .c)) (h .loop .number) (lits (h .loop .m)) = rw back (h .loop .inv .1) in
-    (omega arith, closed-more f _ (h .loop .i - 1) _ _ (omega arith) k _ (c .before .before .before .cube-at .ensures) (sym (c .before .before .contains .ensures) ∙ c .before .if1 .taken) _ (c .narrowed .ensures))
+    let k : Shared (drop (h .loop .i - 1 + 1) f) (lits (h .before .before .before .before .args .c)) (h .loop .number) (lits (h .loop .m)) = rw back
+    (h .loop .inv .1) in (
+      omega arith,
+      closed-more f _ (h .loop .i - 1) _ _ (omega arith) k _ (c .before .before .before .cube-at .ensures)
+          (sym (c .before .before .contains .ensures) ∙ c .before .if1 .taken) _ (c .narrowed .ensures),
+    )
 
 loop-less-2 : tie.Need-loop-less-2 Inv-loop μ-loop
 loop-less-2 c = search needs
@@ -61,8 +65,12 @@ loop-again-2 c =
     let h = c .before .before .before .before in
     let f = cubesOf (h .before .before .before .before .args .f .now) in
     let back : h .loop .i - 1 + 1 ≡ h .loop .i = omega arith in
-    let k : Shared (drop (h .loop .i - 1 + 1) f) (lits (h .before .before .before .before .args .c)) (h .loop .number) (lits (h .loop .m)) = rw back (h .loop .inv .1) in
-    (omega arith, closed-same f _ (h .loop .i - 1) _ _ (omega arith) k _ (c .before .before .cube-at .ensures) (sym (c .before .contains .ensures) ∙ c .if1 .left))
+    let k : Shared (drop (h .loop .i - 1 + 1) f) (lits (h .before .before .before .before .args .c)) (h .loop .number) (lits (h .loop .m)) = rw back
+    (h .loop .inv .1) in (
+      omega arith,
+      closed-same f _ (h .loop .i - 1) _ _ (omega arith) k _ (c .before .before .cube-at .ensures)
+          (sym (c .before .contains .ensures) ∙ c .if1 .left),
+    )
 
 returns : tie.Need-returns Inv-loop μ-loop
 returns c =

@@ -3,7 +3,7 @@ use mathlib.Core.Path.{_≡_, sym, _∙_, ap}
 use mathlib.Core.Option.{none}
 use native.Mathlib.Omega.{arith}
 use Rattle.expression.specs.Answers.{refusal, refusalOf}
-use Rattle.expression.proofs.Words.{cubes-length}
+use Rattle.expression.proofs.Words.{cubes-few}
 use Rattle.cokernel.proofs.Telling.{told-refused, told-short, told-all}
 use borrow.Author.Needs.{needs}
 use Rattle.cokernel.proofs.cokernels.Statement.{statement}
@@ -26,8 +26,9 @@ number-requires c κs = search needs
 
 add-count-all : tie.Need-add-count-all
 add-count-all c =
-    let s = c .before .before .before .before .before .before .before in
-    omega (arith, s .good, cubes-length (s .args .o .now))
+    let a = c .before .before .before .before in
+    let s = a .before .before .before in
+    omega (arith, s .good, cubes-few (s .args .o .now))
 
 count-all-requires : tie.Need-count-all-requires
 count-all-requires c κs = search needs

@@ -30,7 +30,8 @@ returns : tie.Need-returns
 returns c =
     let q = c .before .before in
     let d = q .before .before in
-    whole-count _ _ (d .before .empty .ensures) _ _ (d .close .ensures) _ (q .is-closed .ensures) _ _ _ (d .before .before .before .pre) (c .before .one-if .ensures .0) (c .count-beyond .ensures)
+    whole-count _ _ (d .before .empty .ensures) _ _ (d .close .ensures) _ (q .is-closed .ensures) _ _ _ (d .before .before .before .pre)
+    (c .before .one-if .ensures .0) (c .count-beyond .ensures)
 
 pub count-all-spec : {M : Type 1} → statement M
 count-all-spec =

@@ -7,21 +7,22 @@ use native.Mathlib.Omega.{arith}
 use lib.ListN.{length}
 use borrow.Author.Tests.{not-true, not-false}
 use Rattle.expression.specs.Words.{cubesOf}
-use Rattle.expression.proofs.Words.{cubes-length}
-use Rattle.cokernel.proofs.Placing.{wrote-none, wrote-one}
+use Rattle.expression.proofs.Words.{cubes-few}
+use Rattle.expression.proofs.Placing.{appends-none, appends-one}
 use Rattle.cokernel.proofs.put_if.Statement.{statement}
 use Rattle.cokernel.proofs.put_if.Tie as tie
 
 returns : tie.Need-returns
-returns c = rw (not-true (c .before .before .args .wanted) (c .if1 .taken)) (wrote-none _ _)
+returns c = rw (not-true (c .before .before .args .wanted) (c .if1 .taken)) (appends-none _ _)
 
 put-cube-requires : tie.Need-put-cube-requires
 put-cube-requires c κs = search needs
 
 add-result : tie.Need-add-result
 add-result c =
-    let s = c .before .before .before .before .before .before in
-    omega (arith, s .pre, s .good, cubes-length (s .args .o .now))
+    let e = c .before .before .before .before in
+    let s = e .before .before in
+    omega (arith, s .pre, s .good, cubes-few (s .args .o .now))
 
 same-length : tie.Need-same-length
 same-length c = search needs
@@ -33,7 +34,7 @@ returns-2 c =
     let w : s .args .wanted ≡ true = not-false _ (e .if1 .left) in
     let p = rw w at (s .pre) in
     let inside : s .args .i < length (cubesOf (s .args .o .now)) = omega arith in
-    rw w (wrote-one inside (c .before .before .put-cube .ensures))
+    rw w (appends-one inside (c .before .before .put-cube .ensures))
 
 pub put-if-spec : {M : Type 1} → statement M
 put-if-spec = tie.close (tie.spec returns put-cube-requires add-result same-length returns-2)

@@ -7,7 +7,7 @@ use Rattle.cube.specs.Cube.{width, lits}
 use Rattle.expression.specs.Words.{cubesOf}
 use Rattle.cokernel.specs.Cokernels.{beyond, cokernels}
 use Rattle.cokernel.specs.Parts.{only}
-use Rattle.cokernel.proofs.Placing.{same-room}
+use Rattle.expression.proofs.Words.{same-room}
 use Rattle.cokernel.proofs.Telling.{walks-first, whole-length, whole-written}
 use borrow.Author.Needs.{needs}
 use Rattle.cokernel.proofs.write_all.Statement.{statement}
@@ -35,8 +35,11 @@ write-beyond-requires c κs =
     let p = c .before .before .before in
     let q = p .before .before in
     let d = q .before .before in
-    let s = d .before .before .before .before in
-    (walks-first _ _ (d .before .empty .ensures) _ _ (d .close .ensures), omega (arith, parts q, p .put-if .ensures .next, same-room (p .put-if .last .0) (s .args .o .now) (p .put-if .kept .0)))
+    let s = d .before .before .before .before in (
+      walks-first _ _ (d .before .empty .ensures) _ _ (d .close .ensures),
+      omega
+          (arith, parts q, p .put-if .ensures .next, same-room (p .put-if .last .0) (s .args .o .now) (p .put-if .kept .0)),
+    )
 
 same-length : tie.Need-same-length
 same-length c = search needs
@@ -47,7 +50,8 @@ returns c =
     let p = w .before .before .before .before in
     let q = p .before .before in
     let d = q .before .before in
-    whole-written _ _ (d .before .empty .ensures) _ _ (d .close .ensures) _ (q .is-closed .ensures) (d .before .before .before .before .pre) (p .put-if .ensures) (w .write-beyond .ensures)
+    whole-written _ _ (d .before .empty .ensures) _ _ (d .close .ensures) _ (q .is-closed .ensures) (d .before .before .before .before .pre)
+    (p .put-if .ensures) (w .write-beyond .ensures)
 
 pub write-all-spec : {M : Type 1} → statement M
 write-all-spec =

@@ -3,11 +3,10 @@ use Prim.Native.Nat.{ℕ}
 use mathlib.Core.Path.{_≡_, sym, _∙_, ap}
 use mathlib.Core.List.{List}
 use borrow.Author.Needs.{needs}
-use Rattle.expression.specs.Words.{cubesOf}
+use Rattle.expression.specs.Words.{cubesOf, Appends}
 use Rattle.expression.specs.Expression.{sort}
 use Rattle.expression.specs.Answers.{refusalOf}
 use Rattle.division.specs.Division.{quotient, remainder}
-use Rattle.division.specs.Parts.{ListedFront}
 use Rattle.division.proofs.Listing.{front-part}
 use Rattle.division.proofs.Refusing.{Admitted, admitted-known, told-early, told-late}
 use Rattle.division.proofs.Whole.{blank, blank-room, sorted-room, sorted-ready, listed-quotient, quotient-order, listed-remainder}
@@ -44,7 +43,8 @@ abbrev over : tie.After-enum-told → (List (List ℕ) → List (List ℕ) → L
 over c op = op (cubesOf (start c .args .f .now)) (cubesOf (start c .args .d .now))
 
 -- the quotient, listed
-quotients : (c : tie.After-list-quotient-sorted) → ListedFront blank (c .list-quotient-sorted .last .1 .1 .0) (c .list-quotient-sorted .result) (over (opening (c .before .before)) quotient)
+quotients : (c : tie.After-list-quotient-sorted)
+    → Appends blank (c .list-quotient-sorted .last .1 .1 .0) 0 (over (opening (c .before .before)) quotient) (c .list-quotient-sorted .result)
 quotients c = listed-quotient (admission (opening (c .before .before))) _ (dividend (c .before .before)) (c .list-quotient-sorted .ensures)
 
 abbrev listing : tie.After-part2 → tie.After-list-quotient-sorted
@@ -57,7 +57,8 @@ whole : (c : tie.After-part2) → cubesOf (c .part2 .result .now) ≡ over (open
 whole c = front-part (quotients (listing c)) _ (c .part2 .ensures .0)
 
 -- the remainder, listed
-remainders : (c : tie.After-list-spared) → ListedFront blank (c .list-spared .last .1 .1 .1 .0) (c .list-spared .result) (over (opened (c .before .before)) remainder)
+remainders : (c : tie.After-list-spared)
+    → Appends blank (c .list-spared .last .1 .1 .1 .0) 0 (over (opened (c .before .before)) remainder) (c .list-spared .result)
 remainders c =
     let p = c .before .before in
     listed-remainder (admission (opened p)) _ (dividend (listing p .before .before)) _ (whole p) (c .list-spared .ensures)
@@ -115,9 +116,10 @@ same-length-2 c = search needs
 
 returns-2 : tie.Need-returns-2
 returns-2 c =
-    let t = c .before .before .before .before .before .before .before in
+    let h = c .before .before .before .before in
+    let t = h .before .before .before in
     let p = t .before .before .before .before .before in
-    told-late _ _ _ _ _ _ _ (admission (opened p)) (whole p) (rest t) (c .before .before .before .before .hand-over .ensures)
+    told-late _ _ _ _ _ _ _ (admission (opened p)) (whole p) (rest t) (h .hand-over .ensures)
 
 pub divide-spec : {M : Type 1} → statement M
 divide-spec =

@@ -3,6 +3,7 @@ use mathlib.Core.Path.{ap₂}
 use native.Mathlib.Omega.{arith}
 use borrow.Author.Needs.{needs}
 use Rattle.division.specs.declared.Division.the-variants.{Done}
+use Rattle.division.proofs.Listing.{copied}
 use Rattle.division.proofs.Refusing.{cramped-first, cramped-second, cramped-none, handed-none, handed-all}
 use Rattle.division.proofs.hand_over.Statement.{statement}
 use Rattle.division.proofs.hand_over.Tie as tie
@@ -48,9 +49,12 @@ same-length-5 c = search needs
 
 returns-3 : tie.Need-returns-3
 returns-3 c =
-    let k = c .before .before .before .before .before .before in
+    let w = c .before .before in
+    let k = w .before .before .before .before in
     let n = k .before .before .before .before .before .before .before .before in
-    handed-all _ _ _ _ (cramped-none _ _ _ _ (omega arith) (omega arith)) (ap₂ Done (n .before .number .ensures) (n .number2 .ensures)) (k .copy .ensures .written) (c .before .before .copy2 .ensures .written)
+    handed-all _ _ _ _ (cramped-none _ _ _ _ (omega arith) (omega arith)) (ap₂ Done (n .before .number .ensures) (n .number2 .ensures))
+    (copied _ (n .before .number .ensures) (omega arith) (k .copy .ensures) .placed)
+    (copied _ (n .number2 .ensures) (omega arith) (w .copy2 .ensures) .placed)
 
 pub hand-over-spec : {M : Type 1} → statement M
 hand-over-spec =

@@ -24,14 +24,17 @@ enum-told-2 : tie.Need-enum-told-2
 enum-told-2 c = search needs
 
 -- what the search found is what is told
-found : (c : tie.After-find) → isSome (placeOf (c .find .result)) ≡ has (lits (c .before .before .before .args .c)) (cubesOf (c .before .before .before .args .s .now))
+found : (c : tie.After-find) → isSome (placeOf (c .find .result)) ≡ has (lits (c .before .before .before .args .c))
+    (cubesOf (c .before .before .before .args .s .now))
 found c = ap isSome (c .find .ensures) ∙ find-has _ _ (c .before .before .before .pre)
 
 returns-2 : tie.Need-returns-2
-returns-2 c = rw (not-false (c .before .before .before .before .before .args .passed) (c .before .before .before .if1 .left)) (sym (ap (λ r. isSome (placeOf r)) (c .enum-told .given .1)) ∙ found (c .before .before))
+returns-2 c = rw (not-false (c .before .before .before .before .before .args .passed) (c .before .before .before .if1 .left))
+    (sym (ap (λ r. isSome (placeOf r)) (c .enum-told .given .1)) ∙ found (c .before .before))
 
 returns-3 : tie.Need-returns-3
-returns-3 c = rw (not-false (c .before .before .before .before .before .args .passed) (c .before .before .before .if1 .left)) (sym (ap (λ r. isSome (placeOf r)) (c .enum-told2 .given .1)) ∙ found (c .before .before))
+returns-3 c = rw (not-false (c .before .before .before .before .before .args .passed) (c .before .before .before .if1 .left))
+    (sym (ap (λ r. isSome (placeOf r)) (c .enum-told2 .given .1)) ∙ found (c .before .before))
 
 pub holds-spec : {M : Type 1} → statement M
 holds-spec =

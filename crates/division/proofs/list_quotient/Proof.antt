@@ -28,14 +28,17 @@ abbrev start : tie.After-number Inv-loop μ-loop → tie.Start Inv-loop μ-loop
 start c = c .before .before .before .before .before
 
 -- what the tests say of the cube at place i
-lacking : (c : tie.After-contains Inv-loop μ-loop) → sub (lits (c .before .before .before .before .before .cube-at .result)) (lits (c .before .cube-at2 .result)) ≡ c .contains .result
+lacking : (c : tie.After-contains Inv-loop μ-loop)
+    → sub (lits (c .before .before .before .before .before .cube-at .result)) (lits (c .before .cube-at2 .result)) ≡ c .contains .result
 lacking c = sym (c .contains .ensures)
 
 loop-holds : tie.Need-loop-holds Inv-loop μ-loop
 loop-holds c =
     let s = start c in
-    walk-first (given (cubesOf (s .args .f .now)) (cubesOf (s .args .d .now)) (lits (c .before .cube-at .result))) _ _ _ (c .number .ensures)
-    (omega (arith, given-length (cubesOf (s .args .f .now)) (cubesOf (s .args .d .now)) (lits (c .before .cube-at .result)) (cubesOf (s .args .f .now)), s .pre .room))
+    let f = cubesOf (s .args .f .now) in
+    let d = cubesOf (s .args .d .now) in
+    let first = lits (c .before .cube-at .result) in
+    walk-first (given f d first) _ _ _ (c .number .ensures) (omega (arith, given-length f d first f, s .pre .room))
 
 cube-at-requires-2 : tie.Need-cube-at-requires-2 Inv-loop μ-loop
 cube-at-requires-2 c κs = search needs
@@ -50,7 +53,9 @@ loop-less : tie.Need-loop-less Inv-loop μ-loop
 loop-less c = search needs
 
 loop-again : tie.Need-loop-again Inv-loop μ-loop
-loop-again c = walk-skip (c .before .before .before .before .loop .inv) (omega arith) (c .before .before .cube-at2 .ensures) (λ l. rw (lacking (c .before) ∙ not-true _ (c .if1 .taken)))
+loop-again c =
+    walk-skip (c .before .before .before .before .loop .inv) (omega arith) (c .before .before .cube-at2 .ensures)
+    (λ l. rw (lacking (c .before) ∙ not-true _ (c .if1 .taken)))
 
 without-requires : tie.Need-without-requires Inv-loop μ-loop
 without-requires c κs = search needs
@@ -65,7 +70,11 @@ loop-again-2 : tie.Need-loop-again-2 Inv-loop μ-loop
 loop-again-2 c =
     let e = c .before .before .before in
     walk-skip (e .before .before .before .before .loop .inv) (omega arith) (e .before .before .cube-at2 .ensures)
-    (λ l. rw (lacking (e .before) ∙ not-false _ (e .if1 .left), ← (c .before .before .without .ensures), sym (c .before .fits-all .ensures) ∙ not-true _ (c .if2 .taken)))
+    (λ l. rw (
+      lacking (e .before) ∙ not-false _ (e .if1 .left),
+      ← (c .before .before .without .ensures),
+      sym (c .before .fits-all .ensures) ∙ not-true _ (c .if2 .taken),
+    ))
 
 put-cube-requires : tie.Need-put-cube-requires Inv-loop μ-loop
 put-cube-requires c κs = search needs
@@ -83,7 +92,11 @@ loop-again-3 c =
     let e = k .before .before .before in
     walk-put (e .before .before .before .before .loop .inv) (omega arith) (e .before .before .cube-at2 .ensures)
     (p .put-cube .ensures) (p .put-cube .kept .0)
-    (λ l. rw (lacking (e .before) ∙ not-false _ (e .if1 .left), ← (k .before .before .without .ensures), sym (k .before .fits-all .ensures) ∙ not-false _ (k .if2 .left)))
+    (λ l. rw (
+      lacking (e .before) ∙ not-false _ (e .if1 .left),
+      ← (k .before .before .without .ensures),
+      sym (k .before .fits-all .ensures) ∙ not-false _ (k .if2 .left),
+    ))
 
 same-length : tie.Need-same-length Inv-loop μ-loop
 same-length c = c .before .loop .inv .same

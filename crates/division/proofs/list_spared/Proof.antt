@@ -5,10 +5,10 @@ use native.Mathlib.Omega.{arith}
 use borrow.Author.Needs.{needs}
 use borrow.Author.Tests.{not-true, not-false}
 use Rattle.sets.specs.Lists.{keep}
+use Rattle.sets.proofs.Lists.{keep-length}
 use Rattle.expression.specs.Words.{cubesOf}
 use Rattle.division.specs.Parts.{spared}
 use Rattle.division.proofs.Listing.{Walk, walk-first, walk-skip, walk-put, walk-end}
-use Rattle.division.proofs.Making.{keep-length}
 use Rattle.division.proofs.list_spared.Statement.{statement}
 use Rattle.division.proofs.list_spared.Tie as tie
 
@@ -43,7 +43,9 @@ loop-less : tie.Need-loop-less Inv-loop μ-loop
 loop-less c = search needs
 
 loop-again : tie.Need-loop-again Inv-loop μ-loop
-loop-again c = walk-skip (c .before .before .before .before .loop .inv) (omega arith) (c .before .before .cube-at .ensures) (λ l. rw (sym (c .before .is-spared .ensures) ∙ not-true _ (c .if1 .taken)))
+loop-again c =
+    walk-skip (c .before .before .before .before .loop .inv) (omega arith) (c .before .before .cube-at .ensures)
+    (λ l. rw (sym (c .before .is-spared .ensures) ∙ not-true _ (c .if1 .taken)))
 
 put-cube-requires : tie.Need-put-cube-requires Inv-loop μ-loop
 put-cube-requires c κs = search needs
@@ -58,7 +60,8 @@ loop-again-2 : tie.Need-loop-again-2 Inv-loop μ-loop
 loop-again-2 c =
     let p = c .before .before in
     let k = p .before .before in
-    walk-put (k .before .before .before .before .loop .inv) (omega arith) (k .before .before .cube-at .ensures) (p .put-cube .ensures) (p .put-cube .kept .0)
+    walk-put (k .before .before .before .before .loop .inv) (omega arith) (k .before .before .cube-at .ensures)
+    (p .put-cube .ensures) (p .put-cube .kept .0)
     (λ l. rw (sym (k .before .is-spared .ensures) ∙ not-false _ (k .if1 .left)))
 
 same-length : tie.Need-same-length Inv-loop μ-loop
