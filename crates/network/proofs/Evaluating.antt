@@ -1,27 +1,26 @@
 -- Evaluation: along a whole listing the divisors settle to the one consistent assignment, from which the answer is read; it hangs on no bit past the inputs and on no order of cubes. Assumes nothing.
-use Prim.Native.Nat.{ℕ, zero, suc, _+_, _*_, _/_, _%_, _^_, _<_, _≤_}
+use Prim.Native.Nat.{ℕ, zero, suc, _/_, _^_, _<_, _≤_}
 use mathlib.Core.Path.{_≡_, refl, sym, ap, ap₂, _∙_, subst}
 use mathlib.Core.Logic.{inl, inr}
 use mathlib.Core.Bool.{Bool, true, false, cond, _||_}
 use mathlib.Core.Option.{Option, none, some}
 use mathlib.Core.List.{List, [], _∷_, _++_, map, append-nil, append-assoc, List·Memᴰ·head as here, List·Memᴰ·tail as there, List·Memᴰ·not-nil, List·Memᴰ·append-cases, List·Memᴰ·eq-of-singleton, Memᴰ·append-right}
-use native.Mathlib.Nat.{pow-suc}
 use native.Mathlib.Omega.{arith}
 use lib.Dec.{eqb, ltb}
 use lib.ListN.{length, getD, length-map, List·getD-map}
 use borrow.Author.Tests.{eq-eqb, ne-eqb}
 use Rattle.sets.specs.Lists.{all, pairwise}
 use Rattle.sets.specs.Sets.{mem}
-use Rattle.sets.specs.Masks.{bit, nonzero, packed}
+use Rattle.sets.specs.Masks.{bit, packed}
 use Rattle.sets.proofs.Truth.{iff}
 use Rattle.sets.proofs.Lists.{_∈_, any-in, any-out, all-in, all-out, all-cong, any-cong, map-cong}
-use Rattle.sets.proofs.Digits.{bit-zero, bit-suc, bit-none, bit-high}
+use Rattle.sets.proofs.Digits.{bit-high}
 use Rattle.sets.proofs.Packing.{packed-bit, packed-lt}
 use Rattle.expression.specs.Value.{lit, value}
 use Rattle.network.specs.Net.{Node, Net, cubesAt}
 use Rattle.network.specs.Listing.{ready, nextReady, listMore, listing}
 use Rattle.network.specs.Evaluation.{assign, settle, answers, evaluate}
-use Rattle.network.specs.Meaning.{differ, Reads, Consistent, Known, Closed, Distinct, Sound, SameCubes, Along, SameNode, Reordered}
+use Rattle.network.specs.Meaning.{differ, Reads, Consistent, IsVariable, Closed, Distinct, Sound, SameCubes, Along, SameNode, Reordered}
 use Rattle.network.specs.Meaning.Along.{none as end, more as on}
 use Rattle.network.proofs.Places.{split-in, once-apart}
 use Rattle.network.proofs.Numbering.{cubes-at}
@@ -100,7 +99,7 @@ module _ (n : Net) (w : length (listing n) ≡ length (n .divisors)) (s a b : �
           ∙ sym (cb .divisors (x .node) (x .inside)))
 
   -- two assignments that fit one setting agree on inputs and divisors
-  pub unique : (v : ℕ) → Known n v → a v ≡ b v
+  pub unique : (v : ℕ) → IsVariable n v → a v ≡ b v
   unique v (inl h) = input-agree v h
   unique v (inr (e, m, p)) = rw p (listed-agree [] (listing n) refl (λ u i. absurd (List·Memᴰ·not-nil i)) (e .number) (listing-in n w e m))
 

@@ -11,6 +11,7 @@ use Rattle.expression.specs.Words.{cubesOf, spareOf}
 use Rattle.expression.proofs.Words.{fit, words-ext, cubes-length, spare-length}
 use Rattle.network.specs.Net.{Node, Net, nodes}
 use Rattle.network.specs.Held.{numbered, used, netOf}
+pub use Rattle.network.specs.Rules.{InTurn}
 use Rattle.network_nodes.specs.Nodes.{cut}
 use Rattle.network.specs.Handed.{flat, nodeSlots, wordSlots, Shaped, Holds, Blank}
 use Rattle.network.specs.declared.Network.{Network}
@@ -32,10 +33,6 @@ flat-append (x ∷ l) m = ap (x ++_) (flat-append l m) ∙ sym (append-assoc x (
 -- one list more
 pub flat-last : {A : Type 0} (l : List (List A)) (x : List A) → flat (l ++ (x ∷ [])) ≡ flat l ++ x
 flat-last l x = flat-append l (x ∷ []) ∙ ap (flat l ++_) (append-nil x)
-
--- the divisors have the numbers from the inputs on
-abbrev pub InTurn : Net → Type 0
-InTurn m = m .divisors ≡ numbered (m .inputs) (map (λ (e : Node). e .cubes) (m .divisors))
 
 module _ (n : Network) (m : Net) (h : Holds n m) where
   pub used-held : used n ≡ map length (nodes m)

@@ -1,47 +1,46 @@
 -- What a network's fields mean: the slots in use alone count, the counts cut the cubes into nodes, and the test `rules` says what the paper's rules say. Assumes nothing.
-use Prim.Native.Nat.{ℕ, zero, suc, _+_, _/_, _<_, _≤_}
+use Prim.Native.Nat.{ℕ, zero, suc, _+_, _<_, _≤_}
 use mathlib.Core.Path.{_≡_, refl, sym, ap, ap₂, _∙_}
 use mathlib.Core.Logic.{_↔_}
 use mathlib.Core.Bool.{Bool, true, cond, _&&_}
 use mathlib.Core.List.{List, [], _∷_, _++_}
 use native.Mathlib.Nat.{zero-add}
 use native.Mathlib.Omega.{arith}
-use lib.Dec.{leb, ltb, eqb}
+use lib.Dec.{leb, eqb}
 use lib.ListN.{length, getD, take, drop, length-take, length-drop, take-append-drop}
-use lib.Seq.{length-take-le, take-nil, getD-take, getD-drop, take-take, drop-drop, take-add}
+use lib.Seq.{length-take-le, take-nil, getD-take, getD-drop, take-take, take-add}
 use borrow.Author.Tests.{leb-true, le-leb, eqb-true, eq-eqb}
 use Rattle.sets.specs.Lists.{all, total}
 use Rattle.sets.specs.Masks.{bit, packed}
 use Rattle.sets.proofs.Truth.{both, together}
-use Rattle.sets.proofs.Lists.{all-in, all-out, total-append}
+use Rattle.sets.proofs.Lists.{all-in, all-out}
 use Rattle.expression.specs.Words.{cubesOf}
-use Rattle.expression.specs.Expression.{expression, literalsOf}
-use Rattle.network.specs.Net.{Net, cubesAt, nodes, variables, cubeCount, literalCount}
+use Rattle.expression.specs.Expression.{expression}
+use Rattle.network.specs.Net.{Net, cubesAt, nodes, over, cubeCount, literalCount}
 use Rattle.network.specs.Listing.{listing}
 use Rattle.network.specs.Evaluation.{settle, answers, evaluate}
-use Rattle.network.specs.Meaning.{Consistent, Distinct, Sound}
-use Rattle.network.specs.Held.{numbered, used, netOf, sized, upTo, reach, ruled, rules, mostInputs, mostOutputs, mostVariables, mostCubes, mostLiterals}
+use Rattle.network.specs.Meaning.{Consistent, Distinct, Closed, Sound}
+use Rattle.network.specs.Held.{numbered, used, netOf, sized, upTo, ruled, rules, mostInputs, mostOutputs, mostVariables, mostCubes, mostLiterals}
 use Rattle.network_nodes.specs.Nodes.{cut}
-use Rattle.network_nodes.proofs.Cutting.{cut-length, cut-total, cut-lengths}
-use Rattle.network.specs.Rules.{Alike, Follows}
+use Rattle.network_nodes.proofs.Cutting.{cut-length, cut-lengths}
+use Rattle.network.specs.Rules.{Alike, InTurn, Follows}
 use Rattle.network.specs.Handed.{Shaped}
-use Rattle.network.specs.Answers.{judged, counted, evaluated}
+use Rattle.network.specs.Answers.{evaluated}
 use Rattle.network.specs.declared.Network.{Network}
 use Rattle.network.specs.declared.Number.the-variants.{Is, No}
 use Rattle.network.proofs.Places.{all-append}
-use Rattle.network.proofs.Numbering.{numbered-length, numbered-cubes, numbered-at, numbered-distinct, below-known, reach-out, reach-in, reach-closed}
-use Rattle.network.proofs.Listings.{listing-all}
+use Rattle.network.proofs.Numbering.{numbered-length, numbered-cubes, numbered-at, numbered-distinct, known-below, below-known, over-in, over-out, nodes-closed}
+use Rattle.network.proofs.Listings.{listing-acyclic, good-sound}
 use Rattle.network.proofs.Evaluating.{unique, evaluate-settled, evaluate-read}
 
--- ---- cutting
+-- ---- the slots in use
 
 -- a test of all cubes is that of those in use
 pub cut-all : (p : List ℕ → Bool) (ns : List ℕ) (f : List (List ℕ)) → all (all p) (cut ns f) ≡ all p (take (total (λ c. c) ns) f)
 unfolding cut
 cut-all p [] f = refl
-cut-all p (n ∷ ns) f = rw (take-add n (total (λ c. c) ns) f, all-append p (take n f) (take (total (λ c. c) ns) (drop n f))) (ap (all p (take n f) &&_) (cut-all p ns (drop n f)))
-
--- ---- the slots in use
+cut-all p (n ∷ ns) f =
+    rw (take-add n (total (λ c. c) ns) f, all-append p (take n f) (take (total (λ c. c) ns) (drop n f))) (ap (all p (take n f) &&_) (cut-all p ns (drop n f)))
 
 drop-take : {A : Type 0} (n m : ℕ) (l : List A) → drop n (take (n + m) l) ≡ take m (drop n l)
 drop-take zero m l = rw (zero-add m)
@@ -72,14 +71,6 @@ module _ (n m : Network) (e : Alike n m) where
   unfolding rules
   rules-same = let s : sized n ≡ sized m = rw (e .counts, e .inputs, e .outputs, e .divisors) in ap₂ _&&_ s (ap ruled held-same)
 
-  pub judged-same : judged n ≡ judged m
-  unfolding judged
-  judged-same = rw rules-same
-
-  pub counted-same : counted n ≡ counted m
-  unfolding counted
-  counted-same = ap₂ (λ (b : Bool) (k : Net). cond b (Is (literalCount k)) (No 10)) rules-same held-same
-
   pub evaluated-same : (s : ℕ) → evaluated n s ≡ evaluated m s
   unfolding evaluated
   evaluated-same s = ap₂ (λ (b : Bool) (k : Net). cond b (Is (evaluate k s)) (No 10)) rules-same held-same
@@ -100,15 +91,8 @@ module _ (n : Network) where
   divisor-held i =
       numbered-at (n .inputs) (drop (n .outputs) (cut (used n) (cubesOf (n .words)))) i ∙ getD-drop (n .outputs) (cut (used n) (cubesOf (n .words))) i []
 
-  -- the literal count is over the cubes in use
-  pub literals-held : literalCount (netOf n) ≡ total length (take (total (λ c. c) (used n)) (cubesOf (n .words)))
-  literals-held = ap (total literalsOf) nodes-held ∙ cut-total length (used n) (cubesOf (n .words))
-
   pub cubes-held : total (λ c. c) (used n) ≤ length (cubesOf (n .words)) → cubeCount (netOf n) ≡ total (λ c. c) (used n)
   cubes-held h = ap (total length) nodes-held ∙ cut-lengths (used n) (cubesOf (n .words)) h
-
-  pub reach-held : (v : ℕ) → all (reach v) (nodes (netOf n)) ≡ all (all (λ l. ltb (l / 2) v)) (take (total (λ c. c) (used n)) (cubesOf (n .words)))
-  reach-held v = ap (all (reach v)) nodes-held ∙ cut-all (all (λ l. ltb (l / 2) v)) (used n) (cubesOf (n .words))
 
   -- as many outputs and divisors as it says, where there are counts for them
   module _ (h : n .outputs + n .divisors ≤ length (n .counts)) where
@@ -131,7 +115,7 @@ module _ (n : Network) where
     pub few : n .inputs + n .divisors ≤ mostVariables
     pub cubes : total (λ c. c) (used n) ≤ mostCubes
     pub expressions : all expression (nodes (netOf n)) ≡ true
-    pub reached : all (reach (variables (netOf n))) (nodes (netOf n)) ≡ true
+    pub reached : all (over (netOf n)) (nodes (netOf n)) ≡ true
     pub literals : literalCount (netOf n) ≤ mostLiterals
     pub whole : length (listing (netOf n)) ≡ length ((netOf n) .divisors)
 
@@ -150,8 +134,8 @@ module _ (n : Network) where
       let c = both (upTo mostOutputs (n .outputs)) (leb (n .inputs + n .divisors) mostVariables && leb t mostCubes) (b .1) in
       let d = both (leb (n .inputs + n .divisors) mostVariables) (leb t mostCubes) (c .1) in
       let last = leb (literalCount (netOf n)) mostLiterals && eqb (length (listing (netOf n))) (length ((netOf n) .divisors)) in
-      let e = both (all expression (nodes (netOf n))) (all (reach (variables (netOf n))) (nodes (netOf n)) && last) (a .1) in
-      let f = both (all (reach (variables (netOf n))) (nodes (netOf n))) last (e .1) in
+      let e = both (all expression (nodes (netOf n))) (all (over (netOf n)) (nodes (netOf n)) && last) (a .1) in
+      let f = both (all (over (netOf n)) (nodes (netOf n))) last (e .1) in
       let g = both (leb (literalCount (netOf n)) mostLiterals) (eqb (length (listing (netOf n))) (length ((netOf n) .divisors))) (f .1) in
       record {
         inputs = up-out mostInputs (n .inputs) (b .0);
@@ -181,33 +165,33 @@ module _ (n : Network) where
   abbrev fs : List (List (List ℕ))
   fs = drop (n .outputs) (cut (used n) (cubesOf (n .words)))
 
-  -- the divisors of a network held so have numbers of their own
+  -- the divisors of a network held so are numbered in turn, and so have numbers of their own
+  pub held-turn : InTurn (netOf n)
+  held-turn = ap (numbered (n .inputs)) (sym (numbered-cubes (n .inputs) fs))
+
   pub held-distinct : Distinct (netOf n)
   held-distinct = numbered-distinct (netOf n) fs refl
 
+  tested-closed : Tested → Closed (netOf n)
+  tested-closed t = nodes-closed (netOf n) (over-out (netOf n) (nodes (netOf n)) (t .reached))
+
   -- what evaluation stands on
   pub rules-sound : rules n ≡ true → Sound (netOf n)
-  rules-sound h = let t = rules-tested h in record { distinct = held-distinct; closed = reach-closed (netOf n) fs refl (t .reached); whole = t .whole }
-
-  -- the answer is read off any assignment that fits the setting
-  pub rules-read : rules n ≡ true → (s : ℕ) (a : ℕ → Bool) → Consistent (netOf n) (bit s) a → evaluated n s ≡ Is (packed (answers (netOf n) a))
-  unfolding evaluated
-  rules-read h s a c = rw h (ap Is (evaluate-read (netOf n) (rules-sound h) s a c))
+  rules-sound h = let t = rules-tested h in record { distinct = held-distinct; closed = tested-closed t; whole = t .whole }
 
   -- a struct of the sizes that it says follows the rules by the test
   pub lawful-rules : length ((netOf n) .outputs) ≡ n .outputs → length ((netOf n) .divisors) ≡ n .divisors → Follows n → rules n ≡ true
   lawful-rules o d w =
       let l = w .lawful in
-      let near : all (reach (variables (netOf n))) (nodes (netOf n)) ≡ true = reach-in (variables (netOf n)) (nodes (netOf n)) (l .good .known) in
       tested-rules (record {
         inputs = l .inputs;
         outputs = omega (arith, l .outputs);
         few = omega (arith, l .within .variables);
         cubes = w .counted;
         expressions = all-in expression (nodes (netOf n)) (l .good .expressions);
-        reached = near;
+        reached = over-in (netOf n) (nodes (netOf n)) (λ f m v r. below-known (netOf n) fs refl v (l .good .known f m v r));
         literals = l .within .literals;
-        whole = (listing-all (netOf n) held-distinct (reach-closed (netOf n) fs refl near)) .1 (l .good .acyclic);
+        whole = good-sound (netOf n) (l .good) .whole;
       })
 
   module _ (s : Shaped n) where
@@ -219,7 +203,7 @@ module _ (n : Network) where
     rules-divisors h = let t = rules-tested h in divisors-held n (omega (arith, s .slots))
 
     rules-into : rules n ≡ true → Follows n
-    rules-into h = let t = rules-tested h in let o = rules-sound h in record {
+    rules-into h = let t = rules-tested h in record {
       counted = t .cubes;
       lawful = record {
         inputs = t .inputs;
@@ -231,9 +215,9 @@ module _ (n : Network) where
         };
         good = record {
           expressions = λ f m. all-out expression m (t .expressions);
-          known = reach-out (variables (netOf n)) (nodes (netOf n)) (t .reached);
-          inTurn = ap (numbered (n .inputs)) (sym (numbered-cubes (n .inputs) fs));
-          acyclic = (listing-all (netOf n) held-distinct (o .closed)) .0 (t .whole);
+          known = λ f m v r. known-below (netOf n) fs refl v (over-out (netOf n) (nodes (netOf n)) (t .reached) f m v r);
+          inTurn = held-turn;
+          acyclic = listing-acyclic (netOf n) held-distinct (t .whole);
         };
       };
     }
@@ -258,11 +242,13 @@ module _ (n : Network) where
     pub rules-evaluate : rules n ≡ true → (s : ℕ) → (a : ℕ → Bool) × Consistent (netOf n) (bit s) a
         × ((b : ℕ → Bool) → Consistent (netOf n) (bit s) b → (v : ℕ) → v < n .inputs + n .divisors → a v ≡ b v)
         × (evaluated n s ≡ Is (packed (answers (netOf n) a)))
+    unfolding evaluated
     rules-evaluate h s =
         let o = rules-sound h in
+        let a = settle (netOf n) (listing (netOf n)) (bit s) in
         let c = evaluate-settled (netOf n) o s in (
-          settle (netOf n) (listing (netOf n)) (bit s),
+          a,
           c,
-          λ b k v l. unique (netOf n) (o .whole) (bit s) (settle (netOf n) (listing (netOf n)) (bit s)) b c k v (below-known (netOf n) fs refl v (omega (arith, rules-divisors h))),
-          rules-read h s (settle (netOf n) (listing (netOf n)) (bit s)) c,
+          λ b k v l. unique (netOf n) (o .whole) (bit s) a b c k v (below-known (netOf n) fs refl v (omega (arith, rules-divisors h))),
+          rw h (ap Is (evaluate-read (netOf n) o s a c)),
         )

@@ -12,7 +12,6 @@ use Rattle.expression.specs.Words.{cubesOf, Placed}
 use Rattle.expression.proofs.Words.{zeros}
 use Rattle.network.specs.Net.{Net, nodes}
 use Rattle.network.specs.Handed.{flat, nodeSlots, cubeSlots, wordSlots, LaidNodes, Holds}
-use Rattle.network.specs.declared.Network.{Network}
 use Rattle.network.proofs.Handing.{flat-length, flat-last}
 
 pub laid-none : LaidNodes (replicate wordSlots 0) (replicate nodeSlots 0) 0 []

@@ -2,6 +2,7 @@ pub mod Places
 pub mod Numbering
 pub mod Listings
 pub mod Evaluating
+pub mod Mapping
 pub mod Holding
 pub mod Handing
 pub mod Laying

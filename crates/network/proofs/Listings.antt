@@ -14,12 +14,13 @@ use Rattle.sets.specs.Sets.{mem, asc}
 use Rattle.sets.proofs.Truth.{both, either, neither, together, decided, clash, refuted}
 use Rattle.sets.proofs.Lists.{_∈_, all-out, map-in, map-out, pairwise-imp}
 use Rattle.sets.proofs.Sets.{mem-of, of-mem}
-use Rattle.network.specs.Net.{Node, Net}
+use Rattle.network.specs.Net.{Node, Net, nodes, variables}
 use Rattle.network.specs.Listing.{ready, nextReady, listMore, listing}
-use Rattle.network.specs.Meaning.{Reads, Through, ListedNext, Closed, Distinct, differ}
+use Rattle.network.specs.Meaning.{Reads, Through, ListedNext, Closed, Distinct, Sound, differ}
 use Rattle.network.specs.Meaning.Through.{itself, others}
+use Rattle.network.specs.Rules.{InTurn, Good}
 use Rattle.network.proofs.Places.{split-in, all-fails, differ-in, once-le, once-cons, once-all, once-in}
-use Rattle.network.proofs.Numbering.{numbers-ahead, cubes-at}
+use Rattle.network.proofs.Numbering.{numbers-ahead, cubes-at, numbered-distinct, nodes-closed, below-known}
 
 -- ---- ready
 
@@ -275,3 +276,20 @@ module _ (n : Net) (d : Distinct n) where
       | inr t ↦ omega (arith, ltb-false (length (listing n)) (length (n .divisors)) t, listing-length n)
     ],
   )
+
+-- ---- numbered in turn
+
+module _ (n : Net) (t : InTurn n) (k : (f : List (List ℕ)) → f ∈ nodes n → (v : ℕ) → Reads f v → v < variables n) where
+  turn-distinct : Distinct n
+  turn-distinct = numbered-distinct n (map (λ (e : Node). e .cubes) (n .divisors)) t
+
+  turn-closed : Closed n
+  turn-closed = nodes-closed n (λ f m v r. below-known n (map (λ (e : Node). e .cubes) (n .divisors)) t v (k f m v r))
+
+  -- where only variables of the network are read, the listing is whole exactly when none reads itself through others
+  pub turn-listing : Distinct n × Closed n × ((length (listing n) ≡ length (n .divisors)) ↔ ((v : ℕ) → Through n v v → ⊥))
+  turn-listing = (turn-distinct, turn-closed, listing-all n turn-distinct turn-closed)
+
+-- so a network by the rules is sound
+pub good-sound : (n : Net) → Good n → Sound n
+good-sound n g = let w = turn-listing n (g .inTurn) (g .known) in record { distinct = w .0; closed = w .1; whole = (w .2) .1 (g .acyclic) }

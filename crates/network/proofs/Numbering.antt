@@ -1,8 +1,8 @@
 -- Divisors numbered from v on have the numbers v, v + 1, .., and so numbers of their own. Assumes nothing.
 use Prim.Native.Nat.{ℕ, zero, suc, _+_, _-_, _/_, _<_, _≤_}
 use mathlib.Core.Path.{_≡_, refl, sym, ap, _∙_, subst}
-use mathlib.Core.Logic.{inl, inr}
-use mathlib.Core.Bool.{Bool, true, false, cond}
+use mathlib.Core.Logic.{inl, inr, _↔_}
+use mathlib.Core.Bool.{Bool, true, false, cond, or-true}
 use mathlib.Core.List.{List, [], _∷_, map, List·Memᴰ·head as here, List·Memᴰ·tail as there, List·Memᴰ·not-nil, List·Memᴰ·cases-cons, Memᴰ·append-left, Memᴰ·append-right}
 use native.Mathlib.Omega.{arith}
 use lib.Dec.{leb, ltb, eqb}
@@ -10,11 +10,11 @@ use lib.ListN.{length, getD}
 use borrow.Author.Tests.{eqb-true, eq-eqb, ne-eqb, leb-true, ltb-true, ltb-false, lt-ltb}
 use Rattle.sets.specs.Lists.{all, from}
 use Rattle.sets.specs.Sets.{asc, mem}
-use Rattle.sets.proofs.Truth.{both, decided, clash}
-use Rattle.sets.proofs.Lists.{_∈_, all-in, all-out, map-in, ahead}
-use Rattle.sets.proofs.Sets.{from-asc, from-mem, mem-of}
-use Rattle.network.specs.Net.{Node, Net, nodes, variables, cubesAt}
-use Rattle.network.specs.Meaning.{Reads, Known, Closed, Distinct}
+use Rattle.sets.proofs.Truth.{both, either, decided, clash, iff}
+use Rattle.sets.proofs.Lists.{_∈_, all-in, all-out, all-cong, map-in, map-out, ahead}
+use Rattle.sets.proofs.Sets.{from-asc, from-mem, mem-of, of-mem}
+use Rattle.network.specs.Net.{Node, Net, nodes, variables, known, over, cubesAt}
+use Rattle.network.specs.Meaning.{Reads, IsVariable, Closed, Distinct}
 use Rattle.network.specs.Held.{numbered, reach}
 
 -- the nodes are the outputs and the divisors
@@ -114,17 +114,50 @@ reach-out k fs h f m v (c, i, (l, j, p)) =
 pub reach-in : (k : ℕ) (fs : List (List (List ℕ))) → ((f : List (List ℕ)) → f ∈ fs → (v : ℕ) → Reads f v → v < k) → all (reach k) fs ≡ true
 reach-in k fs r = all-in (reach k) fs (λ f m. all-in (all (λ x. ltb (x / 2) k)) f (λ c i. all-in (λ x. ltb (x / 2) k) c (λ l j. lt-ltb (l / 2) k (r f m (l / 2) (c, i, (l, j, refl))))))
 
--- ---- the variables of a network whose divisors are numbered from the inputs on
+-- ---- the variables of a network
+
+module _ (n : Net) where
+  -- the test is passed by exactly the inputs and the numbers of divisors
+  pub known-iff : (v : ℕ) → (known n v ≡ true) ↔ IsVariable n v
+  known-iff v = (into, back)
+    where
+      numbers : List ℕ
+      numbers = map (λ (e : Node). e .number) (n .divisors)
+
+      into : known n v ≡ true → IsVariable n v
+      into h = elim (either (ltb v (n .inputs)) (mem v numbers) h) [
+        | inl t ↦ inl (ltb-true v (n .inputs) t)
+        | inr t ↦ inr (map-out (λ (e : Node). e .number) (n .divisors) (of-mem v numbers t))
+      ]
+
+      back : IsVariable n v → known n v ≡ true
+      back (inl h) = rw (lt-ltb v (n .inputs) h)
+      back (inr (e, m, p)) = rw (p, mem-of (map-in (λ (g : Node). g .number) m)) (or-true (ltb (e .number) (n .inputs)))
+
+  -- every literal is of a variable exactly when every variable read is one
+  pub over-out : (fs : List (List (List ℕ))) → all (over n) fs ≡ true → (f : List (List ℕ)) → f ∈ fs → (v : ℕ) → Reads f v → IsVariable n v
+  over-out fs h f m v (c, i, (l, j, p)) =
+      known-iff v .0 (rw p (all-out (λ x. known n (x / 2)) j (all-out (all (λ x. known n (x / 2))) i (all-out (over n) m h))))
+
+  pub over-in : (fs : List (List (List ℕ))) → ((f : List (List ℕ)) → f ∈ fs → (v : ℕ) → Reads f v → IsVariable n v) → all (over n) fs ≡ true
+  over-in fs r =
+      all-in (over n) fs (λ f m. all-in (all (λ x. known n (x / 2))) f (λ c i. all-in (λ x. known n (x / 2)) c (λ l j.
+      known-iff (l / 2) .1 (r f m (l / 2) (c, i, (l, j, refl))))))
+
+  -- the expressions read inputs and divisors only
+  pub nodes-closed : ((f : List (List ℕ)) → f ∈ nodes n → (v : ℕ) → Reads f v → IsVariable n v) → Closed n
+  nodes-closed k = record { outputs = λ f m. k f (in-output n m); divisors = λ g m. k (g .cubes) (in-divisor n m) }
+
+-- ---- numbered from the inputs on, they are the numbers below theirs
 
 module _ (n : Net) (fs : List (List (List ℕ))) (e : n .divisors ≡ numbered (n .inputs) fs) where
-  -- they are the inputs and the divisors
-  pub known-below : (v : ℕ) → Known n v → v < variables n
+  pub known-below : (v : ℕ) → IsVariable n v → v < variables n
   known-below v (inl h) = omega arith
   known-below v (inr (g, m, p)) =
       let r = numbered-range (n .inputs) fs g (subst (λ (l : List Node). g ∈ l) e m) in
       omega (arith, r .1, ap length e, numbered-length (n .inputs) fs)
 
-  pub below-known : (v : ℕ) → v < variables n → Known n v
+  pub below-known : (v : ℕ) → v < variables n → IsVariable n v
   below-known v h = elim (decided (ltb v (n .inputs))) [
     | inl t ↦ inl (ltb-true v (n .inputs) t)
     | inr t ↦
@@ -138,9 +171,10 @@ module _ (n : Net) (fs : List (List (List ℕ))) (e : n .divisors ≡ numbered (
         )
   ]
 
-  -- so where every literal is of a variable of the network, the expressions read inputs and divisors only
-  pub reach-closed : all (reach (variables n)) (nodes n) ≡ true → Closed n
-  reach-closed h = record {
-    outputs = λ f m v r. below-known v (reach-out (variables n) (nodes n) h f (in-output n m) v r);
-    divisors = λ g m v r. below-known v (reach-out (variables n) (nodes n) h (g .cubes) (in-divisor n m) v r);
-  }
+  pub known-turn : (v : ℕ) → known n v ≡ ltb v (variables n)
+  known-turn v = iff
+      (λ h. lt-ltb v (variables n) (known-below v (known-iff n v .0 h)))
+      (λ h. known-iff n v .1 (below-known v (ltb-true v (variables n) h)))
+
+  pub over-turn : (f : List (List ℕ)) → over n f ≡ reach (variables n) f
+  over-turn f = all-cong _ _ f (λ c m. all-cong _ _ c (λ l i. known-turn (l / 2)))

@@ -1,6 +1,6 @@
 -- What is told of an answer: by the rules or refused by 10, and no two answers differ. Assumes nothing.
 use Prim.Native.Nat.{ℕ}
-use mathlib.Core.Path.{_≡_, refl, sym, _∙_, subst}
+use mathlib.Core.Path.{_≡_, refl, sym, _∙_}
 use mathlib.Core.Bool.{Bool, true, false, cond}
 use native.Mathlib.Omega.{arith}
 use Rattle.expression.specs.declared.Verdict.the-variants.{Accepted, Refused}

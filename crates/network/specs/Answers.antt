@@ -6,10 +6,10 @@ use lib.ListN.{length, replicate}
 use Rattle.sets.specs.Lists.{all}
 use Rattle.expression.specs.declared.Verdict.{Verdict}
 use Rattle.expression.specs.declared.Verdict.the-variants.{Accepted, Refused}
-use Rattle.network.specs.Net.{nodes, variables, literalCount}
+use Rattle.network.specs.Net.{nodes, over, literalCount}
 use Rattle.network.specs.Listing.{listing}
 use Rattle.network.specs.Evaluation.{evaluate}
-use Rattle.network.specs.Held.{netOf, sized, reach, rules, mostVariables}
+use Rattle.network.specs.Held.{netOf, sized, rules, mostVariables}
 use Rattle.network.specs.declared.Network.{Network}
 use Rattle.network.specs.declared.Listed.{Listed}
 use Rattle.network.specs.declared.Number.{Number}
@@ -30,7 +30,7 @@ padded l = l ++ replicate (mostVariables - length l) 0
 
 -- within the limits, and every literal of a variable
 unfoldable pub listable : Network → Bool
-listable n = sized n && all (reach (variables (netOf n))) (nodes (netOf n))
+listable n = sized n && all (over (netOf n)) (nodes (netOf n))
 
 -- no number is listed where that does not hold
 unfoldable pub numbersOf : Network → List ℕ

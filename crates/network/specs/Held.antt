@@ -8,7 +8,7 @@ use Rattle.sets.specs.Lists.{all, total}
 use Rattle.expression.specs.Words.{cubesOf}
 use Rattle.expression.specs.Expression.{expression}
 use Rattle.network_nodes.specs.Nodes.{cut}
-use Rattle.network.specs.Net.{Node, Net, nodes, variables, literalCount}
+use Rattle.network.specs.Net.{Node, Net, nodes, over, literalCount}
 use Rattle.network.specs.Listing.{listing}
 use Rattle.network.specs.declared.Network.{Network}
 
@@ -62,7 +62,7 @@ reach v f = all (all (λ l. ltb (l / 2) v)) f
 -- every node an expression over the network's variables, few enough literals, and no divisor reads itself through others: all are listed
 unfoldable pub ruled : Net → Bool
 ruled n =
-    all expression (nodes n) && (all (reach (variables n)) (nodes n) && (leb (literalCount n) mostLiterals && eqb (length (listing n)) (length (n .divisors))))
+    all expression (nodes n) && (all (over n) (nodes n) && (leb (literalCount n) mostLiterals && eqb (length (listing n)) (length (n .divisors))))
 
 -- the rules on networks and expressions, and the limits
 unfoldable pub rules : Network → Bool

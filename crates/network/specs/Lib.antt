@@ -6,4 +6,5 @@ pub mod Held
 pub mod Handed
 pub mod Answers
 pub mod Rules
+pub mod Map
 pub mod Parts

@@ -46,13 +46,13 @@ pub record Distinct (n : Net) : Type 0 where
   pub above : (e : Node) → List·Memᴰ e (n .divisors) → n .inputs ≤ e .number
 
 -- v is an input or the number of a divisor
-abbrev pub Known : Net → ℕ → Type 0
-Known n v = (v < n .inputs) ⊎ ((e : Node) × List·Memᴰ e (n .divisors) × (v ≡ e .number))
+abbrev pub IsVariable : Net → ℕ → Type 0
+IsVariable n v = (v < n .inputs) ⊎ ((e : Node) × List·Memᴰ e (n .divisors) × (v ≡ e .number))
 
 -- the expressions read inputs and divisors only
 pub record Closed (n : Net) : Type 0 where
-  pub outputs : (f : List (List ℕ)) → List·Memᴰ f (n .outputs) → (v : ℕ) → Reads f v → Known n v
-  pub divisors : (e : Node) → List·Memᴰ e (n .divisors) → (v : ℕ) → Reads (e .cubes) v → Known n v
+  pub outputs : (f : List (List ℕ)) → List·Memᴰ f (n .outputs) → (v : ℕ) → Reads f v → IsVariable n v
+  pub divisors : (e : Node) → List·Memᴰ e (n .divisors) → (v : ℕ) → Reads (e .cubes) v → IsVariable n v
 
 -- numbers of their own, known variables, and every divisor listed
 pub record Sound (n : Net) : Type 0 where

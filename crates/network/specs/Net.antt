@@ -1,10 +1,11 @@
 -- A network: n inputs, an expression for each output and each divisor. Inputs are variables 0 to n - 1, divisors have numbers of their own.
-use Prim.Native.Nat.{ℕ, _+_}
+use Prim.Native.Nat.{ℕ, _+_, _/_}
 use mathlib.Core.List.{List, [], _∷_, _++_, map}
-use mathlib.Core.Bool.{Bool, cond}
-use lib.Dec.{eqb}
+use mathlib.Core.Bool.{Bool, cond, _||_}
+use lib.Dec.{ltb, eqb}
 use lib.ListN.{length}
-use Rattle.sets.specs.Lists.{total}
+use Rattle.sets.specs.Lists.{all, total}
+use Rattle.sets.specs.Sets.{mem}
 use Rattle.expression.specs.Expression.{literalsOf}
 
 pub record Node : Type 0 where
@@ -23,6 +24,14 @@ nodes n = n .outputs ++ map (λ (e : Node). e .cubes) (n .divisors)
 -- the number of variables: inputs and divisors
 abbrev pub variables : Net → ℕ
 variables n = n .inputs + length (n .divisors)
+
+-- v is a variable of n: an input, or the number of a divisor
+abbrev pub known : Net → ℕ → Bool
+known n v = ltb v (n .inputs) || mem v (map (λ (e : Node). e .number) (n .divisors))
+
+-- every literal of an expression is of a variable of n
+abbrev pub over : Net → List (List ℕ) → Bool
+over n f = all (all (λ l. known n (l / 2))) f
 
 abbrev pub cubeCount : Net → ℕ
 cubeCount n = total length (nodes n)

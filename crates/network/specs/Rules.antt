@@ -22,13 +22,16 @@ pub record Alike (n m : Network) : Type 0 where
 
 -- ---- the rules
 
+-- the divisors are numbered in turn, from the inputs on
+abbrev pub InTurn : Net → Type 0
+InTurn n = n .divisors ≡ numbered (n .inputs) (map (λ (e : Node). e .cubes) (n .divisors))
+
 -- what they say of the expressions
 pub record Good (n : Net) : Type 0 where
   -- every node has an expression, over the inputs and the divisors
   pub expressions : (f : List (List ℕ)) → List·Memᴰ f (nodes n) → expression f ≡ true
   pub known : (f : List (List ℕ)) → List·Memᴰ f (nodes n) → (v : ℕ) → Reads f v → v < variables n
-  -- the divisors are numbered in turn, from the inputs on
-  pub inTurn : n .divisors ≡ numbered (n .inputs) (map (λ (e : Node). e .cubes) (n .divisors))
+  pub inTurn : InTurn n
   -- no divisor reads itself through others
   pub acyclic : (v : ℕ) → Through n v v → ⊥
 
