@@ -20,13 +20,13 @@ use Rattle.network.specs.Meaning.Along.{none as end, more as on}
 use Rattle.network.proofs.Numbering.{in-output, in-divisor}
 use Rattle.network.proofs.Evaluating.{listing-order, evaluate-order}
 use Rattle.network.proofs.Handing.{InTurn}
+use Rattle.network.proofs.Listings.{turn-listing, good-sound}
 use Rattle.extract_laws.specs.Divisor.{Divisor, pair, own, rewrite}
 use Rattle.extract_laws.specs.Extract.{gather, pairsIn, sumOf, sumsIn, candidates, step}
 use Rattle.extract_laws.specs.Run.{inOrder}
 use Rattle.extract_laws.specs.Meaning.{Good}
 use Rattle.extract_laws.proofs.Making.{cubes, onNode, cubes-map, nodes-map, numbered-map, step-node}
 use Rattle.extract_laws.proofs.Offering.{gather-out, sums-out, sum-of-out}
-use Rattle.extract_laws.proofs.Reading.{turn-listing, good-sound}
 
 same-sort : (f : List (List ℕ)) → SameCubes f (sort f)
 same-sort f = record { into = λ c m. sort-in m; back = λ c m. sort-out f m }

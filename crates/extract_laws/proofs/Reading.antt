@@ -11,27 +11,12 @@ use Rattle.network.specs.Net.{Node, Net, nodes, variables}
 use Rattle.network.specs.Listing.{listing}
 use Rattle.network.specs.Meaning.{Reads, Through, Distinct, Closed, Sound}
 use Rattle.network.specs.Meaning.Through.{itself, others}
-use Rattle.network.proofs.Numbering.{in-divisor, numbered-distinct, numbered-range, reach-in, reach-closed}
-use Rattle.network.proofs.Listings.{listing-all}
-use Rattle.network.proofs.Handing.{InTurn}
+use Rattle.network.proofs.Numbering.{in-divisor, numbered-range}
 use Rattle.extract_laws.specs.Divisor.{Divisor, own, hit}
 use Rattle.extract_laws.specs.Extract.{nextFree, step}
 use Rattle.extract_laws.specs.Meaning.{Good, Fit}
 use Rattle.extract_laws.proofs.Replacing.{rewrite-reads, own-reads}
 use Rattle.extract_laws.proofs.Making.{next-free, below-free, step-divisor}
-
--- where divisors are numbered in turn and only variables of the network are read, the listing is whole exactly when none reads itself through others
-pub turn-listing : (n : Net) → InTurn n → ((f : List (List ℕ)) → f ∈ nodes n → (v : ℕ) → Reads f v → v < variables n)
-    → Distinct n × Closed n × ((length (listing n) ≡ length (n .divisors)) ↔ ((v : ℕ) → Through n v v → ⊥))
-turn-listing n t k =
-    let fs = map (λ (e : Node). e .cubes) (n .divisors) in
-    let d = numbered-distinct n fs t in
-    let c = reach-closed n fs t (reach-in (variables n) (nodes n) k) in
-    (d, c, listing-all n d c)
-
--- so a good network is sound
-pub good-sound : (n : Net) → Good n → Sound n
-good-sound n g = let w = turn-listing n (g .inTurn) (g .known) in record { distinct = w .0; closed = w .1; whole = (w .2) .1 (g .acyclic) }
 
 -- ---- no divisor reads itself through others after a step
 

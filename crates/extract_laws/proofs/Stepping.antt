@@ -16,13 +16,14 @@ use Rattle.network.specs.Evaluation.{settle, answers, evaluate}
 use Rattle.network.specs.Meaning.{Reads, Consistent}
 use Rattle.network.proofs.Numbering.{in-output, in-divisor}
 use Rattle.network.proofs.Evaluating.{evaluate-settled, evaluate-read}
+use Rattle.network.proofs.Listings.{good-sound}
 use Rattle.extract_laws.specs.Divisor.{Divisor, pair, sum, own, sound, rewrite}
 use Rattle.extract_laws.specs.Extract.{redo, nextFree, step}
 use Rattle.extract_laws.specs.Meaning.{Good, Fit}
 use Rattle.extract_laws.proofs.Using.{sum-parts}
 use Rattle.extract_laws.proofs.Replacing.{rewrite-value, rewrite-expression, rewrite-ordered, rewrite-reads}
-use Rattle.extract_laws.proofs.Making.{next-free, below-free, step-node, step-variables, step-turn}
-use Rattle.extract_laws.proofs.Reading.{good-sound, step-acyclic}
+use Rattle.extract_laws.proofs.Making.{step-node, step-variables, step-turn}
+use Rattle.extract_laws.proofs.Reading.{step-acyclic}
 
 own-ordered : (d : Divisor) → sound d ≡ true → ordered (own d) ≡ true
 own-ordered (pair p q) s = refl

@@ -24,8 +24,8 @@ use Rattle.network.specs.Meaning.Through.{itself, others}
 use Rattle.network.specs.Held.{numbered}
 use Rattle.network.specs.Rules.{Lawful}
 use Rattle.network.proofs.Places.{differ-in, differ-out}
-use Rattle.network.proofs.Numbering.{in-output, in-divisor, numbered-length, numbered-numbers, numbered-cubes, numbered-distinct, cubes-at, reach-in, reach-closed, known-below, below-known}
-use Rattle.network.proofs.Listings.{ready-out, listing-once, listing-number, listing-in, listing-step, listing-all}
+use Rattle.network.proofs.Numbering.{in-output, in-divisor, numbered-length, numbered-numbers, numbered-cubes, cubes-at, known-below, below-known}
+use Rattle.network.proofs.Listings.{ready-out, listing-once, listing-number, listing-in, listing-step, good-sound}
 use Rattle.network.proofs.Evaluating.{evaluate-settled, evaluate-read}
 use Rattle.image_laws.specs.Renumber.{indexOf, newNumber, newNode, renumbered}
 use Rattle.image_laws.specs.Meaning.{OneOrder}
@@ -38,10 +38,7 @@ cubes l = map (λ (e : Node). e .cubes) l
 -- ---- the listing of a network by the rules
 
 pub lawful-sound : (n : Net) → Lawful n → Sound n
-lawful-sound n w =
-    let d = numbered-distinct n (cubes (n .divisors)) (w .good .inTurn) in
-    let c = reach-closed n (cubes (n .divisors)) (w .good .inTurn) (reach-in (variables n) (nodes n) (w .good .known)) in
-    record { distinct = d; closed = c; whole = (listing-all n d c) .1 (w .good .acyclic) }
+lawful-sound n w = good-sound n (w .good)
 
 module _ (n : Net) (w : Lawful n) where
   -- it has the number of each divisor, each once

@@ -1,5 +1,5 @@
 -- The network that the fields of the struct hold, and the rules on networks.
-use Prim.Native.Nat.{ℕ, suc, _+_, _/_}
+use Prim.Native.Nat.{ℕ, suc, _+_, _-_, _/_}
 use mathlib.Core.Bool.{Bool, _&&_}
 use mathlib.Core.List.{List, [], _∷_}
 use lib.Dec.{leb, ltb, eqb}
@@ -16,6 +16,18 @@ use Rattle.network.specs.declared.Network.{Network}
 unfoldable pub numbered : ℕ → List (List (List ℕ)) → List Node
 numbered v [] = []
 numbered v (f ∷ fs) = record { number = v; cubes = f } ∷ numbered (suc v) fs
+
+-- the number of the divisor at place i among the divisors
+abbrev pub numberAt : ℕ → ℕ → ℕ
+numberAt inputs i = inputs + i
+
+-- the place of the divisor v among the nodes, outputs first
+abbrev pub placeAt : ℕ → ℕ → ℕ → ℕ
+placeAt inputs outputs v = outputs + (v - inputs)
+
+-- the largest number that is held
+abbrev pub largest : ℕ
+largest = 18446744073709551615
 
 -- the counts in use: outputs first, then divisors
 abbrev pub used : Network → List ℕ

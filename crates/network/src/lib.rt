@@ -2,7 +2,8 @@
 use expression::Verdict;
 ghost use mathlib.Core.Path.{_≡_};
 ghost use Rattle.network.specs.Handed.{Blank, Told, refuses, Carries};
-ghost use Rattle.network.specs.Held.{upTo, sized};
+ghost use Prim.Native.Nat.{_+_, min};
+ghost use Rattle.network.specs.Held.{upTo, sized, numberAt, placeAt, largest};
 
 // The limits: inputs, outputs, inputs plus divisors, cubes, and literals counted over all of them.
 pub const INPUTS: usize = 32;
@@ -45,6 +46,35 @@ pub enum Number {
 pub struct Listed {
     pub count: usize,
     pub order: [u32; VARIABLES],
+}
+
+const LARGEST: usize = 18446744073709551615;
+
+// The sum, or the largest number where it is past that.
+fn sum(a: usize, b: usize) -> usize
+    ensures { λ r. ⌜ r ≡ min (a + b) largest ⌝ }
+{
+    if a > LARGEST - b {
+        return LARGEST;
+    }
+    a + b
+}
+
+// The number of the divisor at a place among the divisors.
+pub fn number_of(inputs: usize, place: usize) -> usize
+    ensures { λ r. ⌜ r ≡ min (numberAt inputs place) largest ⌝ }
+{
+    sum(inputs, place)
+}
+
+// The place among the nodes of the divisor with a number.
+pub fn place_of(inputs: usize, outputs: usize, number: usize) -> usize
+    ensures { λ r. ⌜ r ≡ min (placeAt inputs outputs number) largest ⌝ }
+{
+    if number < inputs {
+        return outputs;
+    }
+    sum(outputs, number - inputs)
 }
 
 // Whether x is from 1 to the most.

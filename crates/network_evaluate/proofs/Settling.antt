@@ -1,6 +1,6 @@
 -- Evaluation by cubes of true literals: divisors settle along the listing as the definition says, and outputs make up the answer's bits. Assumes nothing.
 use Prim.Native.Nat.{ℕ, _+_, _-_, _*_, _/_, _<_, _≤_}
-use mathlib.Core.Path.{_≡_, refl, sym, ap, ap₂, _∙_, subst}
+use mathlib.Core.Path.{_≡_, refl, sym, ap, ap₂, _∙_}
 use mathlib.Core.Logic.{inl, inr}
 use mathlib.Core.Bool.{Bool, true, false, cond, _&&_, _||_}
 use mathlib.Core.List.{List, [], _∷_, _++_, map, append-nil, append-assoc}
@@ -17,17 +17,17 @@ use Rattle.sets.proofs.Sets.{mem-of}
 use Rattle.sets.proofs.Packing.{packed-lt}
 use Rattle.expression.specs.Value.{lit, value}
 use Rattle.sets.specs.Sets.{mem, sub, insert}
-use Rattle.sets.proofs.Places.{drop-next, at-in}
-use Rattle.network.specs.Net.{Node, Net, cubesAt}
+use Rattle.sets.proofs.Places.{drop-next}
+use Rattle.network.specs.Net.{Net, cubesAt}
 use Rattle.network.specs.Listing.{ready, listing}
-use Rattle.network.specs.Meaning.{ListedNext, Distinct, Known, Sound}
+use Rattle.network.specs.Meaning.{ListedNext, Distinct, IsVariable, Sound}
 use Rattle.network.specs.Held.{numbered}
 use Rattle.network.specs.Evaluation.{assign, settle, evaluate}
 use Rattle.network_known.specs.Known.{known, Truths, signed, someWithin}
 use Rattle.network_known.proofs.Knowing.{known-listed, signed-more}
 use Rattle.network_evaluate.specs.Parts.{settledIn}
-use Rattle.network.proofs.Numbering.{numbered-at, numbered-range, numbered-distinct}
-use Rattle.network.proofs.Listings.{listing-step, listing-number, listing-in}
+use Rattle.network.proofs.Numbering.{numbered-at, numbered-distinct}
+use Rattle.network.proofs.Listings.{listing-step, listing-in}
 
 -- ---- values
 
@@ -105,7 +105,7 @@ module _ (net : Net) (ds : List (List (List ℕ))) (e : net .divisors ≡ number
     unfolding ready
     output-ready f m = all-in (all (λ l. known n (listing net) (l / 2))) f (λ c i. all-in (λ l. known n (listing net) (l / 2)) c (λ l j. seen (l / 2) (o .closed .outputs f m (l / 2) (c, i, (l, j, refl)))))
       where
-        seen : (v : ℕ) → Known net v → known n (listing net) v ≡ true
+        seen : (v : ℕ) → IsVariable net v → known n (listing net) v ≡ true
         seen v (inl h) = or-left (ltb v n) (mem v (listing net)) (lt-ltb v n h)
         seen v (inr (g, i, p)) = or-right (ltb v n) (mem v (listing net)) (rw p (mem-of (listing-in net (o .whole) g i)))
 

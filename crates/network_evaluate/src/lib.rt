@@ -62,7 +62,7 @@ fn settle(
     let mut i = 0;
     while i < count {
         let v = order[i] as usize;
-        t = step(words, counts, m + (v - n), v, t);
+        t = step(words, counts, network::place_of(n, m, v), v, t);
         i += 1;
     }
     t

@@ -8,7 +8,7 @@ use lib.ListN.{getD}
 use Rattle.sets.specs.Masks.{bit}
 use Rattle.sets.proofs.Lists.{_∈_, map-out}
 use Rattle.network.specs.Net.{Node, Net, nodes, cubesAt}
-use Rattle.network.specs.Meaning.{Reads, Known, Sound}
+use Rattle.network.specs.Meaning.{Reads, IsVariable, Sound}
 use Rattle.network.specs.Held.{netOf, rules}
 use Rattle.network.specs.Evaluation.{evaluate}
 use Rattle.network.specs.declared.Network.{Network}
@@ -17,7 +17,7 @@ use Rattle.network_hangs.specs.Hangs.{hangsOn, hangsAt}
 use Rattle.network_hangs.proofs.Hanging.{IsDivisor, Leans, KeepsAlone, known-at, hangs-iff, hangs-output}
 
 -- the expressions of a network read known variables alone
-node-known : (n : Net) → Sound n → (i v : ℕ) → Reads (getD (nodes n) i []) v → Known n v
+node-known : (n : Net) → Sound n → (i v : ℕ) → Reads (getD (nodes n) i []) v → IsVariable n v
 node-known n o = known-at n (nodes n) (λ f m v r. elim (List·Memᴰ·append-cases (n .outputs) m) [
   | inl i ↦ o .closed .outputs f i v r
   | inr i ↦ let q = map-out (λ (e : Node). e .cubes) (n .divisors) i in o .closed .divisors (q .0) (q .1) v (subst (λ g. Reads g v) (q .2) r)

@@ -18,7 +18,7 @@ use Rattle.expression.specs.Value.{lit, value}
 use Rattle.network.specs.Net.{Node, Net, cubesAt}
 use Rattle.network.specs.Listing.{listing}
 use Rattle.network.specs.Evaluation.{settle, evaluate}
-use Rattle.network.specs.Meaning.{Reads, Through, Known, Consistent, Sound}
+use Rattle.network.specs.Meaning.{Reads, Through, IsVariable, Consistent, Sound}
 use Rattle.network.specs.Meaning.Through.{itself, others}
 use Rattle.network.proofs.Places.{split-in}
 use Rattle.network.proofs.Numbering.{cubes-at}
@@ -125,7 +125,7 @@ module _ (n : Net) (o : Sound n) where
 
 -- ---- what an expression over known variables hangs on
 
-module _ (n : Net) (o : Sound n) (f : List (List ℕ)) (k : (v : ℕ) → Reads f v → Known n v) where
+module _ (n : Net) (o : Sound n) (f : List (List ℕ)) (k : (v : ℕ) → Reads f v → IsVariable n v) where
   known-is-divisor : (v : ℕ) → n .inputs ≤ v → Reads f v → IsDivisor n v
   known-is-divisor v h r = elim (k v r) [ inl i ↦ absurd (omega arith) | inr d ↦ d ]
 
@@ -208,7 +208,7 @@ pub record KeepsAlone (n m : Net) (l : List ℕ) : Type 0 where
   pub divisors : (v : ℕ) → v ∈ l → (e : Node) × (e ∈ m .divisors) × (v ≡ e .number) × (e .cubes ≡ cubesAt v (n .divisors))
 
 -- what one of some expressions reads is known, where that holds of all; past the last there is nothing to read
-pub known-at : (n : Net) (fs : List (List (List ℕ))) → ((f : List (List ℕ)) → f ∈ fs → (v : ℕ) → Reads f v → Known n v) → (j v : ℕ) → Reads (getD fs j []) v → Known n v
+pub known-at : (n : Net) (fs : List (List (List ℕ))) → ((f : List (List ℕ)) → f ∈ fs → (v : ℕ) → Reads f v → IsVariable n v) → (j v : ℕ) → Reads (getD fs j []) v → IsVariable n v
 known-at n fs k j v r = elim (decided (leb (length fs) j)) [
   | inl t ↦ let q = subst (λ f. Reads f v) (List·getD-eq-default fs [] (leb-true (length fs) j t)) r in absurd (List·Memᴰ·not-nil (q .1))
   | inr t ↦ k (getD fs j []) (at-in fs j [] (leb-false (length fs) j t)) v r
@@ -219,7 +219,7 @@ pub hangs-output : (n m : Net) → Sound n → Sound m → (j : ℕ) → getD (n
     → (s : ℕ) → bit (evaluate n s) j ≡ bit (evaluate m s) j
 hangs-output n m o q j e k s =
     let f = getD (n .outputs) j [] in
-    let known : (v : ℕ) → Reads f v → Known n v = known-at n (n .outputs) (o .closed .outputs) j in
+    let known : (v : ℕ) → Reads f v → IsVariable n v = known-at n (n .outputs) (o .closed .outputs) j in
     let a = settle n (listing n) (bit s) in
     let b = settle m (listing m) (bit s) in
     let c = evaluate-settled m q s in

@@ -4,20 +4,20 @@ use mathlib.Core.Path.{_≡_, refl, ap, ap₂, _∙_, subst}
 use mathlib.Core.Bool.{Bool, true, false, cond}
 use mathlib.Core.List.{List, []}
 use native.Mathlib.Omega.{arith}
-use lib.ListN.{length, getD, replicate, length-append, List·getD-append}
+use lib.ListN.{length, getD, drop, replicate, length-append, List·getD-append}
 use Rattle.sets.specs.Lists.{all}
 use Rattle.sets.proofs.Truth.{both, together}
-use Rattle.sets.proofs.Lists.{_∈_}
+use Rattle.sets.proofs.Lists.{_∈_, all-cong}
 use Rattle.sets.proofs.Places.{at-in}
 use Rattle.expression.specs.Expression.{expression}
-use Rattle.network.specs.Net.{Node, Net, nodes, variables}
+use Rattle.network.specs.Net.{Node, Net, nodes, variables, over}
 use Rattle.network.specs.Listing.{listing}
 use Rattle.network.specs.Held.{numbered, netOf, sized, reach, ruled, rules}
 use Rattle.network.specs.Answers.{listable, numbersOf, listedOf}
 use Rattle.network.specs.Parts.{nodesOf, divisorsOf, netAt, InLimits, Limited}
 use Rattle.network.specs.declared.Network.{Network}
 use Rattle.network.specs.declared.Listed.{Listed}
-use Rattle.network.proofs.Numbering.{numbered-length, numbered-range}
+use Rattle.network.proofs.Numbering.{numbered-length, numbered-range, over-turn}
 use Rattle.network.proofs.Listings.{listing-length, listing-number}
 use Rattle.network.proofs.Holding.{nodes-held, divisors-held}
 use Rattle.network.proofs.Parts.{divisors-length}
@@ -74,7 +74,11 @@ module _ (n : Network) where
   pub listable-as : (b : Bool) → Limited n → sized n ≡ true
       → all (reach (n .inputs + n .divisors)) (nodesOf (n .outputs + n .divisors) (n .counts) (n .words)) ≡ b → listable n ≡ b
   unfolding listable
-  listable-as b z e q = rw (e, nodes-held n, divisors-held n (z .counted)) q
+  listable-as b z e q =
+      rw e
+      (all-cong (over (netOf n)) (reach (variables (netOf n))) (nodes (netOf n)) (λ f m. over-turn (netOf n) (drop (n .outputs) (nodesOf (n .outputs + n .divisors) (n .counts) (n .words))) refl f)
+      ∙ ap₂ (λ (k : ℕ) (fs : List (List (List ℕ))). all (reach (n .inputs + k)) fs) (divisors-held n (z .counted)) (nodes-held n)
+      ∙ q)
 
   pub listable-sized : listable n ≡ true → sized n ≡ true
   unfolding listable
@@ -94,5 +98,5 @@ module _ (n : Network) where
   rules-listable h =
       let a = both (sized n) (ruled (netOf n)) h in
       let e = both (all expression (nodes (netOf n))) _ (a .1) in
-      let f = both (all (reach (variables (netOf n))) (nodes (netOf n))) _ (e .1) in
+      let f = both (all (over (netOf n)) (nodes (netOf n))) _ (e .1) in
       together (sized n) _ (a .0) (f .0)

@@ -61,8 +61,9 @@ fn next(words: &[u64], counts: &[usize], n: usize, m: usize, k: usize, known: Cu
 {
     let mut i = 0;
     while i < k {
-        if is_next(network_nodes::node(words, counts, m + i), n + i, known) {
-            return Place::At(n + i);
+        let v = network::number_of(n, i);
+        if is_next(network_nodes::node(words, counts, m + i), v, known) {
+            return Place::At(v);
         }
         i += 1;
     }
@@ -74,7 +75,7 @@ fn list(words: &[u64], counts: &[usize], n: usize, m: usize, k: usize) -> Listed
     requires { ⌜ InLimits n m k (now words) (now counts) ⌝ }
     ensures { λ r. ⌜ PaddedList (listing (netAt n m k (now (counts .entry)) (now (words .entry)))) (r .count) (r .order) ⌝ }
 {
-    let mut order = [0u32; 64];
+    let mut order = [0u32; network::VARIABLES];
     let mut count = 0;
     let mut known = below(n);
     while count < k {
@@ -120,7 +121,7 @@ fn nothing() -> Listed
 {
     Listed {
         count: 0,
-        order: [0u32; 64],
+        order: [0u32; network::VARIABLES],
     }
 }
 

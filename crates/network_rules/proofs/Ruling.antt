@@ -11,9 +11,9 @@ use Rattle.sets.specs.Lists.{all, total}
 use Rattle.sets.proofs.Truth.{both, clash}
 use Rattle.expression.specs.Expression.{expression, literalsOf}
 use Rattle.expression.specs.Answers.{capped}
-use Rattle.network.specs.Net.{nodes, variables}
+use Rattle.network.specs.Net.{nodes, over}
 use Rattle.network.specs.Listing.{listing}
-use Rattle.network.specs.Held.{netOf, sized, reach, ruled, rules, mostLiterals}
+use Rattle.network.specs.Held.{netOf, sized, ruled, rules, mostLiterals}
 use Rattle.network.specs.Answers.{counted, listable, numbersOf}
 use Rattle.network.specs.Handed.{Shaped}
 use Rattle.network.specs.Parts.{nodesOf}
@@ -33,7 +33,7 @@ module _ (n : Network) where
   -- without a listing the rules are broken
   pub rules-no : listable n ≡ false → false ≡ rules n
   unfolding rules ruled listable
-  rules-no h = go (sized n) (all expression (nodes (netOf n))) (all (reach (variables (netOf n))) (nodes (netOf n))) _ h
+  rules-no h = go (sized n) (all expression (nodes (netOf n))) (all (over (netOf n)) (nodes (netOf n))) _ h
     where
       go : (s x r w : Bool) → (s && r) ≡ false → false ≡ (s && (x && (r && w)))
       go false x r w e = refl
@@ -51,7 +51,7 @@ module _ (n : Network) where
       few = (sized-out n s ((both (sized n) _ h) .0)) .counted
 
       -- the other rules, of the nodes as they are held
-      ruled-held : ruled (netOf n) ≡ (all expression fs && (all (reach (variables (netOf n))) (nodes (netOf n)) && (leb (total literalsOf fs) mostLiterals && eqb (length (listing (netOf n))) (n .divisors))))
+      ruled-held : ruled (netOf n) ≡ (all expression fs && (all (over (netOf n)) (nodes (netOf n)) && (leb (total literalsOf fs) mostLiterals && eqb (length (listing (netOf n))) (n .divisors))))
       unfolding ruled
       ruled-held = rw (nodes-held n, divisors-held n few)
 
@@ -59,7 +59,7 @@ module _ (n : Network) where
       pub rules-as : rules n ≡ (eqb (length (numbersOf n)) (n .divisors) && (all expression fs && leb (total literalsOf fs) mostLiterals))
       unfolding rules listable numbersOf
       rules-as =
-          let p = both (sized n) (all (reach (variables (netOf n))) (nodes (netOf n))) h in
+          let p = both (sized n) (all (over (netOf n)) (nodes (netOf n))) h in
           ap₂ _&&_ (p .0) (ruled-held ∙ turn (all expression fs) _ (leb (total literalsOf fs) mostLiterals) (eqb (length (listing (netOf n))) (n .divisors)) (p .1)) ∙ rw (p .0, p .1)
         where
           order : (x t w : Bool) → (x && (t && w)) ≡ (w && (x && t))

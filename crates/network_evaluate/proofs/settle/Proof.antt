@@ -1,11 +1,14 @@
 -- `network_evaluate::settle` meets its contract. The loop's invariant: what is left of the order settles to what the whole order does. Assumes nothing.
 use Prim.Native.Nat.{ℕ, _+_, _≤_, _<_, _-_}
-use mathlib.Core.Path.{_≡_, refl, sym, _∙_}
+use mathlib.Core.Path.{_≡_, refl, sym, ap, _∙_}
+use mathlib.Core.List.{[]}
 use native.Mathlib.Omega.{arith}
 use borrow.Author.Needs.{needs}
 use lib.ListN.{length, drop, take, getD}
 use lib.Seq.{getD-take, length-take-le}
 use Rattle.cube.specs.Cube.{lits}
+use Rattle.expression.specs.Words.{cubesOf}
+use Rattle.network_nodes.specs.Nodes.{cut}
 use Rattle.network.specs.Parts.{divisorsOf}
 use Rattle.network_evaluate.specs.Parts.{settledIn}
 use Rattle.network.proofs.Parts.{divisors-at}
@@ -45,30 +48,29 @@ shared-slice-read-v c = omega (arith, start (c .before .before) .pre .counted)
 cast-v : tie.Need-cast-v Inv-loop μ-loop
 cast-v c = let d = c .before in omega (arith, range d, start (d .before) .pre .variables)
 
-sub-step : tie.Need-sub-step Inv-loop μ-loop
-sub-step c = range (c .before) .0
-
-add-step : tie.Need-add-step Inv-loop μ-loop
-add-step c = let d = c .before in omega (arith, range d, start (d .before) .pre .held)
+place-of-requires : tie.Need-place-of-requires Inv-loop μ-loop
+place-of-requires c κs = search needs
 
 step-requires : tie.Need-step-requires Inv-loop μ-loop
-step-requires c κs = let d = c .before in omega (arith, range d, start (d .before) .pre .variables)
+step-requires c κs = let d = c .before .before in omega (arith, range d, start (d .before) .pre .variables)
 
 add-i : tie.Need-add-i Inv-loop μ-loop
-add-i c = omega (arith, start (c .before .before .before) .pre .short)
+add-i c = omega (arith, start (c .before .before .before .before) .pre .short)
 
 loop-less : tie.Need-loop-less Inv-loop μ-loop
 loop-less c = omega arith
 
 loop-again : tie.Need-loop-again Inv-loop μ-loop
 loop-again c =
-    let d = c .before .before in
+    let d = c .before .before .before in
     let l = d .before in
     let s = start l in
     let a = s .args in
     let o = take (a .count) (a .order .now) in
     let v : number l ≡ getD o (l .loop .i) 0 = sym (getD-take (a .count) (a .order .now) (l .loop .i) 0 (d .loop-test .taken)) in
-    let f = divisors-at (a .counts .now) (a .words .now) (a .m) (a .k) (number l - a .n) (omega (arith, range d)) in (
+    let p : c .before .place-of .result ≡ a .m + (number l - a .n) = omega (arith, c .before .place-of .ensures, range d, s .pre .held) in
+    let f = divisors-at (a .counts .now) (a .words .now) (a .m) (a .k) (number l - a .n) (omega (arith, range d))
+    ∙ ap (λ i. getD (cut (a .counts .now) (cubesOf (a .words .now))) i []) (sym p) in (
       omega arith,
       sym (settled-on (a .n) (divisorsOf (a .m) (a .k) (a .counts .now) (a .words .now)) o (l .loop .i) (lits (l .loop .t)) (omega (arith, many s)) (number l) _ _ v (sym f) (c .step .ensures)) ∙ l .loop .inv .1,
     )
@@ -89,8 +91,7 @@ settle-spec =
     mul-v
     shared-slice-read-v
     cast-v
-    sub-step
-    add-step
+    place-of-requires
     step-requires
     add-i
     loop-less

@@ -1,8 +1,9 @@
 -- `network_listing::next` meets its contract. The loop's invariant: the next number is among the divisors from i on. Assumes nothing.
 use Prim.Native.Nat.{ℕ, _+_, _≤_, _-_}
-use mathlib.Core.Path.{_≡_, sym, _∙_, ap}
+use mathlib.Core.Path.{_≡_, sym, _∙_, ap, ap₂}
 use mathlib.Core.Bool.{not, _&&_}
 use mathlib.Core.List.{List, []}
+use mathlib.Core.Option.{some}
 use native.Mathlib.Omega.{arith}
 use borrow.Author.Needs.{needs}
 use lib.ListN.{length, drop, getD}
@@ -35,14 +36,21 @@ held l = let a = start l .args in drop (a .m) (nodesOf (a .m + a .k) (a .counts 
 many : (l : tie.At-loop Inv-loop μ-loop) → length (held l) ≡ start l .args .k
 many l = let a = start l .args in divisors-length (a .counts .now) (a .words .now) (a .m) (a .k) (start l .pre .counted)
 
--- what the test says of divisor i
+abbrev at : tie.After-is-next Inv-loop μ-loop → tie.At-loop Inv-loop μ-loop
+at c = c .before .before .before .before
+
+-- the number of divisor i
+number : (c : tie.After-number-of Inv-loop μ-loop) → c .number-of .result ≡ start (c .before .before) .args .n + c .before .before .loop .i
+number c = omega (arith, c .number-of .ensures, start (c .before .before) .pre .variables)
+
+-- what the test says of it
 tested : (c : tie.After-is-next Inv-loop μ-loop)
-    → (not (mem (plainOf (start (c .before .before .before) .args .n + c .before .before .before .loop .i)) (lits (start (c .before .before .before) .args .known)))
-    && everyWithin (lits (start (c .before .before .before) .args .known)) (getD (held (c .before .before .before)) (c .before .before .before .loop .i) [])) ≡ c .is-next .result
+    → (not (mem (plainOf (start (at c) .args .n + at c .loop .i)) (lits (start (at c) .args .known)))
+    && everyWithin (lits (start (at c) .args .known)) (getD (held (at c)) (at c .loop .i) [])) ≡ c .is-next .result
 tested c =
-    let l = c .before .before .before in
+    let l = at c in
     let a = start l .args in
-    ap (λ f. not (mem (plainOf (a .n + l .loop .i)) (lits (a .known))) && everyWithin (lits (a .known)) f)
+    ap₂ (λ v f. not (mem (plainOf v) (lits (a .known))) && everyWithin (lits (a .known)) f) (sym (number (c .before .before)))
     (divisors-at (a .counts .now) (a .words .now) (a .m) (a .k) (l .loop .i) (omega arith) ∙ sym (c .before .node .ensures .0))
     ∙ sym (c .is-next .ensures)
 
@@ -52,26 +60,25 @@ loop-holds c =
     let e : a .n + 0 ≡ a .n = omega arith in
     (omega arith, ap (λ x. nextIn (lits (a .known)) (numbered x (drop (a .m) (nodesOf (a .m + a .k) (a .counts .now) (a .words .now))))) e)
 
+number-of-requires : tie.Need-number-of-requires Inv-loop μ-loop
+number-of-requires c κs = search needs
+
 add-node : tie.Need-add-node Inv-loop μ-loop
-add-node c = omega (arith, start (c .before) .pre .counted)
+add-node c = omega (arith, start (c .before .before) .pre .counted)
 
 node-requires : tie.Need-node-requires Inv-loop μ-loop
 node-requires c κs = search needs
 
-add-is-next : tie.Need-add-is-next Inv-loop μ-loop
-add-is-next c = omega arith
-
 is-next-requires : tie.Need-is-next-requires Inv-loop μ-loop
-is-next-requires c κs = omega arith
-
-add-t13 : tie.Need-add-t13 Inv-loop μ-loop
-add-t13 c = omega arith
+is-next-requires c κs = let d = c .before in omega (arith, number d, start (d .before .before) .pre .variables)
 
 returns : tie.Need-returns Inv-loop μ-loop
 returns c =
-    let l = c .before .before .before .before in
+    let l = at (c .before) in
     let a = start l .args in
-    sym (next-found (lits (a .known)) (a .n) (held l) (l .loop .i) (omega (arith, many l)) (tested (c .before) ∙ c .if1 .taken)) ∙ l .loop .inv .1
+    ap some (number (c .before .before .before))
+    ∙ sym (next-found (lits (a .known)) (a .n) (held l) (l .loop .i) (omega (arith, many l)) (tested (c .before) ∙ c .if1 .taken))
+    ∙ l .loop .inv .1
 
 add-i : tie.Need-add-i Inv-loop μ-loop
 add-i c = omega arith
@@ -81,7 +88,7 @@ loop-less c = omega arith
 
 loop-again : tie.Need-loop-again Inv-loop μ-loop
 loop-again c =
-    let l = c .before .before .before .before in
+    let l = at (c .before) in
     let a = start l .args in
     (omega arith, sym (next-on (lits (a .known)) (a .n) (held l) (l .loop .i) (omega (arith, many l)) (tested (c .before) ∙ c .if1 .left)) ∙ l .loop .inv .1)
 
@@ -98,11 +105,10 @@ next-spec =
     Inv-loop
     μ-loop
     loop-holds
+    number-of-requires
     add-node
     node-requires
-    add-is-next
     is-next-requires
-    add-t13
     returns
     add-i
     loop-less
