@@ -19,7 +19,8 @@ use Rattle.extract_laws.specs.Divisor.{Divisor, pair, sum, own}
 use Rattle.extract_laws.specs.Extract.{weight}
 use Rattle.extract_laws.specs.Run.{Stop, done, asked, numbers, rows, Made, Result, run}
 use Rattle.image_laws.specs.Image.{imageOf}
-use Rattle.image_laws.specs.Reading.{Outcome, accepted, refused, readImage}
+use Rattle.network.specs.Handed.{Return, gives, refuses}
+use Rattle.image_laws.specs.Reading.{readImage}
 use Rattle.cases.specs.Tests.{alike, equalCubes, sameInteger, sameDivisor, turn, sameStop, equalNode, sameNet}
 use Rattle.cases.specs.Cases.{Case, hasCokernels, divides, hasText, counts, weighs, takes, ends, hasImage, readsBack, whole, begins, finishes, readAs, isRight}
 use Rattle.cases.specs.Meaning.{Says}
@@ -88,10 +89,10 @@ net-eq n m h =
 
 -- ---- the rows
 
-read-eq : (o : Outcome) (n : Net) → readAs o n ≡ true → o ≡ accepted n
+read-eq : (o : Return) (n : Net) → readAs o n ≡ true → o ≡ gives n
 unfolding readAs
-read-eq (accepted m) n h = ap accepted (net-eq m n h)
-read-eq (refused k) n h = absurd (false≢true h)
+read-eq (gives m) n h = ap gives (net-eq m n h)
+read-eq (refuses k) n h = absurd (false≢true h)
 
 begins-eq : (r : Result) (v : ℕ) (d : Divisor) (w : ℤ) → begins r v d w ≡ true
     → (map (λ (s : Made). s .divisor) (r .steps) ≡ d ∷ []) × (map (λ (s : Made). s .weight) (r .steps) ≡ w ∷ []) × (cubesAt v (r .network .divisors) ≡ own d)

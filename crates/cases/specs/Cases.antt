@@ -15,7 +15,8 @@ use Rattle.extract_laws.specs.Divisor.{Divisor, sum, own}
 use Rattle.extract_laws.specs.Extract.{weight}
 use Rattle.extract_laws.specs.Run.{Stop, done, Made, Result, run}
 use Rattle.image_laws.specs.Image.{imageOf}
-use Rattle.image_laws.specs.Reading.{Outcome, accepted, refused, readImage}
+use Rattle.network.specs.Handed.{Return, gives, refuses}
+use Rattle.image_laws.specs.Reading.{readImage}
 use Rattle.cases.specs.Tests.{alike, equalCubes, sameInteger, sameDivisor, sameStop, sameNet}
 
 pub data Case : Type 0 where
@@ -55,9 +56,9 @@ unfoldable pub finishes : Result → ℕ → ℕ → Stop → Bool
 finishes r k l s = eqb (length (r .steps)) k && (eqb (literalCount (r .network)) l && sameStop (r .stop) s)
 
 -- the bytes are accepted, as this network
-unfoldable pub readAs : Outcome → Net → Bool
-readAs (accepted m) n = sameNet m n
-readAs (refused k) n = false
+unfoldable pub readAs : Return → Net → Bool
+readAs (gives m) n = sameNet m n
+readAs (refuses k) n = false
 
 unfoldable pub isRight : Case → Bool
 isRight (hasCokernels f l) = equalCubes (cokernels f) l

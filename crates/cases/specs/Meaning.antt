@@ -11,7 +11,8 @@ use Rattle.extract_laws.specs.Divisor.{own}
 use Rattle.extract_laws.specs.Extract.{weight}
 use Rattle.extract_laws.specs.Run.{Made, run}
 use Rattle.image_laws.specs.Image.{imageOf}
-use Rattle.image_laws.specs.Reading.{accepted, readImage}
+use Rattle.network.specs.Handed.{gives}
+use Rattle.image_laws.specs.Reading.{readImage}
 use Rattle.cases.specs.Cases.{Case, hasCokernels, divides, hasText, counts, weighs, takes, ends, hasImage, readsBack, whole}
 
 abbrev pub Says : Case → Type 0
@@ -25,4 +26,4 @@ Says (takes n v d w) =
     × (cubesAt v (run 1 n .network .divisors) ≡ own d)
 Says (ends n k l s) = (length (run whole n .steps) ≡ k) × (literalCount (run whole n .network) ≡ l) × (run whole n .stop ≡ s)
 Says (hasImage n k b) = imageOf (run k n .network) ≡ b
-Says (readsBack b n k) = readImage b ≡ accepted (run k n .network)
+Says (readsBack b n k) = readImage b ≡ gives (run k n .network)

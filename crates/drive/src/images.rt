@@ -3,8 +3,8 @@ use crate::nets;
 use crate::rooms;
 use crate::wire;
 use crate::wire::Told;
-use image_read::Answer;
-use letters::Wrote;
+use expression::Verdict;
+use image_write::Wrote;
 use network::Network;
 
 fn wrote(a: Wrote) -> Told {
@@ -29,10 +29,10 @@ pub fn on_write(n: Network, lent: &[u8], out: &mut [u8]) -> usize {
     write(n, &mut room[0..r], out)
 }
 
-fn accepted(a: Answer) -> Told {
+fn accepted(a: Verdict) -> Told {
     match a {
-        Answer::Accepted => wire::found(0),
-        Answer::Refused(k) => wire::refused(k, 0),
+        Verdict::Accepted => wire::found(0),
+        Verdict::Refused(k) => wire::refused(k, 0),
     }
 }
 

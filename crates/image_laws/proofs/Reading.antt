@@ -114,13 +114,17 @@ literals-put v d few single (x ∷ c) seen rest a b k =
     )
 
 -- one literal more keeps a cube proper where its opposite is not there
-proper-more : (x : ℕ) (c : List ℕ) → proper c ≡ true → ((y : ℕ) → y ∈ c → (oppositeOf y ≡ x → ⊥)) → proper (x ∷ c) ≡ true
-proper-more x c h k = proper-in (x ∷ c) (λ z m. refuted (λ o. go z (List·Memᴰ·cases-cons (of-mem z (x ∷ c) m)) (List·Memᴰ·cases-cons (of-mem (oppositeOf z) (x ∷ c) o))))
+pub proper-more : (x : ℕ) (c : List ℕ) → proper c ≡ true → mem (oppositeOf x) c ≡ false → proper (x ∷ c) ≡ true
+proper-more x c h k =
+    proper-in (x ∷ c) (λ z m. refuted (λ o. go z (List·Memᴰ·cases-cons (of-mem z (x ∷ c) m)) (List·Memᴰ·cases-cons (of-mem (oppositeOf z) (x ∷ c) o))))
   where
+    apart : (z : ℕ) → z ∈ c → (z ≡ oppositeOf x → ⊥)
+    apart z t e = clash (mem-of (subst (_∈ c) e t)) k
+
     go : (z : ℕ) → (z ≡ x) ⊎ (z ∈ c) → (oppositeOf z ≡ x) ⊎ (oppositeOf z ∈ c) → ⊥
     go z (inl e) (inl f) = omega arith
-    go z (inl e) (inr t) = k (oppositeOf z) t (omega arith)
-    go z (inr t) (inl f) = k z t f
+    go z (inl e) (inr t) = apart (oppositeOf z) t (ap oppositeOf e)
+    go z (inr t) (inl f) = apart z t (omega arith)
     go z (inr t) (inr u) = clash (mem-of u) (proper-out c z h (mem-of t))
 
 pub record GotLiterals (v k : ℕ) (seen : List ℕ) (l : List Bool) (c : List ℕ) (rest : List Bool) : Type 0 where
@@ -156,7 +160,9 @@ literals-get v (suc k) seen l c rest e =
         | inl g ↦ rw g (not-true (mem (oppositeOf x) seen) (w .1))
         | inr g ↦ (neither (eqb (oppositeOf y) x) (mem (oppositeOf y) seen) (o .free y g)) .1
       ];
-      single = proper-more x xs (o .single) (λ y m. eqb-false (oppositeOf y) x ((neither (eqb (oppositeOf y) x) (mem (oppositeOf y) seen) (o .free y m)) .0));
+      single = proper-more x xs (o .single) (refuted (λ m.
+          let y = oppositeOf x in
+          eqb-false (oppositeOf y) x ((neither (eqb (oppositeOf y) x) (mem (oppositeOf y) seen) (o .free y (of-mem y xs m))) .0) (omega arith)));
     })
 
 -- ---- a cube, a node

@@ -7,7 +7,8 @@ use mathlib.Core.List.{List, [], _++_, append-assoc, append-nil}
 use native.Mathlib.Omega.{arith}
 use lib.ListN.{length, length-append}
 use Rattle.image_fields.specs.Fields.{bitsIn}
-use Rattle.image_laws.specs.Reading.{Parsed, got, Raw, getRaw, rawNet, padding, summed, allInOrder, Outcome, accepted, refused, judgeRaw, readImage}
+use Rattle.network.specs.Handed.{Return, gives, refuses}
+use Rattle.image_laws.specs.Reading.{Parsed, got, Raw, getRaw, rawNet, padding, summed, allInOrder, judgeRaw, readImage}
 use Rattle.image_laws.specs.Layout.{imageLayout, Meets, Cut}
 use Rattle.image_laws.specs.Meaning.{FitRaw, rawBits, Fills, ImageAnswer, field, early, over, sums, order, taken}
 use Rattle.image_laws.proofs.Reading.{get-put, put-get}
@@ -39,7 +40,7 @@ unfolding readImage judgeRaw
 judged bytes = go (raw-along (bitsIn bytes)) refl
   where
     whole : (r : Raw) (l : List Bool) (a b c : Bool) → Fills bytes r l → padding l ≡ a → summed r ≡ b → allInOrder r ≡ c
-        → ImageAnswer bytes (cond a (cond b (cond c (accepted (rawNet r)) (refused 13)) (refused 12)) (refused 11))
+        → ImageAnswer bytes (cond a (cond b (cond c (gives (rawNet r)) (refuses 13)) (refuses 12)) (refuses 11))
     whole r l true true true s p q o = taken s p q o
     whole r l true true false s p q o = order s p q o
     whole r l true false c s p q o = sums s p q
@@ -51,7 +52,7 @@ judged bytes = go (raw-along (bitsIn bytes)) refl
     go (cut m) e = early m
 
 -- and no answer is given for another reason
-pub judged-read : (bytes : List ℕ) {o : Outcome} → ImageAnswer bytes o → readImage bytes ≡ o
+pub judged-read : (bytes : List ℕ) {o : Return} → ImageAnswer bytes o → readImage bytes ≡ o
 unfolding readImage judgeRaw
 judged-read bytes (field m) = rw (sym (ap getRaw (append-nil (bitsIn bytes))) ∙ stray-read [] m)
 judged-read bytes (early m) = rw (cut-read (bitsIn bytes) m)
@@ -60,5 +61,5 @@ judged-read bytes (sums {r = r} {rest = l} s p q) = rw (fills-out bytes r l s, p
 judged-read bytes (order {r = r} {rest = l} s p q o) = rw (fills-out bytes r l s, p, q, o)
 judged-read bytes (taken {r = r} {rest = l} s p q o) = rw (fills-out bytes r l s, p, q, o)
 
-pub judged-iff : (bytes : List ℕ) (o : Outcome) → (readImage bytes ≡ o) ↔ ImageAnswer bytes o
+pub judged-iff : (bytes : List ℕ) (o : Return) → (readImage bytes ≡ o) ↔ ImageAnswer bytes o
 judged-iff bytes o = (λ h. subst (ImageAnswer bytes) h (judged bytes), judged-read bytes)

@@ -18,7 +18,8 @@ use Rattle.network.specs.Net.{Net}
 use Rattle.network.specs.Rules.{Lawful}
 use Rattle.image_laws.specs.Renumber.{renumbered}
 use Rattle.image_laws.specs.Image.{netFields, netBytes, imageOf}
-use Rattle.image_laws.specs.Reading.{Raw, rawNet, padding, summed, allInOrder, accepted, refused, readImage}
+use Rattle.network.specs.Handed.{gives, refuses}
+use Rattle.image_laws.specs.Reading.{Raw, rawNet, padding, summed, allInOrder, readImage}
 use Rattle.image_laws.specs.Meaning.{OneOrder, rawBits, Fills, ImageAnswer, early, over, taken}
 use Rattle.image_laws.proofs.Refusing.{begins-early, judged-iff, judged-read}
 use Rattle.image_laws.proofs.Renumbering.{renumbered-same, renumbered-lawful, renumbered-order}
@@ -53,23 +54,23 @@ record Accepts (bytes : List ℕ) (n : Net) : Type 0 where
   order : allInOrder raw ≡ true
   same : rawNet raw ≡ n
 
-taken-out : {bytes : List ℕ} {n : Net} → ImageAnswer bytes (accepted n) → Accepts bytes n
+taken-out : {bytes : List ℕ} {n : Net} → ImageAnswer bytes (gives n) → Accepts bytes n
 taken-out (taken {r = r} {rest = l} s p q o) = record { raw = r; rest = l; fills = s; padded = p; sums = q; order = o; same = refl }
 
-accepts : (bytes : List ℕ) (n : Net) → readImage bytes ≡ accepted n → Accepts bytes n
-accepts bytes n h = taken-out ((judged-iff bytes (accepted n)) .0 h)
+accepts : (bytes : List ℕ) (n : Net) → readImage bytes ≡ gives n → Accepts bytes n
+accepts bytes n h = taken-out ((judged-iff bytes (gives n)) .0 h)
 
 -- ---- both ways
 
 -- a network that is read is by the rules and in the one order
-pub read-lawful : (bytes : List ℕ) (n : Net) → readImage bytes ≡ accepted n → Lawful n × OneOrder n
+pub read-lawful : (bytes : List ℕ) (n : Net) → readImage bytes ≡ gives n → Lawful n × OneOrder n
 read-lawful bytes n h =
     let a = accepts bytes n h in
     let f = a .fills .fits in
     subst (λ m. Lawful m × OneOrder m) (a .same) (raw-lawful (a .raw) f (a .sums) (a .order), raw-order (a .raw) f (a .sums) (a .order))
 
 -- and its own bytes are the image
-pub read-bytes : (bytes : List ℕ) (n : Net) → ((b : ℕ) → b ∈ bytes → b < 256) → readImage bytes ≡ accepted n → netBytes n ≡ bytes
+pub read-bytes : (bytes : List ℕ) (n : Net) → ((b : ℕ) → b ∈ bytes → b < 256) → readImage bytes ≡ gives n → netBytes n ≡ bytes
 unfolding netBytes
 read-bytes bytes n small h =
     let a = accepts bytes n h in
@@ -97,15 +98,15 @@ module _ (n : Net) (h : Lawful n) where
   bytes-stand = bytes-bits (fieldBits (netFields n)) ∙ ap (_++ zeroBits) net-raw
 
   -- the bytes of a network by the rules and in the one order are read as that network
-  pub bytes-read : OneOrder n → readImage (netBytes n) ≡ accepted n
+  pub bytes-read : OneOrder n → readImage (netBytes n) ≡ gives n
   unfolding zeroBits spare
   bytes-read o =
       judged-read (netBytes n)
       (taken (record { bits = bytes-stand; fits = lawful-fits n h }) (padding-in spare (omega arith)) (lawful-sums n h) (lawful-order n h o))
-      ∙ ap accepted (raw-net n h)
+      ∙ ap gives (raw-net n h)
 
   -- cut short they are refused by 11
-  pub cut-refused : (k : ℕ) → k < length (netBytes n) → readImage (take k (netBytes n)) ≡ refused 11
+  pub cut-refused : (k : ℕ) → k < length (netBytes n) → readImage (take k (netBytes n)) ≡ refuses 11
   unfolding netBytes
   cut-refused k b =
       let bs = netBytes n in
@@ -119,7 +120,7 @@ module _ (n : Net) (h : Lawful n) where
       (sym (take-append-drop (8 * k) all) ∙ ap (_++ drop (8 * k) all) (sym front)) (omega (arith, length-drop (8 * k) all))))
 
   -- and so they are with bytes over
-  pub over-refused : (b : ℕ) (bs : List ℕ) → readImage (netBytes n ++ (b ∷ bs)) ≡ refused 11
+  pub over-refused : (b : ℕ) (bs : List ℕ) → readImage (netBytes n ++ (b ∷ bs)) ≡ refuses 11
   unfolding padding
   over-refused b bs =
       judged-read (netBytes n ++ (b ∷ bs))
@@ -129,7 +130,7 @@ module _ (n : Net) (h : Lawful n) where
       }) (rw (le-ltb (length (zeroBits ++ bitsIn (b ∷ bs))) 8 (omega (arith, length-append zeroBits (bitsIn (b ∷ bs)), bits-in-length (b ∷ bs))))))
 
 -- an image is accepted exactly when it is the bytes of a network by the rules and in the one order, and that network is read
-pub read-iff : (bytes : List ℕ) (n : Net) → ((b : ℕ) → b ∈ bytes → b < 256) → (readImage bytes ≡ accepted n) ↔ (Lawful n × OneOrder n × (netBytes n ≡ bytes))
+pub read-iff : (bytes : List ℕ) (n : Net) → ((b : ℕ) → b ∈ bytes → b < 256) → (readImage bytes ≡ gives n) ↔ (Lawful n × OneOrder n × (netBytes n ≡ bytes))
 read-iff bytes n small = (
   λ h. let q = read-lawful bytes n h in (q .0, q .1, read-bytes bytes n small h),
   λ (a, b, e). ap readImage (sym e) ∙ bytes-read n a b,
@@ -138,12 +139,12 @@ read-iff bytes n small = (
 -- ---- with the divisors renumbered
 
 -- the image of what is read is the image read
-pub image-of-read : (bytes : List ℕ) (n : Net) → ((b : ℕ) → b ∈ bytes → b < 256) → readImage bytes ≡ accepted n → imageOf n ≡ bytes
+pub image-of-read : (bytes : List ℕ) (n : Net) → ((b : ℕ) → b ∈ bytes → b < 256) → readImage bytes ≡ gives n → imageOf n ≡ bytes
 unfolding imageOf
 image-of-read bytes n small h =
     let q = read-lawful bytes n h in ap netBytes (renumbered-same n (q .0) (q .1)) ∙ read-bytes bytes n small h
 
 -- the image of a network by the rules is read as the network renumbered
-pub read-of-image : (n : Net) → Lawful n → readImage (imageOf n) ≡ accepted (renumbered n)
+pub read-of-image : (n : Net) → Lawful n → readImage (imageOf n) ≡ gives (renumbered n)
 unfolding imageOf
 read-of-image n h = bytes-read (renumbered n) (renumbered-lawful n h) (renumbered-order n h)

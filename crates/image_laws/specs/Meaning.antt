@@ -11,7 +11,8 @@ use Rattle.network.specs.Net.{Node, Net, nodes}
 use Rattle.network.specs.Held.{mostInputs, mostOutputs, mostVariables, mostCubes}
 use Rattle.network.specs.Meaning.{Reads}
 use Rattle.image_laws.specs.Image.{netFields}
-use Rattle.image_laws.specs.Reading.{Raw, rawNodes, rawNet, padding, summed, allInOrder, Outcome, accepted, refused}
+use Rattle.network.specs.Handed.{Return, gives, refuses}
+use Rattle.image_laws.specs.Reading.{Raw, rawNodes, rawNet, padding, summed, allInOrder}
 use Rattle.image_laws.specs.Layout.{imageLayout, Meets, Stray, Cut}
 
 -- a network stands in the one order: cubes in cube order, and a divisor reads inputs and earlier divisors alone
@@ -47,13 +48,13 @@ pub record Fills (bytes : List ℕ) (r : Raw) (rest : List Bool) : Type 0 where
 
 -- ---- what an image is answered, and when
 
-pub data ImageAnswer (bytes : List ℕ) : Outcome → Type 0 where
+pub data ImageAnswer (bytes : List ℕ) : Return → Type 0 where
   -- a bad field met before the end; else an early end
-  field : Meets Stray imageLayout (bitsIn bytes) → ImageAnswer bytes (refused 12)
-  early : Meets Cut imageLayout (bitsIn bytes) → ImageAnswer bytes (refused 11)
+  field : Meets Stray imageLayout (bitsIn bytes) → ImageAnswer bytes (refuses 12)
+  early : Meets Cut imageLayout (bitsIn bytes) → ImageAnswer bytes (refuses 11)
   -- a byte over, or padding that is not zero
-  over : {r : Raw} {rest : List Bool} → Fills bytes r rest → padding rest ≡ false → ImageAnswer bytes (refused 11)
+  over : {r : Raw} {rest : List Bool} → Fills bytes r rest → padding rest ≡ false → ImageAnswer bytes (refuses 11)
   -- the sums of the counts, then the one order
-  sums : {r : Raw} {rest : List Bool} → Fills bytes r rest → padding rest ≡ true → summed r ≡ false → ImageAnswer bytes (refused 12)
-  order : {r : Raw} {rest : List Bool} → Fills bytes r rest → padding rest ≡ true → summed r ≡ true → allInOrder r ≡ false → ImageAnswer bytes (refused 13)
-  taken : {r : Raw} {rest : List Bool} → Fills bytes r rest → padding rest ≡ true → summed r ≡ true → allInOrder r ≡ true → ImageAnswer bytes (accepted (rawNet r))
+  sums : {r : Raw} {rest : List Bool} → Fills bytes r rest → padding rest ≡ true → summed r ≡ false → ImageAnswer bytes (refuses 12)
+  order : {r : Raw} {rest : List Bool} → Fills bytes r rest → padding rest ≡ true → summed r ≡ true → allInOrder r ≡ false → ImageAnswer bytes (refuses 13)
+  taken : {r : Raw} {rest : List Bool} → Fills bytes r rest → padding rest ≡ true → summed r ≡ true → allInOrder r ≡ true → ImageAnswer bytes (gives (rawNet r))

@@ -11,6 +11,7 @@ use Rattle.image_fields.specs.Fields.{valueOf, bitsIn}
 use Rattle.expression.specs.Expression.{loose, ordered, literalsOf}
 use Rattle.network.specs.Net.{Net}
 use Rattle.network.specs.Held.{numbered, reach, mostVariables, mostCubes, mostLiterals}
+use Rattle.network.specs.Handed.{Return, gives, refuses}
 use Rattle.image_laws.specs.Widths.{editionField, edition1}
 
 -- what is read and the bits after it, or the number of a refusal
@@ -96,14 +97,10 @@ readsEarlier v (f ∷ l) = reach v f && readsEarlier (suc v) l
 unfoldable pub allInOrder : Raw → Bool
 allInOrder r = all inTheOrder (rawNodes r) && readsEarlier (r .inputs) (r .divisors)
 
-pub data Outcome : Type 0 where
-  accepted : Net → Outcome
-  refused : ℕ → Outcome
-
 -- then 11 for what is left over, 12 for the sums, 13 for the order
-unfoldable pub judgeRaw : Parsed Raw → Outcome
-judgeRaw (bad k) = refused k
-judgeRaw (got r l) = cond (padding l) (cond (summed r) (cond (allInOrder r) (accepted (rawNet r)) (refused 13)) (refused 12)) (refused 11)
+unfoldable pub judgeRaw : Parsed Raw → Return
+judgeRaw (bad k) = refuses k
+judgeRaw (got r l) = cond (padding l) (cond (summed r) (cond (allInOrder r) (gives (rawNet r)) (refuses 13)) (refuses 12)) (refuses 11)
 
-unfoldable pub readImage : List ℕ → Outcome
+unfoldable pub readImage : List ℕ → Return
 readImage bytes = judgeRaw (getRaw (bitsIn bytes))

@@ -9,6 +9,7 @@ use lib.ListN.{length, getD, set, replicate, length-set, length-replicate}
 use lib.Seq.{getD-set-same, getD-set-other}
 use borrow.Author.Tests.{eqb-true, eqb-false}
 use Rattle.sets.proofs.Truth.{decided}
+use Rattle.network.specs.Held.{mostVariables}
 use Rattle.image_number.specs.Parts.{Wide, Itself, Numbers, Placing}
 
 -- a store, read
@@ -23,22 +24,22 @@ zero-at zero v = refl
 zero-at (suc n) zero = refl
 zero-at (suc n) (suc v) = zero-at n v
 
-module _ (ps : List ℕ) (w : Wide ps) (v x : ℕ) (h : v < 64) (s : x < 64) where
+module _ (ps : List ℕ) (w : Wide ps) (v x : ℕ) (h : v < mostVariables) (s : x < mostVariables) where
   pub wide-set : Wide (set ps v x)
   wide-set = record {
     whole = length-set ps v x ∙ w .whole;
     small = λ u. elim (stored ps v x u (omega (arith, w .whole))) [ inl (e, k) ↦ omega arith | inr (e, k) ↦ omega (arith, w .small u) ];
   }
 
-pub wide-zeros : Wide (replicate 64 0)
-wide-zeros = record { whole = length-replicate {A = ℕ} 64 0; small = λ v. omega (arith, zero-at 64 v) }
+pub wide-zeros : Wide (replicate mostVariables 0)
+wide-zeros = record { whole = length-replicate {A = ℕ} mostVariables 0; small = λ v. omega (arith, zero-at mostVariables v) }
 
 -- ---- each at its own
 
-pub itself-none : Itself 0 (replicate 64 0)
+pub itself-none : Itself 0 (replicate mostVariables 0)
 itself-none = record { wide = wide-zeros; each = λ v h. absurd (omega arith) }
 
-pub itself-next : (e : ℕ) (ps : List ℕ) → e < 64 → Itself e ps → Itself (e + 1) (set ps e e)
+pub itself-next : (e : ℕ) (ps : List ℕ) → e < mostVariables → Itself e ps → Itself (e + 1) (set ps e e)
 itself-next e ps h i = record {
   wide = wide-set ps (i .wide) e e h h;
   each = λ v k. elim (stored ps e e v (omega (arith, i .wide .whole))) [ inl (p, q) ↦ q ∙ sym p | inr (p, q) ↦ q ∙ i .each v (go v k p) ];
@@ -49,7 +50,7 @@ itself-next e ps h i = record {
 
 -- ---- then the divisors
 
-pub placing-none : (n : ℕ) (order ps : List ℕ) → n ≤ 64 → Itself 64 ps → Placing n 0 order ps
+pub placing-none : (n : ℕ) (order ps : List ℕ) → n ≤ mostVariables → Itself mostVariables ps → Placing n 0 order ps
 placing-none n order ps h i = record { wide = i .wide; inputs = λ v k. i .each v (omega arith); divisors = λ j k. absurd (omega arith) }
 
 pub placing-next : (n k : ℕ) (order ps : List ℕ) (i : ℕ) → Numbers n k order → i < k → Placing n i order ps → Placing n (i + 1) order (set ps (getD order i 0) (n + i))

@@ -1,104 +1,53 @@
 -- The nodes of the network renumbered, as the code finds them: by the places of the new numbers and the order of the divisors. Assumes nothing.
-use Prim.Native.Nat.{ℕ, zero, suc, _+_, _-_, _*_, _/_, _%_, _<_, _≤_}
+use Prim.Native.Nat.{ℕ, _+_, _-_, _*_, _/_, _%_, _<_, _≤_}
 use mathlib.Core.Path.{_≡_, refl, sym, ap, ap₂, _∙_, subst}
 use mathlib.Core.Logic.{_⊎_, inl, inr}
-use mathlib.Core.Bool.{Bool, true, false, cond, not}
-use mathlib.Core.List.{List, [], _∷_, _++_, map, List·Memᴰ·head as here, List·Memᴰ·tail as there, Memᴰ·cast}
+use mathlib.Core.Bool.{true, false, cond}
+use mathlib.Core.List.{List, [], _∷_, map, List·Memᴰ·tail as there, Memᴰ·cast}
 use native.Mathlib.Omega.{arith}
-use lib.Dec.{ltb, eqb}
-use lib.ListN.{length, getD, take, replicate, length-append, length-map, List·getD-append}
-use lib.Seq.{getD-append-add, getD-take}
-use borrow.Author.Tests.{eq-eqb, eqb-true, ltb-true, ltb-false}
+use lib.Dec.{ltb}
+use lib.ListN.{length, getD, take, length-append, length-map, List·getD-append}
+use lib.Seq.{getD-append-add, getD-take, take-all}
+use borrow.Author.Tests.{ltb-true, ltb-false}
 use Rattle.sets.specs.Lists.{all, total}
 use Rattle.sets.specs.Sets.{insert}
-use Rattle.sets.proofs.Truth.{both, decided, clash}
-use Rattle.sets.proofs.Lists.{_∈_, all-out, map-in, map-out, map-cong, pairwise-imp, total-append, total-map, total-same}
-use Rattle.sets.proofs.Places.{at-in, pairwise-at}
+use Rattle.sets.proofs.Truth.{both, decided}
+use Rattle.sets.proofs.Lists.{_∈_, all-out, map-cong, total-take-le}
+use Rattle.sets.proofs.Places.{at-in, pairwise-at, total-next}
+use Rattle.sets.proofs.Rows.{getD-map}
 use Rattle.expression.specs.Words.{cubesOf}
 use Rattle.expression.specs.Expression.{sort}
-use Rattle.expression.proofs.Sorting.{sort-length}
-use Rattle.expression.proofs.Words.{cubes-length}
-use Rattle.network.specs.Net.{Node, Net, nodes, variables, cubesAt, cubeCount}
+use Rattle.network.specs.Net.{Net, nodes, variables, cubesAt}
 use Rattle.network.specs.Listing.{listing}
 use Rattle.network.specs.Held.{reach}
 use Rattle.network_nodes.specs.Nodes.{cut}
-use Rattle.network.specs.Handed.{flat, Holds, cubeSlots}
-use Rattle.network.specs.Meaning.{Distinct, differ}
+use Rattle.network.specs.Held.{mostOutputs, mostVariables, netOf, rules}
+use Rattle.network.specs.Handed.{Holds, LaidNodes, cubeSlots}
+use Rattle.network.specs.Answers.{padded, listedOf}
+use Rattle.network.specs.declared.Network.{Network}
+use Rattle.network.specs.declared.Listed.{Listed}
+use Rattle.network.specs.Meaning.{differ}
 use Rattle.network.specs.Rules.{Lawful}
 use Rattle.network.specs.Parts.{heldIn, netAt, divisorsOf, InLimits}
 use Rattle.network_listing.specs.Parts.{Ordered}
-use Rattle.network.proofs.Places.{differ-in, differ-out}
-use Rattle.network.proofs.Numbering.{numbered-length, numbered-cubes, numbered-in, numbered-distinct, cubes-at, reach-in}
-use Rattle.network.proofs.Listings.{listing-once, listing-number, listing-in}
-use Rattle.network.proofs.Holding.{nodes-held, output-held, divisor-held, cubes-held, rules-sound, rules-outputs, rules-divisors, rules-iff}
+use Rattle.network.proofs.Places.{differ-out}
+use Rattle.network.proofs.Numbering.{numbered-length, numbered-in, reach-in}
+use Rattle.network.proofs.Listings.{listing-once, listing-in}
+use Rattle.network.proofs.Holding.{nodes-held, output-held, divisor-held, rules-sound, rules-outputs, rules-divisors}
 use Rattle.network_nodes.proofs.Cutting.{cut-node-length}
 use Rattle.network.proofs.Parts.{nodes-at, nodes-length}
 use Rattle.network.proofs.Limits.{rules-sized}
 use Rattle.network.proofs.Ruling.{rules-lawful}
-use Rattle.network_listing.proofs.Answering.{ordered-listing}
+use Rattle.network_listing.proofs.Answering.{ordered-listing, listed-out, rules-listable}
+use Rattle.network.proofs.Laying.{laid-holds}
 use Rattle.image_laws.specs.Renumber.{indexOf, newNumber, newLiteral, newCube, newNode, renumbered}
+use Rattle.image_laws.proofs.NewNumbers.{index-lt, index-at}
+use Rattle.image_laws.proofs.Renumbering.{renumbered-nodes, renumbered-divisors, renumbered-cubes}
 use Rattle.image_number.specs.Parts.{Numbers, Placing, Sourced, Numberable, cubeBy, nodeBy, sourceOf}
 
--- ---- lists
-
-at-map : {A B : Type 0} (f : A → B) (l : List A) (i : ℕ) (d : B) (e : A) → i < length l → getD (map f l) i d ≡ f (getD l i e)
-at-map f [] i d e h = absurd (omega arith)
-at-map f (x ∷ l) zero d e h = refl
-at-map f (x ∷ l) (suc i) d e h = at-map f l i d e (omega arith)
-
-total-cong : {A : Type 0} (f g : A → ℕ) (l : List A) → ((x : A) → x ∈ l → f x ≡ g x) → total f l ≡ total g l
-total-cong f g [] h = refl
-total-cong f g (x ∷ l) h = ap₂ _+_ (h x (here refl)) (total-cong f g l (λ y m. h y (there m)))
-
--- the place of what is there
-pub index-in : (v : ℕ) (l : List ℕ) → v ∈ l → (indexOf v l < length l) × (getD l (indexOf v l) 0 ≡ v)
-unfolding indexOf
-index-in v (u ∷ l) m = go (eqb v u) refl m (index-in v l)
-  where
-    go : (b : Bool) → eqb v u ≡ b → v ∈ (u ∷ l) → (v ∈ l → (indexOf v l < length l) × (getD l (indexOf v l) 0 ≡ v)) → (cond b 0 (suc (indexOf v l)) < suc (length l)) × (getD (u ∷ l) (cond b 0 (suc (indexOf v l))) 0 ≡ v)
-    go true e k r = (omega arith, sym (eqb-true v u e))
-    go false e (here p) r = clash (eq-eqb v u p) e
-    go false e (there k) r = let q = r k in (omega (arith, q .0), q .1)
-
--- ---- the network renumbered
-
-module _ (net : Net) where
-  abbrev L : List ℕ
-  L = listing net
-
-  -- its nodes: the outputs, then the divisors in the order of the listing
-  pub nodes-new : nodes (renumbered net) ≡ map (newNode (net .inputs) L) (net .outputs) ++ map (λ v. newNode (net .inputs) L (cubesAt v (net .divisors))) L
-  unfolding renumbered
-  nodes-new = ap (map (newNode (net .inputs) L) (net .outputs) ++_) (numbered-cubes (net .inputs) (map (λ v. newNode (net .inputs) L (cubesAt v (net .divisors))) L))
-
-  pub new-length : (f : List (List ℕ)) → length (newNode (net .inputs) L f) ≡ length f
-  unfolding newNode
-  new-length f = sort-length (map (newCube (net .inputs) L) f) ∙ length-map f (newCube (net .inputs) L)
-
-  module _ (d : Distinct net) (w : length L ≡ length (net .divisors)) where
-    abbrev numbers : List ℕ
-    numbers = map (λ (e : Node). e .number) (net .divisors)
-
-    same : (g : ℕ → ℕ) → total g L ≡ total g numbers
-    same g = total-same differ (λ x y h. differ-in {x = y} {y = x} (λ e. differ-out h (sym e))) (λ x. ap not (eq-eqb x x refl)) g L numbers (listing-once net)
-        (pairwise-imp ltb differ numbers (λ x y q. differ-in (λ (e : x ≡ y). omega (arith, ltb-true x y q))) (d .ascending))
-        (λ x m. let r = listing-number net x m in Memᴰ·cast (r .2) (map-in (λ (e : Node). e .number) (r .1)))
-        (λ x m. let r = map-out (λ (e : Node). e .number) (net .divisors) m in Memᴰ·cast (r .2) (listing-in net w (r .0) (r .1)))
-
-    -- a sum over the divisors in the order of the listing is that over the divisors
-    pub listed-total : (g : List (List ℕ) → ℕ) → total (λ v. g (cubesAt v (net .divisors))) L ≡ total (λ (e : Node). g (e .cubes)) (net .divisors)
-    listed-total g =
-        same (λ v. g (cubesAt v (net .divisors))) ∙ total-map (λ v. g (cubesAt v (net .divisors))) (λ (e : Node). e .number) (net .divisors)
-        ∙ total-cong (λ (e : Node). g (cubesAt (e .number) (net .divisors))) (λ (e : Node). g (e .cubes)) (net .divisors) (λ e m. ap g (cubes-at net d m))
-
-    -- as many cubes as before
-    pub cubes-new : cubeCount (renumbered net) ≡ cubeCount net
-    cubes-new =
-        ap (total length) nodes-new
-        ∙ total-append length (map (newNode (net .inputs) L) (net .outputs)) _
-        ∙ ap₂ _+_ (total-map length (newNode (net .inputs) L) (net .outputs) ∙ total-cong _ length (net .outputs) (λ f m. new-length f))
-        (total-map length (λ v. newNode (net .inputs) L (cubesAt v (net .divisors))) L ∙ total-cong _ (λ v. length (cubesAt v (net .divisors))) L (λ v m. new-length (cubesAt v (net .divisors))) ∙ listed-total length ∙ sym (total-map length (λ (e : Node). e .cubes) (net .divisors)))
-        ∙ sym (total-append length (net .outputs) (map (λ (e : Node). e .cubes) (net .divisors)))
+-- by the rules the listing is handed out whole
+pub rules-order : (n : Network) → rules n ≡ true → (r : Listed) → r ≡ listedOf n → r .order ≡ padded (listing (netOf n))
+rules-order n h r e = listed-out n r (rules-listable n h) e .places
 
 -- ---- a network by the rules, with the order of its divisors
 
@@ -127,7 +76,7 @@ module _ {n m k : ℕ} {words counts order : List ℕ} (b : Numberable n m k wor
   listed-many : length (listing net) ≡ k
   listed-many = all-listed ∙ many
 
-  pub small : (m ≤ 32) × (n + k ≤ 64)
+  pub small : (m ≤ mostOutputs) × (n + k ≤ mostVariables)
   small = (sized .narrow, sized .variables)
 
   ordered : Ordered n m k words counts k order
@@ -166,8 +115,11 @@ module _ {n m k : ℕ} {words counts order : List ℕ} (b : Numberable n m k wor
   known-at : (j : ℕ) → j < m + k → reach (n + k) (getD old j []) ≡ true
   known-at j h =
       let e = nodes-length counts words (m + k) (sized .counted) in
-      let q : all (reach (n + k)) (cut (take (m + k) counts) (cubesOf words)) ≡ true = subst (λ (fs : List (List (List ℕ))). all (reach (n + k)) fs ≡ true) (nodes-held (heldIn n m k counts words)) (reach-in (n + k) (nodes net) (λ f i v r. omega (arith, lawful .good .known f i v r, many))) in
-      subst (λ (f : List (List ℕ)). reach (n + k) f ≡ true) (old-at j h) (all-out (reach (n + k)) (at-in (cut (take (m + k) counts) (cubesOf words)) j [] (omega (arith, e))) q)
+      let held = cut (take (m + k) counts) (cubesOf words) in
+      let q : all (reach (n + k)) held ≡ true =
+      subst (λ (fs : List (List (List ℕ))). all (reach (n + k)) fs ≡ true) (nodes-held (heldIn n m k counts words))
+      (reach-in (n + k) (nodes net) (λ f i v r. omega (arith, lawful .good .known f i v r, many))) in
+      subst (λ (f : List (List ℕ)). reach (n + k) f ≡ true) (old-at j h) (all-out (reach (n + k)) (at-in held j [] (omega (arith, e))) q)
 
   places : length (cubesOf words) ≡ cubeSlots
   places = b .shape .places
@@ -193,25 +145,35 @@ module _ {n m k : ℕ} {words counts order : List ℕ} (b : Numberable n m k wor
 
   pub new-many : length fs ≡ m + k
   new-many =
-      ap length (nodes-new net) ∙ length-append (map new (net .outputs)) _
+      ap length (renumbered-nodes net) ∙ length-append (map new (net .outputs)) _
       ∙ ap₂ _+_ front-many (length-map (listing net) (λ v. new (cubesAt v (net .divisors))) ∙ listed-many)
 
-  pub new-few : total length fs ≤ 1088
-  new-few = omega (arith, cubes-new net (numbered-distinct net ds refl) all-listed, cubes-held (heldIn n m k counts words) (omega (arith, sized .cubes, places)), sized .cubes)
+  -- there is room for the next
+  pub new-room : {i at : ℕ} → i < m + k → at ≡ total length (take i fs) → at + length (getD fs i []) ≤ cubeSlots
+  new-room {i} h e =
+      let all : total length (take (length fs) fs) ≡ total length fs = ap (total length) (take-all (length fs) fs (omega arith)) in
+      omega (
+        arith,
+        total-next length fs i [] (omega (arith, new-many)),
+        total-take-le length fs (i + 1) (length fs) (omega (arith, new-many)),
+        all,
+        renumbered-cubes net lawful,
+        lawful .within .cubes,
+      )
 
   new-output : (i : ℕ) → i < m → getD fs i [] ≡ new (getD old i [])
   new-output i h =
-      ap (λ (l : List (List (List ℕ))). getD l i []) (nodes-new net)
+      ap (λ (l : List (List (List ℕ))). getD l i []) (renumbered-nodes net)
       ∙ List·getD-append (map new (net .outputs)) _ [] i (omega (arith, front-many))
-      ∙ at-map new (net .outputs) i [] [] (omega (arith, outputs-many))
+      ∙ getD-map new (net .outputs) i [] [] (omega (arith, outputs-many))
       ∙ ap new (output-held (heldIn n m k counts words) i h ∙ old-at i (omega arith))
 
   new-divisor : (j v : ℕ) → j < k → v ≡ getD order j 0 → n ≤ v → v < n + k → getD fs (m + j) [] ≡ new (getD old (m + (v - n)) [])
   new-divisor j v h e l u =
       let z : n + (v - n) ≡ v = omega arith in
-      ap₂ (λ (x : List (List (List ℕ))) (y : ℕ). getD x (y + j) []) (nodes-new net) (sym front-many)
+      ap₂ (λ (x : List (List (List ℕ))) (y : ℕ). getD x (y + j) []) (renumbered-nodes net) (sym front-many)
       ∙ getD-append-add (map new (net .outputs)) _ j []
-      ∙ at-map (λ w. new (cubesAt w (net .divisors))) (listing net) j [] 0 (omega (arith, listed-many))
+      ∙ getD-map (λ w. new (cubesAt w (net .divisors))) (listing net) j [] 0 (omega (arith, listed-many))
       ∙ ap (λ w. new (cubesAt w (net .divisors))) (sym (order-at j h) ∙ sym e ∙ sym z)
       ∙ ap new (divisor-held (heldIn n m k counts words) (v - n) ∙ old-at (m + (v - n)) (omega arith))
 
@@ -227,14 +189,9 @@ module _ {n m k : ℕ} {words counts order : List ℕ} (b : Numberable n m k wor
           rw t (ap (λ x. getD fs x []) (sym e) ∙ new-divisor (i - m) (getD order (i - m) 0) (omega arith) refl (r .0) (r .1))
 
   -- the struct holds the network of them
-  pub new-holds : (sizes ws : List ℕ) → sizes ≡ map length fs ++ replicate (96 - length fs) 0 → cubesOf ws ≡ flat fs ++ replicate (1088 - total length fs) [] → Holds (heldIn n m k sizes ws) (renumbered net)
+  pub new-holds : {sizes ws : List ℕ} {at : ℕ} → LaidNodes ws sizes at fs → Holds (heldIn n m k sizes ws) (renumbered net)
   unfolding renumbered
-  new-holds sizes ws p q = record {
-    inputs = refl;
-    outputs = sym front-many;
-    divisors = sym (numbered-length n (map (λ v. new (cubesAt v (net .divisors))) (listing net)) ∙ length-map (listing net) (λ v. new (cubesAt v (net .divisors))) ∙ listed-many);
-    laid = record { place = refl; counts = p; cubes = q };
-  }
+  new-holds l = laid-holds l (renumbered net) refl refl (sym front-many) (sym (renumbered-divisors net lawful ∙ many))
 
   -- ---- the new numbers
 
@@ -249,9 +206,8 @@ module _ {n m k : ℕ} {words counts order : List ℕ} (b : Numberable n m k wor
             let l = ltb-false v n t in
             let e : n + (v - n) ≡ v = omega arith in
             let there : v ∈ listing net = Memᴰ·cast (sym e) (listing-in net all-listed _ (numbered-in n ds (v - n) (omega (arith, many, numbered-length n ds)))) in
-            let q = index-in v (listing net) there in
-            let j : indexOf v (listing net) < k = omega (arith, q .0, listed-many) in
-            rw t (ap (λ u. getD ps u 0) (sym (order-at (indexOf v (listing net)) j ∙ q .1)) ∙ p .divisors (indexOf v (listing net)) j)
+            let j : indexOf v (listing net) < k = omega (arith, index-lt v (listing net) there, listed-many) in
+            rw t (ap (λ u. getD ps u 0) (sym (order-at (indexOf v (listing net)) j ∙ index-at v (listing net) there)) ∙ p .divisors (indexOf v (listing net)) j)
 
     cube-by : (c : List ℕ) → all (λ l. ltb (l / 2) (n + k)) c ≡ true → cubeBy ps c ≡ newCube n (listing net) c
     unfolding cubeBy newCube newLiteral

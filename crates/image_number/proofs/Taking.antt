@@ -1,5 +1,5 @@
 -- The literals of a cube taken one after the other, the smallest first, and the set of the new ones. Assumes nothing.
-use Prim.Native.Nat.{ℕ, _+_, _*_, _/_, _%_, _<_}
+use Prim.Native.Nat.{ℕ, _+_, _*_, _/_, _%_, _^_, _<_}
 use mathlib.Core.Path.{_≡_, refl, sym, _∙_, ap}
 use mathlib.Core.Bool.{Bool, true, false, cond, _||_}
 use mathlib.Core.List.{List, [], _∷_}
@@ -12,7 +12,7 @@ use Rattle.sets.specs.Sets.{mem, asc, insert, union, without, firstFrom}
 use Rattle.sets.proofs.First.{some-not-none}
 use Rattle.sets.proofs.Removal.{without-here, without-absent}
 use Rattle.sets.proofs.Sets.{head-once, insert-mem, insert-asc, union-mem, union-asc, union-comm, ext}
-use Rattle.cube.specs.Cube.{joined}
+use Rattle.cube.specs.Cube.{joined, width}
 use Rattle.image_number.specs.Parts.{Wide, literalBy, cubeBy}
 
 -- ---- the smallest literal and the others
@@ -31,21 +31,21 @@ first-some (y ∷ c) x a h =
     rw e (ap (y ∷_) (sym (without-here y c ∙ without-absent y c (head-once y c a))))
 
 -- the cube of one literal
-joined-one : (x : ℕ) (e : List ℕ) → x < 128 → e ≡ [] → joined x e ≡ x ∷ []
+joined-one : (x : ℕ) (e : List ℕ) → x < 2 * width → e ≡ [] → joined x e ≡ x ∷ []
 unfolding insert
-joined-one x e h z = rw (z, lt-ltb x 128 h)
+joined-one x e h z = rw (z, lt-ltb x (2 * width) h)
 
 -- the smallest taken off
-pub rest-next : (c e o d : List ℕ) (x : ℕ) → asc c ≡ true → firstFrom 0 c ≡ some x → x < 128 → e ≡ [] → o ≡ joined x e → d ≡ without c o → c ≡ x ∷ d
+pub rest-next : (c e o d : List ℕ) (x : ℕ) → asc c ≡ true → firstFrom 0 c ≡ some x → x < 2 * width → e ≡ [] → o ≡ joined x e → d ≡ without c o → c ≡ x ∷ d
 rest-next c e o d x a h s z p q = first-some c x a h ∙ ap (x ∷_) (ap (without c) (sym (p ∙ joined-one x e s z)) ∙ sym q)
 
 -- ---- the new literal
 
 module _ (ps : List ℕ) (l v r : ℕ) (w : Wide ps) (e : v ≡ l / 2) where
-  pub literal-negated : (b : Bool) → b ≡ eqb (l % 2) 1 → b ≡ true → r ≡ (2 * getD ps v 0 + 1) % 4294967296 → r ≡ literalBy ps l
+  pub literal-negated : (b : Bool) → b ≡ eqb (l % 2) 1 → b ≡ true → r ≡ (2 * getD ps v 0 + 1) % 2 ^ 32 → r ≡ literalBy ps l
   literal-negated b p t q = omega (arith, w .small v, eqb-true (l % 2) 1 (sym p ∙ t), ap (λ u. getD ps u 0) e)
 
-  pub literal-plain : (b : Bool) → b ≡ eqb (l % 2) 1 → b ≡ false → r ≡ (2 * getD ps v 0) % 4294967296 → r ≡ literalBy ps l
+  pub literal-plain : (b : Bool) → b ≡ eqb (l % 2) 1 → b ≡ false → r ≡ (2 * getD ps v 0) % 2 ^ 32 → r ≡ literalBy ps l
   literal-plain b p t q = let f = eqb-false (l % 2) 1 (sym p ∙ t) in omega (arith, w .small v, ap (λ u. getD ps u 0) e)
 
 -- ---- the set of the new literals
@@ -72,15 +72,15 @@ union-insert x a b h = ext _ _ (union-asc (insert x a) b h) (union-asc a (insert
     turn false true r = refl
     turn false false r = refl
 
--- each is below 128
-pub by-small : (ps : List ℕ) (l : ℕ) → Wide ps → literalBy ps l < 128
+-- each is of a variable
+pub by-small : (ps : List ℕ) (l : ℕ) → Wide ps → literalBy ps l < 2 * width
 by-small ps l w = omega (arith, w .small (l / 2))
 
 -- the invariant of the loop: what is left and what is there make up the whole
 pub by-more : (ps c : List ℕ) (x : ℕ) (d r s : List ℕ) → Wide ps → asc r ≡ true → c ≡ x ∷ d → s ≡ joined (literalBy ps x) r → union (cubeBy ps d) s ≡ union (cubeBy ps c) r
 unfolding cubeBy
 by-more ps c x d r s w a e f =
-    let j : s ≡ insert (literalBy ps x) r = f ∙ rw (lt-ltb (literalBy ps x) 128 (by-small ps x w)) in
+    let j : s ≡ insert (literalBy ps x) r = f ∙ rw (lt-ltb (literalBy ps x) (2 * width) (by-small ps x w)) in
     ap (union (cubeBy ps d)) j ∙ sym (union-insert (literalBy ps x) (cubeBy ps d) r a) ∙ ap (λ z. union (cubeBy ps z) r) (sym e)
 
 pub by-all : (ps c r : List ℕ) → c ≡ [] → union (cubeBy ps c) r ≡ r

@@ -8,7 +8,7 @@ use lib.ListN.{length, getD}
 use Rattle.sets.specs.Sets.{insert}
 use Rattle.expression.specs.Expression.{sort}
 use Rattle.network.specs.Listing.{listing}
-use Rattle.network.specs.Held.{rules}
+use Rattle.network.specs.Held.{mostOutputs, mostVariables, rules}
 use Rattle.network.specs.Answers.{padded}
 use Rattle.network.specs.Handed.{Shaped}
 use Rattle.network.specs.Parts.{heldIn, netAt}
@@ -17,8 +17,8 @@ use Rattle.network.specs.Parts.{heldIn, netAt}
 
 -- a number of a variable for each variable
 pub record Wide (ps : List ℕ) : Type 0 where
-  pub whole : length ps ≡ 64
-  pub small : (v : ℕ) → getD ps v 0 < 64
+  pub whole : length ps ≡ mostVariables
+  pub small : (v : ℕ) → getD ps v 0 < mostVariables
 
 -- each variable below e is at its own number
 pub record Itself (e : ℕ) (ps : List ℕ) : Type 0 where
@@ -27,9 +27,9 @@ pub record Itself (e : ℕ) (ps : List ℕ) : Type 0 where
 
 -- an order of k numbers from n on, none twice
 pub record Numbers (n k : ℕ) (order : List ℕ) : Type 0 where
-  pub variables : n + k ≤ 64
+  pub variables : n + k ≤ mostVariables
   pub counted : k ≤ length order
-  pub range : (i : ℕ) → i < k → (n ≤ getD order i 0) × (getD order i 0 < 64)
+  pub range : (i : ℕ) → i < k → (n ≤ getD order i 0) × (getD order i 0 < mostVariables)
   pub apart : (i j : ℕ) → i < j → j < k → getD order i 0 ≡ getD order j 0 → ⊥
 
 -- inputs keep their numbers; the first k of the order take those from n on
@@ -58,7 +58,7 @@ sourceOf n m i order = cond (ltb i m) i (m + (getD order (i - m) 0 - n))
 
 -- past the outputs there is a number in the order, one of a divisor
 pub record Sourced (n m i : ℕ) (order : List ℕ) : Type 0 where
-  pub outputs : m ≤ 32
+  pub outputs : m ≤ mostOutputs
   pub counted : m ≤ i → i - m < length order
   pub above : m ≤ i → n ≤ getD order (i - m) 0
 

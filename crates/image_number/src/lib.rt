@@ -4,34 +4,29 @@ use cube::Found;
 use cube::Literal;
 use cube::Variable;
 use expression::Verdict;
+use network::Handed;
 use network::Network;
 ghost use mathlib.Core.Path.{_≡_};
 ghost use mathlib.Core.List.{map};
-ghost use Prim.Native.Nat.{_+_, _<_, _≤_};
+ghost use Prim.Native.Nat.{_+_, _*_, _<_, _≤_};
 ghost use lib.ListN.{length};
 ghost use Rattle.cube.specs.Cube.{lits};
 ghost use Rattle.expression.specs.Words.{cubesOf, Placed};
-ghost use Rattle.network.specs.Handed.{Holds, Blank};
+ghost use Rattle.network.specs.Held.{mostVariables, netOf};
+ghost use Rattle.network.specs.Handed.{Holds, Told, byRules};
 ghost use Rattle.network.specs.Parts.{netAt};
 ghost use Rattle.image_laws.specs.Renumber.{renumbered};
-ghost use Rattle.image_number.specs.Answers.{Told};
 ghost use Rattle.image_number.specs.Parts.{Wide, Itself, Numbers, Placing, literalBy, cubeBy, nodeBy, sourceOf, Sourced, Numberable};
-
-// A refusal carries a network of zeros.
-pub struct Renumbered {
-    pub answer: Verdict,
-    pub network: Network,
-}
 
 // ---- the new numbers
 
 // Each variable at its own number.
-fn own() -> [u32; 64]
-    ensures { λ r. ⌜ Itself 64 r ⌝ }
+fn own() -> [u32; network::VARIABLES]
+    ensures { λ r. ⌜ Itself mostVariables r ⌝ }
 {
-    let mut places = [0u32; 64];
+    let mut places = [0u32; network::VARIABLES];
     let mut v = 0;
-    while v < 64 {
+    while v < network::VARIABLES {
         places[v] = v as u32;
         v += 1;
     }
@@ -39,7 +34,7 @@ fn own() -> [u32; 64]
 }
 
 // The new number of each variable: inputs keep theirs, the divisors take those from n on in their order.
-fn places_of(order: &[u32], n: usize, k: usize) -> [u32; 64]
+fn places_of(order: &[u32], n: usize, k: usize) -> [u32; network::VARIABLES]
     requires { ⌜ Numbers n k (now order) ⌝ }
     ensures { λ r. ⌜ Placing n k (now (order .entry)) r ⌝ }
 {
@@ -57,7 +52,7 @@ fn places_of(order: &[u32], n: usize, k: usize) -> [u32; 64]
 
 // The literal of the new number, of the same polarity.
 fn new_literal(l: Literal, places: &[u32]) -> Literal
-    requires { ⌜ Wide (now places) × (l .0 < 128) ⌝ }
+    requires { ⌜ Wide (now places) × (l .0 < 2 * mostVariables) ⌝ }
     ensures { λ r. ⌜ r .0 ≡ literalBy (now (places .entry)) (l .0) ⌝ }
 {
     let v = cube::variable_of(l);
@@ -151,30 +146,17 @@ fn build(n: usize, m: usize, k: usize, words: &[u64], counts: &[usize], order: &
     }
 }
 
-// A refusal, with a network of zeros.
-fn refused(answer: Verdict) -> Renumbered
-    ensures { λ r. ⌜ (r .answer ≡ answer) × Blank (r .network) ⌝ }
-{
-    Renumbered {
-        answer,
-        network: network::blank(),
-    }
-}
-
 // The network with its divisors numbered in the order of the listing; 10 where it breaks a rule.
-pub fn renumber(n: Network) -> Renumbered
-    ensures { λ r. ⌜ Told n r ⌝ }
+pub fn renumber(n: Network) -> Handed
+    ensures { λ r. ⌜ Told (byRules n (renumbered (netOf n))) r ⌝ }
 {
     let answer = network_rules::judge(n);
     let Verdict::Accepted = answer else {
-        return refused(answer);
+        return network::refuse(10);
     };
     let l = network_listing::listing(n);
     let order = l.order;
     let words = n.words;
     let counts = n.counts;
-    Renumbered {
-        answer,
-        network: build(n.inputs, n.outputs, n.divisors, &words, &counts, &order),
-    }
+    network::hand(build(n.inputs, n.outputs, n.divisors, &words, &counts, &order))
 }

@@ -1,76 +1,72 @@
 -- Cubes and nodes are read and put one after the other. Assumes nothing.
-use Prim.Native.Nat.{ℕ, suc, _+_, _-_, _*_, _<_, _≤_}
+use Prim.Native.Nat.{ℕ, _+_, _-_, _*_, _<_, _≤_}
 use mathlib.Core.Path.{_≡_, refl, sym, ap, ap₂, subst, _∙_}
-use mathlib.Core.Bool.{Bool, _&&_}
+use mathlib.Core.Bool.{Bool, _&&_, and-true, and-assoc}
 use mathlib.Core.List.{List, [], _∷_, _++_, map, map-append}
 use native.Mathlib.Omega.{arith}
-use native.Mathlib.Numerals.{add-one}
 use lib.Dec.{leb}
-use lib.ListN.{length, getD, take, drop, set, length-append, length-map}
-use lib.Seq.{sets, take-suc, length-take-le}
+use lib.ListN.{length, drop, set, length-append, length-map, length-set}
+use lib.Seq.{sets}
 use borrow.Author.Tests.{le-leb, lt-leb}
 use Rattle.sets.specs.Lists.{all}
 use Rattle.sets.specs.Sets.{asc, proper}
-use Rattle.sets.proofs.Lists.{total-append}
-use Rattle.network.proofs.Places.{all-append}
+use Rattle.sets.proofs.Lists.{all-append, total-append}
+use Rattle.sets.proofs.Rows.{sets-append}
 use Rattle.cube.specs.Cube.{lits}
-use Rattle.expression.specs.Words.{cubesOf, Put}
+use Rattle.expression.specs.Words.{Put, Placed}
+use Rattle.expression.proofs.Placing.{placed-none, placed-as, put-placed, placed-then}
 use Rattle.network.specs.Handed.{flat}
 use Rattle.network.proofs.Handing.{flat-last}
 use Rattle.network.specs.Held.{mostVariables, mostCubes}
 use Rattle.image_laws.specs.Widths.{edition1, mostCubeBits, mostCubesBits, mostNodeBits}
 use Rattle.image_laws.specs.Reading.{Parsed, bad, getMany, getCube, getNode}
-use Rattle.image_read.specs.Parts.{FieldIs, setOf, CubeGot, added, Near, Added, CubesGot, CubesAre, NodesGot}
+use Rattle.image_read.specs.Parts.{FieldIs, setOf, CubeGot, added, Near, Gathered, CubesGot, CubesAre, NodesGot}
 use Rattle.image_read.specs.declared.fields.Field.the-variants.{Is, Cut}
 use Rattle.image_read.specs.declared.fields.Taken.{Taken}
 use Rattle.image_read.specs.declared.nodes.State.{State}
 use Rattle.image_read.specs.declared.nodes.Step.{Step}
 use Rattle.image_read.specs.declared.nodes.Step.the-variants.{On, Bad}
 use Rattle.image_read.proofs.Fielding.{field-cut, field-bad, field-got}
-use Rattle.image_read.proofs.Flags.{and-true, and-assoc}
 use Rattle.image_read.proofs.Going.{Going, going-none, going-bad, going-next, going-end}
 
 -- ---- what was put
 
-sets-append : {A : Type 0} (l : List A) (i : ℕ) (a b : List A) → sets l i (a ++ b) ≡ sets (sets l i a) (i + length a) b
-sets-append l i [] b = let e : i ≡ i + 0 = omega arith in ap (λ n. sets l n b) e
-sets-append l i (x ∷ a) b =
-    let e : suc i + length a ≡ i + suc (length a) = omega arith in
-    sets-append (set l i x) (suc i) a b ∙ ap (λ n. sets (sets (set l i x) (suc i) a) n b) e
+pub added-none : (s : State) (ws : List ℕ) → Gathered s s ws ws []
+added-none s ws = record {
+  stored = λ h. placed-none ws (s .cubes);
+  places = refl;
+  cubes = omega arith;
+  literals = omega arith;
+  ascending = sym (and-true (s .ascending));
+  proper = refl;
+}
 
-pub added-none : (s : State) (ws : List ℕ) → Added s s ws ws []
-added-none s ws = record { stored = refl; cubes = omega arith; literals = omega arith; ascending = sym (and-true (s .ascending)); proper = refl }
-
-pub added-then : {s t u : State} {a b c : List ℕ} {f g : List (List ℕ)} → Added s t a b f → Added t u b c g → Added s u a c (f ++ g)
+pub added-then : {s t u : State} {a b c : List ℕ} {f g : List (List ℕ)} → Gathered s t a b f → Gathered t u b c g → Gathered s u a c (f ++ g)
 added-then {s} {t} {u} {a} {b} {c} {f} {g} p q = record {
-  stored =
+  stored = λ h.
+      let n = length-append f g in
       let e : t .cubes ≡ s .cubes + length (map setOf f) = omega (arith, p .cubes, length-map f setOf) in
-      q .stored ∙ ap₂ (λ l n. sets l n (map setOf g)) (p .stored) e
-      ∙ sym (sets-append (cubesOf a) (s .cubes) (map setOf f) (map setOf g)) ∙ ap (sets (cubesOf a) (s .cubes)) (sym (map-append setOf f g));
+      let x = q .stored (omega (arith, p .cubes, p .places)) in
+      placed-as (sym (map-append setOf f g))
+      (placed-then (p .stored (omega arith)) (omega (arith, length-map f setOf)) (subst (λ i. Placed b c i (map setOf g)) e x));
+  places = q .places ∙ p .places;
   cubes = omega (arith, p .cubes, q .cubes, length-append f g);
   literals = omega (arith, p .literals, q .literals, total-append length f g);
-  ascending = q .ascending ∙ ap (_&& all asc g) (p .ascending) ∙ and-assoc (s .ascending) (all asc f) (all asc g) ∙ ap (s .ascending &&_) (sym (all-append asc f g));
+  ascending =
+      q .ascending ∙ ap (_&& all asc g) (p .ascending) ∙ and-assoc (s .ascending) (all asc f) (all asc g) ∙ ap (s .ascending &&_) (sym (all-append asc f g));
   proper = all-append proper f g ∙ ap₂ _&&_ (p .proper) (q .proper);
 }
 
 added-one : {most : ℕ} {bits : List Bool} {start : ℕ} {g : Parsed (List ℕ)} {c : Taken} (h : CubeGot most bits start g c) (s : State) (old new : List ℕ)
-    → Put old new (s .cubes) (lits (c .cube)) → Added s (added s c) old new (h .read ∷ [])
+    → Put old new (s .cubes) (lits (c .cube)) → Gathered s (added s c) old new (h .read ∷ [])
 added-one h s old new p = record {
-  stored = p .cubes ∙ ap (set (cubesOf old) (s .cubes)) (h .cube);
+  stored = λ r. placed-as (ap (_∷ []) (h .cube)) (put-placed (omega arith) p);
+  places = ap length (p .cubes) ∙ simp length-set;
   cubes = omega arith;
   literals = omega (arith, h .literals);
   ascending = ap (s .ascending &&_) (h .ascending ∙ sym (and-true (asc (h .read))));
   proper = and-true (proper (h .read)) ∙ h .proper;
 }
-
--- one cube more of a copy
-pub copy-next : (f old new new' : List (List ℕ)) (place i : ℕ) (c : List ℕ) → i < length f → new ≡ sets old place (take i f) → new' ≡ set new (place + i) c → c ≡ getD f i []
-    → new' ≡ sets old place (take (i + 1) f)
-copy-next f old new new' place i c h e p q =
-    let a : place + i ≡ place + length (take i f) = omega (arith, length-take-le i f (omega arith)) in
-    p ∙ ap₂ (λ n x. set new n x) a q ∙ ap (λ l. set l (place + length (take i f)) (getD f i [])) e
-    ∙ sym (sets-append old place (take i f) (getD f i [] ∷ []))
-    ∙ ap (sets old place) (sym (ap (λ n. take n f) (add-one i) ∙ take-suc f i [] h))
 
 near-same : (s : State) → Near 0 s s
 near-same s = record { at = omega arith; cubes = omega arith; literals = omega arith }
@@ -81,7 +77,7 @@ near-same s = record { at = omega arith; cubes = omega arith; literals = omega a
 pub record Filling (bits : List Bool) (v k i : ℕ) (start : State) (old new : List ℕ) (s : State) : Type 0 where
   pub read : List (List ℕ)
   pub going : Going (getCube v) k i (drop (start .at) bits) (drop (s .at) bits) read
-  pub put : Added start s old new read
+  pub put : Gathered start s old new read
   pub near : Near (mostCubeBits * i) start s
 
 pub fill-none : (bits : List Bool) (v k : ℕ) (start : State) (ws : List ℕ) → Filling bits v k 0 start ws ws start
@@ -144,7 +140,14 @@ module _ (bits : List Bool) (v : ℕ) (s : State) where
     node-are m old new (On t) c = record {
       read = c .read;
       is = node-on m ∙ c .is;
-      put = record { stored = c .put .stored; cubes = c .put .cubes; literals = c .put .literals; ascending = c .put .ascending; proper = c .put .proper };
+      put = record {
+        stored = c .put .stored;
+        places = c .put .places;
+        cubes = c .put .cubes;
+        literals = c .put .literals;
+        ascending = c .put .ascending;
+        proper = c .put .proper;
+      };
       near = record { at = omega (arith, c .near .at); cubes = omega (arith, c .near .cubes); literals = omega (arith, c .near .literals) };
     }
 
@@ -154,7 +157,7 @@ module _ (bits : List Bool) (v : ℕ) (s : State) where
 pub record Counting (bits : List Bool) (v k i : ℕ) (start : State) (old new : List ℕ) (first : ℕ) (was are : List ℕ) (s : State) : Type 0 where
   pub read : List (List (List ℕ))
   pub going : Going (getNode v) k i (drop (start .at) bits) (drop (s .at) bits) read
-  pub put : Added start s old new (flat read)
+  pub put : Gathered start s old new (flat read)
   pub counts : are ≡ sets was first (map length read)
   pub near : Near (mostNodeBits * i) start s
 
@@ -176,7 +179,7 @@ module _ {bits : List Bool} {v k i : ℕ} {start : State} {old new : List ℕ} {
   count-next more new' t c = record {
     read = h .read ++ (c .read ∷ []);
     going = going-next (getNode v) k (h .going) more (c .read) (drop (t .at) bits) (c .is);
-    put = subst (Added start t old new') (sym (flat-last (h .read) (c .read))) (added-then (h .put) (c .put));
+    put = subst (Gathered start t old new') (sym (flat-last (h .read) (c .read))) (added-then (h .put) (c .put));
     counts =
         let a : first + i ≡ first + length (map length (h .read)) = omega (arith, length-map (h .read) length, h .going .number) in
         let b : t .cubes - s .cubes ≡ length (c .read) = omega (arith, c .put .cubes) in

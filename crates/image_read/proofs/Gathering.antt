@@ -1,20 +1,19 @@
 -- The literals of a cube, one after the other. Assumes nothing.
-use Prim.Native.Nat.{ℕ, suc, _+_, _-_, _/_, _<_, _≤_}
+use Prim.Native.Nat.{ℕ, suc, _+_, _-_, _*_, _/_, _<_, _≤_}
 use mathlib.Core.Path.{_≡_, refl, sym, ap, ap₂, _∙_}
-use mathlib.Core.Bool.{Bool, true, false, not, _&&_, _||_}
+use mathlib.Core.Bool.{Bool, true, false, not, _&&_, _||_, and-true, and-comm}
 use mathlib.Core.List.{List, [], _∷_, reverseAux}
-use mathlib.Core.Logic.{⊎-elim}
 use native.Mathlib.Omega.{arith}
 use native.Mathlib.Numerals.{add-one}
 use lib.Dec.{leb, ltb, eqb}
 use lib.ListN.{length, drop, length-reverseAux}
-use borrow.Author.Tests.{lt-ltb, ltb-true, eqb-true, ne-eqb, not-true, le-leb, lt-leb}
+use borrow.Author.Tests.{lt-ltb, ltb-true, not-true, le-leb, lt-leb}
 use Rattle.sets.specs.Lists.{all, pairwise}
 use Rattle.sets.specs.Literal.{oppositeOf}
 use Rattle.sets.specs.Sets.{mem, asc, proper, union, insert}
-use Rattle.sets.proofs.Truth.{both, either, clash}
+use Rattle.sets.proofs.Truth.{both}
 use Rattle.sets.proofs.Sets.{ext, union-mem, union-asc, union-all, proper-in, proper-out}
-use Rattle.cube.specs.Cube.{lits, joined}
+use Rattle.cube.specs.Cube.{width, lits, joined}
 use Rattle.cube.specs.declared.Cube.{Cube}
 use Rattle.network.specs.Held.{mostVariables}
 use Rattle.image_laws.specs.Widths.{edition1, mostLiteralBits, mostCubeBits}
@@ -23,7 +22,7 @@ use Rattle.image_read.specs.Parts.{FieldIs, setOf, CubeGot, CubeIs}
 use Rattle.image_read.specs.declared.fields.Field.the-variants.{Is, Cut}
 use Rattle.image_read.specs.declared.fields.Turn.{Turn}
 use Rattle.image_read.specs.declared.fields.Turn.the-variants as turn
-use Rattle.image_read.proofs.Flags.{and-true, and-flip}
+use Rattle.image_laws.proofs.Reading.{proper-more}
 use Rattle.image_read.proofs.Fielding.{field-cut, field-bad, field-got}
 
 -- what is read after these, the last of which comes first
@@ -124,24 +123,6 @@ set-turned s =
 
 -- ---- no variable both ways
 
--- a number that is not the first and not in the rest
-outside : (x y : ℕ) (s : List ℕ) → (y ≡ x → ⊥) → mem y s ≡ false → mem y (x ∷ s) ≡ false
-unfolding mem
-outside x y s d m = rw (ne-eqb y x d) m
-
-proper-more : (x : ℕ) (s : List ℕ) → proper s ≡ true → mem (oppositeOf x) s ≡ false → proper (x ∷ s) ≡ true
-unfolding mem
-proper-more x s h e = proper-in (x ∷ s) (λ z m. ⊎-elim (λ q. first z (eqb-true z x q)) (later z) (either (eqb z x) (mem z s) m))
-  where
-    first : (z : ℕ) → z ≡ x → mem (oppositeOf z) (x ∷ s) ≡ false
-    first z q = outside x (oppositeOf z) s (λ d. omega arith) (ap (λ n. mem (oppositeOf n) s) q ∙ e)
-
-    later : (z : ℕ) → mem z s ≡ true → mem (oppositeOf z) (x ∷ s) ≡ false
-    later z m = outside x (oppositeOf z) s (λ d. clash m (ap (λ n. mem n s) (back z d) ∙ e)) (proper-out s z h m)
-      where
-        back : (y : ℕ) → oppositeOf y ≡ x → y ≡ oppositeOf x
-        back y d = omega arith
-
 proper-turned : (s : List ℕ) → proper s ≡ true → proper (reverseAux s []) ≡ true
 proper-turned s h = proper-in (reverseAux s []) (λ z m. is (oppositeOf z) ∙ proper-out s z h (sym (is z) ∙ m))
   where
@@ -198,8 +179,8 @@ module _ {bits : List Bool} {v k start at i : ℕ} {set : List ℕ} {up : Bool} 
       seen = x ∷ g .seen;
       number = ap suc (g .number) ∙ sym (add-one i);
       going = opened ∙ literals-next v last (g .seen) (drop at bits) x (drop (at + edition1 .literal) bits) (field-got (edition1 .literal) (allowed v (g .seen)) bits at x h good);
-      held = s ∙ rw (lt-ltb x 128 (omega (arith, ltb-true (x / 2) v (parts .0)))) (more-set (g .held));
-      rising = u ∙ ap₂ _&&_ (g .rising) (ap (all (λ y. ltb y x)) (g .held) ∙ set-all (λ y. ltb y x) (g .seen)) ∙ and-flip (falls (g .seen)) (all (λ y. ltb y x) (g .seen));
+      held = s ∙ rw (lt-ltb x (2 * width) (omega (arith, ltb-true (x / 2) v (parts .0)))) (more-set (g .held));
+      rising = u ∙ ap₂ _&&_ (g .rising) (ap (all (λ y. ltb y x)) (g .held) ∙ set-all (λ y. ltb y x) (g .seen)) ∙ and-comm (falls (g .seen)) (all (λ y. ltb y x) (g .seen));
       clean = proper-more x (g .seen) (g .clean) (not-true (mem (oppositeOf x) (g .seen)) (parts .1));
     }
       where

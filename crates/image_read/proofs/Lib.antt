@@ -1,5 +1,4 @@
 pub mod Bits
-pub mod Flags
 pub mod Fielding
 pub mod Gathering
 pub mod Going

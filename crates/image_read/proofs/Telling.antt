@@ -1,7 +1,7 @@
 -- All fields are read: the verdict is that of the definition, and the struct holds the network. Assumes nothing.
 use Prim.Native.Nat.{ℕ, _+_, _-_, _≤_}
 use mathlib.Core.Path.{_≡_, refl, sym, ap, ap₂, subst, _∙_}
-use mathlib.Core.Bool.{Bool, true, false, cond, _&&_}
+use mathlib.Core.Bool.{Bool, true, false, cond, _&&_, and-assoc}
 use mathlib.Core.List.{List, [], _++_, map, append-assoc, map-append}
 use mathlib.Core.Logic.{⊎-elim}
 use native.Mathlib.Omega.{arith}
@@ -11,49 +11,49 @@ use lib.Seq.{sets, take-at, drop-at}
 use borrow.Author.Tests.{leb-true}
 use Rattle.sets.specs.Lists.{all, total}
 use Rattle.sets.specs.Sets.{asc, proper}
-use Rattle.sets.proofs.Lists.{total-append}
+use Rattle.sets.proofs.Lists.{all-append, total-append}
 use Rattle.sets.proofs.Truth.{both, together, decided, clash, refuted}
-use Rattle.expression.specs.Words.{cubesOf}
+use Rattle.expression.specs.Words.{cubesOf, Placed, Front, fitting}
 use Rattle.expression.specs.Expression.{literalsOf}
-use Rattle.network.specs.Net.{Net, nodes, cubeCount}
-use Rattle.network.specs.Handed.{flat, nodeSlots, cubeSlots, Blank}
+use Rattle.network.specs.Net.{Net, nodes}
+use Rattle.network.specs.Handed.{flat, nodeSlots, cubeSlots, LaidNodes, Holds, Return, gives, refuses, Told, Carries}
 use Rattle.network.specs.Held.{mostCubes, mostLiterals}
-use Rattle.network.proofs.Handing.{Typed, flat-length, holds-one, blank-one}
+use Rattle.network.proofs.Handing.{flat-length, flat-append}
 use Rattle.image_fields.specs.Fields.{bitsIn}
 use Rattle.network.proofs.Numbering.{numbered-cubes, numbered-length}
-use Rattle.network.proofs.Places.{all-append}
 use Rattle.image_laws.specs.Widths.{headSize}
-use Rattle.image_laws.specs.Reading.{got, bad, Raw, rawNodes, rawNet, Outcome, accepted, refused, padding, summed, allInOrder, inTheOrder, readsEarlier, judgeRaw, getMany, getNode, getNodes, getRaw, readImage}
-use Rattle.image_read.specs.Answers.{Told}
-use Rattle.image_read.specs.Parts.{nodesAt, nodesIn, orderedIn, outputCounts, divisorCounts, Judging, verdict, judgedOf, Copied, blankCounts, Half, Whole}
-use Rattle.image_read.specs.declared.Answer.{Answer}
-use Rattle.image_read.specs.declared.Answer.the-variants.{Accepted, Refused}
-use Rattle.image_read.specs.declared.Image.{Image}
+use Rattle.image_laws.specs.Reading.{got, bad, Raw, rawNodes, rawNet, padding, summed, allInOrder, inTheOrder, readsEarlier, judgeRaw, getMany, getNode, getNodes, getRaw, readImage}
+use Rattle.image_read.specs.Parts.{nodesAt, nodesIn, orderedIn, outputCounts, divisorCounts, fewIn, Judging, verdict, judgedOf, blankCounts, Half, Whole}
+use Rattle.expression.specs.declared.Verdict.{Verdict}
+use Rattle.expression.specs.declared.Verdict.the-variants.{Accepted, Refused}
+use Rattle.network.specs.declared.Network.{Network}
+use Rattle.network.specs.declared.Handed.{Handed}
+use Rattle.network.proofs.Laying.{laid-holds}
+use Rattle.expression.proofs.Placing.{placed-as, placed-fitting, front-places, front-own, front-then}
 use Rattle.image_read.specs.declared.Sizes.{Sizes}
 use Rattle.image_read.specs.declared.nodes.State.{State}
-use Rattle.image_read.proofs.Flags.{and-assoc}
 use Rattle.image_read.proofs.Testing.{all-tidy, order-asc}
-use Rattle.image_read.proofs.Standing.{cubes-stand, counts-stand, nodes-stand, both-stand, sum-lengths, total-flat}
+use Rattle.image_read.proofs.Standing.{cubes-stand, counts-stand, nodes-stand, sum-lengths, total-flat}
 
 -- ---- outcomes as answers
 
-abbrev answerOf : Outcome → Answer
-answerOf (accepted n) = Accepted
-answerOf (refused k) = Refused k
+abbrev answerOf : Return → Verdict
+answerOf (gives n) = Accepted
+answerOf (refuses k) = Refused k
 
-answer-refused : (o : Outcome) (k : ℕ) → answerOf o ≡ Refused k → o ≡ refused k
-answer-refused (accepted n) k e = let z : _≡_ {A = ℕ} 0 1 = cc in absurd (omega arith)
-answer-refused (refused j) k e = let q : j ≡ k = cc in ap refused q
+answer-refused : (o : Return) (k : ℕ) → answerOf o ≡ Refused k → o ≡ refuses k
+answer-refused (gives n) k e = let z : _≡_ {A = ℕ} 0 1 = cc in absurd (omega arith)
+answer-refused (refuses j) k e = let q : j ≡ k = cc in ap refuses q
 
--- a refusal, and a network of zeros
-pub told-refused : (o : Outcome) (k : ℕ) (r : Image) → o ≡ refused k → (r .answer ≡ Refused k) × Blank (r .network) → Told o r
-told-refused o k r e h = subst (λ (x : Outcome). Told x r) (sym e) h
+-- a refusal
+pub told-refused : (o : Return) (k : ℕ) (r : Handed) → o ≡ refuses k → Told (refuses k) r → Told o r
+told-refused o k r e h = subst (λ (x : Return). Told x r) (sym e) h
 
 -- the outcome of three tests
-abbrev picked : Bool → Bool → Bool → Net → Outcome
-picked p q u n = cond p (cond q (cond u (accepted n) (refused 13)) (refused 12)) (refused 11)
+abbrev picked : Bool → Bool → Bool → Net → Return
+picked p q u n = cond p (cond q (cond u (gives n) (refuses 13)) (refuses 12)) (refuses 11)
 
-picked-yes : (p q u : Bool) (n : Net) → answerOf (picked p q u n) ≡ Accepted → (q ≡ true) × (u ≡ true) × (picked p q u n ≡ accepted n)
+picked-yes : (p q u : Bool) (n : Net) → answerOf (picked p q u n) ≡ Accepted → (q ≡ true) × (u ≡ true) × (picked p q u n ≡ gives n)
 picked-yes true true true n e = (refl, refl, refl)
 picked-yes true true false n e = let z : _≡_ {A = ℕ} 0 1 = cc in absurd (omega arith)
 picked-yes true false u n e = let z : _≡_ {A = ℕ} 0 1 = cc in absurd (omega arith)
@@ -75,7 +75,7 @@ verdict-yes p q u e f g = rw (e, f, g)
 verdict-same : (p q u u' : Bool) (n : Net) → (q ≡ true → u ≡ u') → verdict p q u ≡ answerOf (picked p q u' n)
 verdict-same true true u u' n e = ap (λ b. cond b Accepted (Refused 13)) (e refl) ∙ go u'
   where
-    go : (b : Bool) → cond b Accepted (Refused 13) ≡ answerOf (cond b (accepted n) (refused 13))
+    go : (b : Bool) → cond b Accepted (Refused 13) ≡ answerOf (cond b (gives n) (refuses 13))
     go true = refl
     go false = refl
 verdict-same true false u u' n e = refl
@@ -151,7 +151,7 @@ module _ {bits : List Bool} {z : Sizes} {d : ℕ} {t : State} {apart words count
   literals-sum : sums .literals ≡ total literalsOf (rawNodes raw)
   literals-sum = omega (arith, w .half .divisors .put .literals, w .outputs .put .literals, total-flat ds, total-flat os, total-append literalsOf ds os)
 
-  summed-are : (leb (sums .cubes) mostCubes && leb (sums .literals) mostLiterals) ≡ summed raw
+  summed-are : fewIn sums ≡ summed raw
   unfolding summed
   summed-are = ap₂ (λ a b. leb a mostCubes && leb b mostLiterals) cubes-sum literals-sum
 
@@ -164,17 +164,17 @@ module _ {bits : List Bool} {z : Sizes} {d : ℕ} {t : State} {apart words count
     parts : (all asc (flat ds) ≡ true) × (all asc (flat os) ≡ true)
     parts = both (all asc (flat ds)) (all asc (flat os)) (sym asc-sum ∙ up)
 
-    apart-stand : cubesOf apart ≡ flat ds ++ replicate (mostCubes - length (flat ds)) []
+    apart-stand : Front apart mostCubes (flat ds)
     apart-stand = cubes-stand (flat ds) (w .half .divisors .put) refl (parts .0) (omega (arith, divisor-cubes))
 
-    words-stand : cubesOf words ≡ flat os ++ replicate (mostCubes - length (flat os)) []
+    words-stand : Front words mostCubes (flat os)
     words-stand = cubes-stand (flat os) (w .outputs .put) refl (parts .1) (omega (arith, output-cubes))
 
     divisors-in : nodesIn (divisorCounts z counts) apart ≡ ds
-    divisors-in = nodes-stand ds apart (divisorCounts z counts) (mostCubes - length (flat ds)) apart-stand divisors-are
+    divisors-in = nodes-stand ds apart-stand divisors-are
 
     outputs-in : nodesIn (outputCounts z counts) words ≡ os
-    outputs-in = nodes-stand os words (outputCounts z counts) (mostCubes - length (flat os)) words-stand outputs-are
+    outputs-in = nodes-stand os words-stand outputs-are
 
     up-order : orderedIn (z .inputs) (nodesIn (divisorCounts z counts) apart) (nodesIn (outputCounts z counts) words) ≡ allInOrder raw
     unfolding allInOrder
@@ -205,7 +205,7 @@ module _ {bits : List Bool} {z : Sizes} {d : ℕ} {t : State} {apart words count
 
   -- ---- the verdict
 
-  abbrev outcome : Outcome
+  abbrev outcome : Return
   outcome = picked (padding (drop (t .at) bits)) (summed raw) (allInOrder raw) (rawNet raw)
 
   outcome-is : judgeRaw (nodesAt bits z) ≡ outcome
@@ -220,18 +220,19 @@ module _ {bits : List Bool} {z : Sizes} {d : ℕ} {t : State} {apart words count
       few : summed raw ≡ true → sums .cubes ≤ mostCubes
       few q = leb-true (sums .cubes) mostCubes (both (leb (sums .cubes) mostCubes) (leb (sums .literals) mostLiterals) (summed-are ∙ q) .0)
 
-  pub whole-refused : (a : Answer) (k : ℕ) (r : Image) → a ≡ judgedOf bits sums z apart words counts → a ≡ Refused k → (r .answer ≡ Refused k) × Blank (r .network) → Told (judgeRaw (nodesAt bits z)) r
+  pub whole-refused : (a : Verdict) (k : ℕ) (r : Handed) → a ≡ judgedOf bits sums z apart words counts → a ≡ Refused k → Told (refuses k) r
+      → Told (judgeRaw (nodesAt bits z)) r
   whole-refused a k r j e h = told-refused (judgeRaw (nodesAt bits z)) k r (outcome-is ∙ answer-refused outcome k (sym judged-is ∙ sym j ∙ e)) h
 
-  module _ (a : Answer) (judged : a ≡ judgedOf bits sums z apart words counts) (yes : a ≡ Accepted) where
-    passed : (summed raw ≡ true) × (allInOrder raw ≡ true) × (outcome ≡ accepted (rawNet raw))
+  module _ (a : Verdict) (judged : a ≡ judgedOf bits sums z apart words counts) (yes : a ≡ Accepted) where
+    passed : (summed raw ≡ true) × (allInOrder raw ≡ true) × (outcome ≡ gives (rawNet raw))
     passed = picked-yes (padding (drop (t .at) bits)) (summed raw) (allInOrder raw) (rawNet raw) (sym judged-is ∙ sym judged ∙ yes)
 
-    pub whole-few : d + t .cubes ≤ mostCubes
+    whole-few : d + t .cubes ≤ mostCubes
     whole-few = leb-true (sums .cubes) mostCubes (both (leb (sums .cubes) mostCubes) (leb (sums .literals) mostLiterals) (summed-are ∙ passed .0) .0)
 
     whole-up : sums .ascending ≡ true
-    whole-up = both (sums .ascending) (orderedIn (z .inputs) (nodesIn (divisorCounts z counts) apart) (nodesIn (outputCounts z counts) words)) (order-are whole-few ∙ passed .1) .0
+    whole-up = both (sums .ascending) _ (order-are whole-few ∙ passed .1) .0
 
     abbrev net : Net
     net = rawNet raw
@@ -239,37 +240,42 @@ module _ {bits : List Bool} {z : Sizes} {d : ℕ} {t : State} {apart words count
     nodes-are : nodes net ≡ os ++ ds
     nodes-are = ap (os ++_) (numbered-cubes (z .inputs) ds)
 
-    module _ (new : List ℕ) (c : Copied apart d words new (t .cubes)) where
-      cubes-hold : cubesOf new ≡ flat (nodes net) ++ replicate (cubeSlots - cubeCount net) []
-      cubes-hold =
-          both-stand os ds words apart new (omega (arith, divisor-cubes, output-cubes, whole-few)) (words-stand whole-few whole-up) (apart-stand whole-few whole-up)
-          (c .cubes (omega (arith, divisor-cubes, ap length (apart-stand whole-few whole-up) ∙ length-append (flat ds) (replicate (mostCubes - length (flat ds)) [])))
-          ∙ ap₂ (λ n k. sets (cubesOf words) n (take k (cubesOf apart))) output-cubes divisor-cubes)
-          ∙ ap (λ l. flat l ++ replicate (cubeSlots - total length l) []) (sym nodes-are)
+    module _ (new : List ℕ) (c : Placed words new (t .cubes) (fitting words (t .cubes) (take (d - 0) (cubesOf apart)))) where
+      -- the divisors' cubes stand after the outputs'
+      new-stand : Front new mostCubes (flat os ++ flat ds)
+      new-stand =
+          let e : d - 0 ≡ length (flat ds) = omega (arith, divisor-cubes) in
+          let q : take (d - 0) (cubesOf apart) ≡ flat ds = ap (λ n. take n (cubesOf apart)) e ∙ front-own (apart-stand whole-few whole-up) in
+          let s = words-stand whole-few whole-up in
+          let r : t .cubes + length (flat ds) ≤ length (cubesOf words) = omega (arith, divisor-cubes, whole-few, front-places s) in
+          front-then s (omega (arith, divisor-cubes, output-cubes, whole-few))
+          (subst (λ n. Placed words new n (flat ds)) output-cubes (placed-fitting (flat ds) r (placed-as (ap (fitting words (t .cubes)) q) c)))
 
-      counts-hold : counts ≡ map length (nodes net) ++ replicate (nodeSlots - length (nodes net)) 0
-      counts-hold =
-          let n : slots ≡ length (os ++ ds) = omega (arith, length-map os length, length-map ds length, length-append os ds) in
-          counts-are ∙ sym (append-assoc (map length os) (map length ds) (replicate (nodeSlots - slots) 0))
-          ∙ ap₂ (λ l m. l ++ replicate (nodeSlots - m) 0) (sym (map-append length os ds)) n
-          ∙ ap (λ l. map length l ++ replicate (nodeSlots - length l) 0) (sym nodes-are)
+      all-laid : LaidNodes new counts (total length (os ++ ds)) (os ++ ds)
+      all-laid = record {
+        place = refl;
+        counts =
+            let n : slots ≡ length (os ++ ds) = omega (arith, length-map os length, length-map ds length, length-append os ds) in
+            counts-are ∙ sym (append-assoc (map length os) (map length ds) (replicate (nodeSlots - slots) 0))
+            ∙ ap₂ (λ l m. l ++ replicate (nodeSlots - m) 0) (sym (map-append length os ds)) n;
+        cubes =
+            let n : mostCubes - length (flat os ++ flat ds) ≡ cubeSlots - total length (os ++ ds) =
+            omega (arith, length-append (flat os) (flat ds), flat-length os, flat-length ds, total-append length os ds) in
+            new-stand .cubes ∙ ap₂ (λ p m. p ++ replicate m []) (sym (flat-append os ds)) n;
+      }
 
-      pub whole-told : Told (judgeRaw (nodesAt bits z)) (record { answer = a; network = record { inputs = z .inputs; outputs = z .outputs; divisors = z .divisors; counts = counts; words = new } })
-      whole-told =
-          subst (λ (o : Outcome). Told o (record { answer = a; network = record { inputs = z .inputs; outputs = z .outputs; divisors = z .divisors; counts = counts; words = new } }))
-          (sym (outcome-is ∙ passed .2)) (
-            yes,
-            record {
-              inputs = refl;
-              outputs = sym (w .outputs .number);
-              divisors = sym (numbered-length (z .inputs) ds ∙ w .half .divisors .number);
-              laid = record { place = refl; counts = counts-hold; cubes = cubes-hold };
-            },
+      pub whole-told : (r : Handed) → Carries (record { inputs = z .inputs; outputs = z .outputs; divisors = z .divisors; counts = counts; words = new }) r
+          → Told (judgeRaw (nodesAt bits z)) r
+      whole-told r h =
+          subst (λ (o : Return). Told o r) (sym (outcome-is ∙ passed .2)) (
+            h .0,
+            subst (λ (p : Network). Holds p net) (sym (h .1))
+                (laid-holds all-laid net nodes-are refl (sym (w .outputs .number)) (sym (numbered-length (z .inputs) ds ∙ w .half .divisors .number))),
           )
 
 -- ---- nodes that are not there
 
-module _ (bits : List Bool) (z : Sizes) (k : ℕ) (r : Image) (h : (r .answer ≡ Refused k) × Blank (r .network)) where
+module _ (bits : List Bool) (z : Sizes) (k : ℕ) (r : Handed) (h : Told (refuses k) r) where
   pub divisors-refused : getMany (getNode (z .inputs + z .divisors)) (z .divisors) (drop headSize bits) ≡ bad k → Told (judgeRaw (nodesAt bits z)) r
   unfolding getNodes judgeRaw
   divisors-refused e = rw e h
@@ -281,21 +287,11 @@ module _ (bits : List Bool) (z : Sizes) (k : ℕ) (r : Image) (h : (r .answer �
 
 -- ---- the fields before the nodes
 
-module _ (bytes : List ℕ) (r : Image) where
-  pub read-refused : (k : ℕ) → getRaw (bitsIn bytes) ≡ bad k → (r .answer ≡ Refused k) × Blank (r .network) → Told (readImage bytes) r
+module _ (bytes : List ℕ) (r : Handed) where
+  pub read-refused : (k : ℕ) → getRaw (bitsIn bytes) ≡ bad k → Told (refuses k) r → Told (readImage bytes) r
   unfolding readImage judgeRaw
   read-refused k e h = rw e h
 
   pub read-on : (z : Sizes) → getRaw (bitsIn bytes) ≡ nodesAt (bitsIn bytes) z → Told (judgeRaw (nodesAt (bitsIn bytes) z)) r → Told (readImage bytes) r
   unfolding readImage
   read-on z e h = rw e h
-
--- ---- no other answer
-
--- two answers to one image are the same
-pub told-one : (bytes : List ℕ) (a b : Image) → Typed (a .network) → Typed (b .network) → Told (readImage bytes) a → Told (readImage bytes) b → a ≡ b
-told-one bytes a b x y = go (readImage bytes)
-  where
-    go : (o : Outcome) → Told o a → Told o b → a ≡ b
-    go (accepted n) h k = λ i. record { answer = (h .0 ∙ sym (k .0)) i; network = holds-one (a .network) (b .network) n x y (h .1) (k .1) i }
-    go (refused e) h k = λ i. record { answer = (h .0 ∙ sym (k .0)) i; network = blank-one (a .network) (b .network) (h .1) (k .1) i }

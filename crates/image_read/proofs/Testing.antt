@@ -1,29 +1,26 @@
 -- The tests of the order: literals below a bound, cubes that rise, nodes cut one after the other. Assumes nothing.
-use Prim.Native.Nat.{ℕ, suc, _+_, _-_, _*_, _/_, _<_, _≤_}
+use Prim.Native.Nat.{ℕ, suc, _+_, _-_, _<_, _≤_}
 use mathlib.Core.Path.{_≡_, refl, sym, ap, ap₂, _∙_}
-use mathlib.Core.Bool.{Bool, true, false, _&&_}
+use mathlib.Core.Bool.{Bool, true, false, _&&_, and-comm}
 use mathlib.Core.List.{List, [], _∷_}
 use mathlib.Core.Option.{Option, none, some}
 use mathlib.Core.Logic.{⊎-elim}
 use native.Mathlib.Omega.{arith}
 use lib.Dec.{leb, ltb}
-use lib.ListN.{length, getD, take, drop, length-drop, drop-of-length-le}
+use lib.ListN.{length, getD, take, drop, drop-of-length-le}
 use lib.Seq.{drop-drop}
-use borrow.Author.Tests.{leb-true, leb-false, lt-ltb, le-ltb, ltb-true}
+use borrow.Author.Tests.{leb-true, leb-false, lt-ltb, le-ltb}
 use Rattle.sets.specs.Lists.{all, total, pairwise}
-use Rattle.sets.specs.Sets.{asc, proper, firstFrom, before}
-use Rattle.sets.proofs.Truth.{decided, both, together, iff}
-use Rattle.sets.proofs.Lists.{all-in, all-out, all-cong}
-use Rattle.sets.proofs.Ordering.{before-trans}
+use Rattle.sets.specs.Sets.{asc, proper, firstFrom}
+use Rattle.sets.proofs.Truth.{decided, both, together}
+use Rattle.sets.proofs.Lists.{all-in, all-out, all-append}
 use Rattle.sets.proofs.Places.{drop-next}
 use Rattle.expression.specs.Expression.{isCube, loose, ordered}
 use Rattle.network.specs.Held.{reach}
 use Rattle.network_nodes.specs.Nodes.{cut}
 use Rattle.network.specs.Handed.{flat}
-use Rattle.network.proofs.Places.{all-append}
 use Rattle.image_laws.specs.Reading.{inTheOrder, readsEarlier}
 use Rattle.image_read.specs.Parts.{tidy}
-use Rattle.image_read.proofs.Flags.{and-flip}
 
 -- ---- literals below a bound
 
@@ -42,49 +39,6 @@ first-below l (x ∷ c) = ⊎-elim here (there (first-below l c)) (decided (leb 
 
     there : isNone (firstFrom l c) ≡ all (λ y. ltb y l) c → leb l x ≡ false → isNone (firstFrom l (x ∷ c)) ≡ (ltb x l && all (λ y. ltb y l) c)
     there q e = rw (e, lt-ltb x l (leb-false l x e)) q
-
--- below twice the number of variables is of one of them
-pub below-reach : (v : ℕ) (c : List ℕ) → all (λ x. ltb x (2 * v)) c ≡ all (λ l. ltb (l / 2) v) c
-below-reach v c = all-cong _ _ c (λ x m. iff (λ e. let h = ltb-true x (2 * v) e in lt-ltb (x / 2) v (omega arith)) (λ e. let h = ltb-true (x / 2) v e in lt-ltb x (2 * v) (omega arith)))
-
--- ---- cubes that rise
-
-module _ (f : List (List ℕ)) (i : ℕ) (h : i + 1 < length f) where
-  abbrev this : List ℕ
-  this = getD f i []
-
-  abbrev that : List ℕ
-  that = getD f (i + 1) []
-
-  opened : drop i f ≡ this ∷ that ∷ drop (i + 1 + 1) f
-  opened = drop-next f i [] (omega arith) ∙ ap (this ∷_) (drop-next f (i + 1) [] h)
-
-  pub order-stop : before this that ≡ false → ordered (drop i f) ≡ false
-  order-stop e = rw (opened, e)
-
-  pub order-on : before this that ≡ true → ordered (drop i f) ≡ ordered (drop (i + 1) f)
-  order-on e = iff up down
-    where
-      up : ordered (drop i f) ≡ true → ordered (drop (i + 1) f) ≡ true
-      up q = both (all (before this) (drop (i + 1) f)) (ordered (drop (i + 1) f)) (sym (ap ordered (drop-next f i [] (omega arith))) ∙ q) .1
-
-      down : ordered (drop (i + 1) f) ≡ true → ordered (drop i f) ≡ true
-      down q = ap ordered (drop-next f i [] (omega arith)) ∙ together _ _ first q
-        where
-          parts : (all (before that) (drop (i + 1 + 1) f) ≡ true) × (ordered (drop (i + 1 + 1) f) ≡ true)
-          parts = both _ _ (sym (ap ordered (drop-next f (i + 1) [] h)) ∙ q)
-
-          first : all (before this) (drop (i + 1) f) ≡ true
-          first = ap (all (before this)) (drop-next f (i + 1) [] h)
-              ∙ together (before this that) (all (before this) (drop (i + 1 + 1) f)) e (all-in (before this) (drop (i + 1 + 1) f) (λ x m. before-trans this that x e (all-out (before that) m (parts .0))))
-
-pub order-done : (f : List (List ℕ)) (i : ℕ) → length f ≤ i + 1 → ordered (drop i f) ≡ true
-order-done f i h = one (drop i f) (omega (arith, length-drop i f))
-  where
-    one : (g : List (List ℕ)) → length g ≤ 1 → ordered g ≡ true
-    one [] k = refl
-    one (x ∷ []) k = refl
-    one (x ∷ y ∷ g) k = absurd (omega arith)
 
 -- ---- nodes, cut one after the other
 
@@ -133,7 +87,7 @@ cubes-are f a p = all-in isCube f (λ c m. together (asc c) (proper c) (all-out 
 
 tidy-order : (f : List (List ℕ)) → all asc f ≡ true → all proper f ≡ true → tidy f ≡ inTheOrder f
 unfolding inTheOrder
-tidy-order f a p = rw (cubes-are f a p, a) (and-flip (pairwise loose f) (ordered f))
+tidy-order f a p = rw (cubes-are f a p, a) (and-comm (pairwise loose f) (ordered f))
 
 pub all-tidy : (fs : List (List (List ℕ))) → all asc (flat fs) ≡ true → all proper (flat fs) ≡ true → all tidy fs ≡ all inTheOrder fs
 all-tidy [] a p = refl

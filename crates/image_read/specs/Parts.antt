@@ -10,15 +10,15 @@ use Rattle.sets.specs.Lists.{all, total}
 use Rattle.sets.specs.Sets.{asc, proper, union}
 use Rattle.cube.specs.Cube.{lits}
 use Rattle.image_fields.specs.Fields.{valueOf}
-use Rattle.expression.specs.Words.{cubesOf}
+use Rattle.expression.specs.Words.{cubesOf, Placed}
 use Rattle.expression.specs.Expression.{expression, ordered}
-use Rattle.network.specs.Handed.{flat, nodeSlots}
+use Rattle.expression.specs.declared.Verdict.{Verdict}
+use Rattle.expression.specs.declared.Verdict.the-variants.{Accepted, Refused}
+use Rattle.network.specs.Handed.{flat, nodeSlots, wordSlots}
 use Rattle.network.specs.Held.{mostOutputs, mostVariables, mostCubes, mostLiterals}
 use Rattle.network_nodes.specs.Nodes.{cut}
 use Rattle.image_laws.specs.Widths.{edition1, headSize, mostNodeBits, mostBits}
 use Rattle.image_laws.specs.Reading.{Parsed, got, bad, Raw, getMany, getNode, getNodes, getRaw, padding, readsEarlier}
-use Rattle.image_read.specs.declared.Answer.{Answer}
-use Rattle.image_read.specs.declared.Answer.the-variants.{Accepted, Refused}
 use Rattle.image_read.specs.declared.fields.Field.{Field}
 use Rattle.image_read.specs.declared.fields.Field.the-variants.{Is, Cut}
 use Rattle.image_read.specs.declared.fields.Taken.{Taken}
@@ -84,9 +84,10 @@ pub record Near (most : ℕ) (s t : State) : Type 0 where
   pub cubes : t .cubes ≤ s .cubes + most
   pub literals : t .literals ≤ s .literals + most
 
--- these cubes were put, and counted with their literals
-pub record Added (s t : State) (old new : List ℕ) (read : List (List ℕ)) : Type 0 where
-  pub stored : cubesOf new ≡ sets (cubesOf old) (s .cubes) (map setOf read)
+-- these cubes were put, as far as there are places for all, and counted with their literals
+pub record Gathered (s t : State) (old new : List ℕ) (read : List (List ℕ)) : Type 0 where
+  pub stored : s .cubes + length read ≤ length (cubesOf old) → Placed old new (s .cubes) (map setOf read)
+  pub places : length (cubesOf new) ≡ length (cubesOf old)
   pub cubes : t .cubes ≡ s .cubes + length read
   pub literals : t .literals ≡ s .literals + total length read
   pub ascending : t .ascending ≡ (s .ascending && all asc read)
@@ -96,7 +97,7 @@ pub record Added (s t : State) (old new : List ℕ) (read : List (List ℕ)) : T
 pub record CubesGot (most : ℕ) (bits : List Bool) (s : State) (g : Parsed (List (List ℕ))) (old new : List ℕ) (t : State) : Type 0 where
   pub read : List (List ℕ)
   pub is : g ≡ got read (drop (t .at) bits)
-  pub put : Added s t old new read
+  pub put : Gathered s t old new read
   pub near : Near most s t
 
 -- or the number of the refusal
@@ -109,7 +110,7 @@ pub record NodesGot (k : ℕ) (bits : List Bool) (s : State) (g : Parsed (List (
   pub read : List (List (List ℕ))
   pub number : length read ≡ k
   pub is : g ≡ got read (drop (t .at) bits)
-  pub put : Added s t old new (flat read)
+  pub put : Gathered s t old new (flat read)
   pub counts : are ≡ sets was first (map length read)
   pub near : Near (mostVariables * mostNodeBits) s t
 
@@ -174,18 +175,18 @@ pub record Judging (s : State) (z : Sizes) (counts : List ℕ) : Type 0 where
   pub places : length counts ≡ nodeSlots
   pub sum : s .cubes ≡ total (λ c. c) (divisorCounts z counts) + total (λ c. c) (outputCounts z counts)
 
+-- the sums of the counts are within the limits
+abbrev pub fewIn : State → Bool
+fewIn s = leb (s .cubes) mostCubes && leb (s .literals) mostLiterals
+
 -- by three tests: what is left over, then the sums, then the order
-abbrev pub verdict : Bool → Bool → Bool → Answer
+abbrev pub verdict : Bool → Bool → Bool → Verdict
 verdict padded few sorted = cond padded (cond few (cond sorted Accepted (Refused 13)) (Refused 12)) (Refused 11)
 
-abbrev pub judgedOf : List Bool → State → Sizes → List ℕ → List ℕ → List ℕ → Answer
+abbrev pub judgedOf : List Bool → State → Sizes → List ℕ → List ℕ → List ℕ → Verdict
 judgedOf bits s z apart words counts =
-    verdict (padding (drop (s .at) bits)) (leb (s .cubes) mostCubes && leb (s .literals) mostLiterals)
+    verdict (padding (drop (s .at) bits)) (fewIn s)
     (s .ascending && orderedIn (z .inputs) (nodesIn (divisorCounts z counts) apart) (nodesIn (outputCounts z counts) words))
-
--- the first so many cubes stand from a place on
-pub record Copied (from : List ℕ) (number : ℕ) (old new : List ℕ) (place : ℕ) : Type 0 where
-  pub cubes : number ≤ length (cubesOf from) → cubesOf new ≡ sets (cubesOf old) place (take number (cubesOf from))
 
 -- before the first node
 abbrev pub first : State
@@ -197,7 +198,7 @@ second s = record { at = s .at; cubes = 0; literals = s .literals; ascending = s
 
 -- words and counts before anything is read
 abbrev pub blankWords : List ℕ
-blankWords = replicate 2176 0
+blankWords = replicate wordSlots 0
 
 abbrev pub blankCounts : List ℕ
 blankCounts = replicate nodeSlots 0

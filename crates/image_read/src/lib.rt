@@ -4,8 +4,8 @@ mod nodes;
 
 use crate::nodes::State;
 use crate::nodes::Step;
-use cube::Order;
-use cube::Variable;
+use expression::Verdict;
+use network::Handed;
 use network::Network;
 ghost use mathlib.Core.Path.{_≡_};
 ghost use mathlib.Core.Bool.{_&&_};
@@ -14,13 +14,11 @@ ghost use lib.ListN.{length, drop};
 ghost use Rattle.sets.specs.Lists.{all, total};
 ghost use Rattle.image_fields.specs.Fields.{bitsIn};
 ghost use Rattle.expression.specs.Words.{cubesOf};
-ghost use Rattle.expression.specs.Expression.{ordered};
-ghost use Rattle.network.specs.Handed.{Blank};
-ghost use Rattle.network.specs.Held.{mostInputs, mostOutputs, mostVariables, mostCubes, reach};
+ghost use Rattle.network.specs.Handed.{Told};
+ghost use Rattle.network.specs.Held.{mostInputs, mostOutputs, mostVariables, mostCubes};
 ghost use Rattle.network_nodes.specs.Nodes.{cut};
 ghost use Rattle.image_laws.specs.Reading.{padding, readsEarlier, judgeRaw, readImage};
-ghost use Rattle.image_read.specs.Parts.{times, SizesFit, nodesAt, sizesOf, HeadIs, tidy, nodesIn, orderedIn, Counted, Judging, judgedOf, Copied, Half, Whole};
-ghost use Rattle.image_read.specs.Answers.{Told};
+ghost use Rattle.image_read.specs.Parts.{times, SizesFit, nodesAt, sizesOf, HeadIs, tidy, nodesIn, orderedIn, Counted, fewIn, Judging, judgedOf, Half, Whole};
 
 // Where the fields before the first node begin, and the bytes that they end in.
 const INPUTS_AT: usize = image_laws::EDITION_WIDTH;
@@ -32,17 +30,6 @@ const DIVISORS_AT: usize = OUTPUTS_AT + image_laws::OUTPUTS_WIDTH;
 const EDITION_BYTES: usize = (image_laws::EDITION_WIDTH + 7) / 8;
 
 const HEAD_BYTES: usize = (image_laws::HEAD_WIDTH + 7) / 8;
-
-pub enum Answer {
-    Accepted,
-    Refused(u32),
-}
-
-// A refusal carries a network of zeros.
-pub struct Image {
-    pub answer: Answer,
-    pub network: Network,
-}
 
 // The numbers of inputs, outputs and divisors.
 struct Sizes {
@@ -106,21 +93,6 @@ fn is_padded(bytes: &[u8], at: usize) -> bool
     fields::value_at(bytes, at, 8 * n - at) == 0
 }
 
-// Whether each cube comes before the next.
-fn is_ordered(f: &[u64]) -> bool
-    ensures { λ r. ⌜ r ≡ ordered (cubesOf (now (f .entry))) ⌝ }
-{
-    let mut i = 0;
-    while i + 1 < expression::number(f) {
-        let o = cube_order::compare(expression::cube_at(f, i), expression::cube_at(f, i + 1));
-        let Order::Before = o else {
-            return false;
-        };
-        i += 1;
-    }
-    true
-}
-
 // Whether the cubes are an expression in cube order.
 fn is_tidy(f: &[u64]) -> bool
     ensures { λ r. ⌜ r ≡ tidy (cubesOf (now (f .entry))) ⌝ }
@@ -128,7 +100,7 @@ fn is_tidy(f: &[u64]) -> bool
     if !expression_accept::is_expression(f) {
         return false;
     }
-    is_ordered(f)
+    expression_survey::is_ordered(f)
 }
 
 // Whether each node is an expression in cube order.
@@ -149,22 +121,6 @@ fn all_tidy(words: &[u64], counts: &[usize]) -> bool
     true
 }
 
-// Whether every literal is of one of v variables.
-fn reaches(f: &[u64], v: usize) -> bool
-    requires { ⌜ v ≤ mostVariables ⌝ }
-    ensures { λ r. ⌜ r ≡ reach v (cubesOf (now (f .entry))) ⌝ }
-{
-    let next = cube::plain(Variable(v as u32));
-    let mut i = 0;
-    while i < expression::number(f) {
-        if !fields::is_below(expression::cube_at(f, i), next) {
-            return false;
-        }
-        i += 1;
-    }
-    true
-}
-
 // Whether each divisor, numbered from n on, reads earlier variables alone.
 fn all_earlier(words: &[u64], counts: &[usize], n: usize) -> bool
     requires { ⌜ (total (λ c. c) (now counts) ≤ mostCubes) × (n + length (now counts) ≤ mostVariables) ⌝ }
@@ -174,7 +130,7 @@ fn all_earlier(words: &[u64], counts: &[usize], n: usize) -> bool
     let mut i = 0;
     while i < counts.len() {
         let e = a + counts[i];
-        if !reaches(expression::part(words, a, e), n + i) {
+        if !expression_survey::reaches(expression::part(words, a, e), n + i) {
             return false;
         }
         a = e;
@@ -207,19 +163,33 @@ fn in_order(
     all_earlier(apart, divisors, inputs)
 }
 
+// Whether the sums of the counts are within the limits of a network.
+fn is_few(s: State) -> bool
+    ensures { λ r. ⌜ r ≡ fewIn s ⌝ }
+{
+    if s.cubes > network::CUBES {
+        return false;
+    }
+    s.literals <= network::LITERAL_COUNT as usize
+}
+
 // 11 for what is left over, then 12 for the sums, then 13 for the order.
-fn judge(bytes: &[u8], s: State, z: Sizes, apart: &[u64], words: &[u64], counts: &[usize]) -> Answer
+fn judge(
+    bytes: &[u8],
+    s: State,
+    z: Sizes,
+    apart: &[u64],
+    words: &[u64],
+    counts: &[usize],
+) -> Verdict
     requires { ⌜ Judging s z (now counts) ⌝ }
     ensures { λ r. ⌜ r ≡ judgedOf (bitsIn (now (bytes .entry))) s z (now (apart .entry)) (now (words .entry)) (now (counts .entry)) ⌝ }
 {
     if !is_padded(bytes, s.at) {
-        return Answer::Refused(11);
+        return Verdict::Refused(11);
     }
-    if s.cubes > network::CUBES {
-        return Answer::Refused(12);
-    }
-    if s.literals > network::LITERAL_COUNT as usize {
-        return Answer::Refused(12);
+    if !is_few(s) {
+        return Verdict::Refused(12);
     }
     let m = z.outputs;
     let e = m + z.divisors;
@@ -231,31 +201,9 @@ fn judge(bytes: &[u8], s: State, z: Sizes, apart: &[u64], words: &[u64], counts:
         words,
         &counts[0..m],
     ) {
-        return Answer::Accepted;
+        return Verdict::Accepted;
     }
-    Answer::Refused(13)
-}
-
-// The first so many cubes of a slice, put from a place on.
-fn copy(from: &[u64], number: usize, to: &mut [u64], place: usize)
-    requires { ⌜ (number ≤ mostCubes) × (place ≤ mostCubes) ⌝ }
-    ensures { λ r. ⌜ Copied (now (from .entry)) number (now (to .entry)) (now (to .exit)) place ⌝ }
-{
-    let mut i = 0;
-    while i < number {
-        expression::put_cube(to, place + i, expression::cube_at(from, i));
-        i += 1;
-    }
-}
-
-// A refusal, with a network of zeros.
-fn refused(k: u32) -> Image
-    ensures { λ r. ⌜ (r .answer ≡ Answer.Refused k) × Blank (r .network) ⌝ }
-{
-    Image {
-        answer: Answer::Refused(k),
-        network: network::blank(),
-    }
+    Verdict::Refused(13)
 }
 
 // All fields are read: the verdict, and the network with its outputs' cubes first.
@@ -267,7 +215,7 @@ fn finish(
     apart: &[u64],
     held: [u64; network::WORDS],
     counts: [usize; network::NODES],
-) -> Image
+) -> Handed
     requires { ⌜ Whole (bitsIn (now bytes)) z divisors t (now apart) held counts ⌝ }
     ensures { λ r. ⌜ Told (judgeRaw (nodesAt (bitsIn (now (bytes .entry))) z)) r ⌝ }
 {
@@ -275,26 +223,23 @@ fn finish(
     s.cubes = divisors + t.cubes;
     let a = judge(bytes, s, z, apart, &held, &counts);
     match a {
-        Answer::Refused(k) => refused(k),
-        Answer::Accepted => {
+        Verdict::Refused(k) => network::refuse(k),
+        Verdict::Accepted => {
             let mut words = held;
-            copy(apart, divisors, &mut words, t.cubes);
-            Image {
-                answer: a,
-                network: Network {
-                    inputs: z.inputs,
-                    outputs: z.outputs,
-                    divisors: z.divisors,
-                    counts,
-                    words,
-                },
-            }
+            expression::copy(apart, 0, divisors, &mut words, t.cubes);
+            network::hand(Network {
+                inputs: z.inputs,
+                outputs: z.outputs,
+                divisors: z.divisors,
+                counts,
+                words,
+            })
         }
     }
 }
 
 // The divisors are read: now the outputs, whose counts stand before theirs.
-fn rest(bytes: &[u8], z: Sizes, s: State, apart: &[u64], given: [usize; network::NODES]) -> Image
+fn rest(bytes: &[u8], z: Sizes, s: State, apart: &[u64], given: [usize; network::NODES]) -> Handed
     requires { ⌜ Half (bitsIn (now bytes)) z s (now apart) given ⌝ }
     ensures { λ r. ⌜ Told (judgeRaw (nodesAt (bitsIn (now (bytes .entry))) z)) r ⌝ }
 {
@@ -312,13 +257,13 @@ fn rest(bytes: &[u8], z: Sizes, s: State, apart: &[u64], given: [usize; network:
         &mut counts,
     );
     match o {
-        Step::Bad(k) => refused(k),
+        Step::Bad(k) => network::refuse(k),
         Step::On(t) => finish(bytes, z, s.cubes, t, apart, words, counts),
     }
 }
 
 // The nodes of an image, divisors first.
-fn body(bytes: &[u8], z: Sizes) -> Image
+fn body(bytes: &[u8], z: Sizes) -> Handed
     requires { ⌜ SizesFit z ⌝ }
     ensures { λ r. ⌜ Told (judgeRaw (nodesAt (bitsIn (now (bytes .entry))) z)) r ⌝ }
 {
@@ -340,18 +285,18 @@ fn body(bytes: &[u8], z: Sizes) -> Image
         &mut counts,
     );
     match d {
-        Step::Bad(k) => refused(k),
+        Step::Bad(k) => network::refuse(k),
         Step::On(s) => rest(bytes, z, s, &apart, counts),
     }
 }
 
 // The network of an image, or the number of its refusal.
-pub fn read(bytes: &[u8]) -> Image
+pub fn read(bytes: &[u8]) -> Handed
     ensures { λ r. ⌜ Told (readImage (now (bytes .entry))) r ⌝ }
 {
     let h = front(bytes);
     match h {
-        Head::Bad(k) => refused(k),
+        Head::Bad(k) => network::refuse(k),
         Head::Of(z) => body(bytes, z),
     }
 }

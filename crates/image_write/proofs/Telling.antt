@@ -15,7 +15,7 @@ use Rattle.network.specs.Held.{netOf, rules}
 use Rattle.network_nodes.specs.Nodes.{cut}
 use Rattle.network.specs.Handed.{nodeSlots, Shaped, Holds}
 use Rattle.network.specs.declared.Network.{Network}
-use Rattle.expression.specs.declared.Verdict.the-variants.{Accepted, Refused}
+use Rattle.expression.specs.declared.Verdict.the-variants.{Refused}
 use Rattle.network.proofs.Handing.{cut-flat, used-held}
 use Rattle.network.proofs.Holding.{rules-sound, rules-outputs, rules-divisors}
 use Rattle.network.proofs.Numbering.{numbered-length}
@@ -25,23 +25,8 @@ use Rattle.image_laws.specs.Renumber.{newNode, renumbered}
 use Rattle.image_laws.specs.Widths.{headSize}
 use Rattle.image_laws.specs.Image.{headFields, netFields, netBytes, imageOf}
 use Rattle.image_laws.proofs.Fielding.{divisorCubes, nodeBits, net-bits, net-bits-length, nodes-bits-length}
-use Rattle.image_number.specs.Answers.{toldBy}
-use Rattle.image_number.specs.declared.Renumbered.{Renumbered}
-use Rattle.letters.specs.Told.{Told}
-use Rattle.letters.specs.declared.Wrote.the-variants as wrote
-use Rattle.letters.proofs.Telling.{told-before, told-long, told-whole}
-use Rattle.image_write.specs.Answers.{refusedBy}
+use Rattle.image_write.specs.Answers.{refusedBy, Told}
 use Rattle.image_write.specs.Parts.{overlaid, LaidBits, nodesFrom, bitsFrom, allBits, mostHeldBits, Held, Writable}
-
--- ---- what renumbering answered
-
-pub by-rules : (b : Bool) (n : Network) (r : Renumbered) → toldBy b n r → r .answer ≡ Accepted → (b ≡ true) × Holds (r .network) (renumbered (netOf n))
-by-rules true n r t e = (refl, t .1)
-by-rules false n r t e = let z : Refused 10 ≡ Accepted = sym (t .0) ∙ e in let y : _≡_ {A = ℕ} 0 1 = cc in absurd (omega arith)
-
-pub by-refusal : (b : Bool) (n : Network) (r : Renumbered) (k : ℕ) → toldBy b n r → r .answer ≡ Refused k → b ≡ false
-by-refusal true n r k t e = let z : Accepted ≡ Refused k = sym (t .0) ∙ e in let y : _≡_ {A = ℕ} 0 1 = cc in absurd (omega arith)
-by-refusal false n r k t e = refl
 
 -- ---- the bits of the words are those of the network that they hold
 

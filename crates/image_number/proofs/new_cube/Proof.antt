@@ -2,13 +2,12 @@
 use mathlib.Core.Path.{_≡_, sym, _∙_, ap}
 use mathlib.Core.List.{_∷_}
 use mathlib.Core.Option.{none, some}
-use Prim.Native.Nat.{ℕ, _<_}
+use Prim.Native.Nat.{ℕ, _*_, _<_}
 use native.Mathlib.Omega.{arith}
 use borrow.Author.Needs.{needs}
 use lib.ListN.{length}
 use Rattle.sets.specs.Sets.{union, firstFrom}
-use Rattle.sets.proofs.Literals.{literals-asc}
-use Rattle.sets.proofs.Scan.{first-inside}
+use Rattle.cube.proofs.Lits.{lits-asc, first-inside}
 use Rattle.cube.specs.Cube.{lits, answer, joined, width}
 use Rattle.image_number.specs.Parts.{cubeBy}
 use Rattle.image_number.proofs.Taking.{first-none, rest-next, by-none, by-more, by-all}
@@ -41,6 +40,13 @@ returns c =
     let h : firstFrom 0 (lits (c .before .before .before .loop .rest)) ≡ none = sym (c .before .before .first-from .ensures) ∙ ap answer (c .enum-told .given .1) in
     sym (by-all _ _ _ (first-none _ h)) ∙ c .before .before .before .loop .inv
 
+-- where a literal is taken, and what is left there
+abbrev taken : tie.After-without Inv-loop μ-loop → tie.After-found Inv-loop μ-loop
+taken c = c .before .before .before .before .before .before
+
+abbrev left : tie.After-found Inv-loop μ-loop → tie.At-loop Inv-loop μ-loop
+left f = f .before .before .before
+
 -- the smallest literal of what is left
 abbrev head : tie.After-found Inv-loop μ-loop → ℕ
 head c = c .found .given .0 .0 .0
@@ -48,11 +54,11 @@ head c = c .found .given .0 .0 .0
 head-told : (c : tie.After-found Inv-loop μ-loop) → firstFrom 0 (lits (c .before .before .before .loop .rest)) ≡ some (head c)
 head-told c = sym (c .before .before .first-from .ensures) ∙ ap answer (c .found .given .1)
 
-head-small : (c : tie.After-found Inv-loop μ-loop) → head c < 128
-head-small c = first-inside width _ _ 0 _ (sym (head-told c))
+head-small : (c : tie.After-found Inv-loop μ-loop) → head c < 2 * width
+head-small c = first-inside (c .before .before .before .loop .rest) 0 _ (sym (head-told c))
 
 new-literal-requires : tie.Need-new-literal-requires Inv-loop μ-loop
-new-literal-requires c κs = (c .before .before .before .before .before .before .before .pre, head-small (c .before))
+new-literal-requires c κs = let f = c .before in (left f .before .before .before .pre, head-small f)
 
 with-requires : tie.Need-with-requires Inv-loop μ-loop
 with-requires c κs = search needs
@@ -67,19 +73,20 @@ without-requires : tie.Need-without-requires Inv-loop μ-loop
 without-requires c κs = search needs
 
 -- and the others
-others : (c : tie.After-without Inv-loop μ-loop)
-    → lits (c .before .before .before .before .before .before .before .before .before .loop .rest) ≡ head (c .before .before .before .before .before .before) ∷ lits (c .without .result)
+others : (c : tie.After-without Inv-loop μ-loop) → lits (left (taken c) .loop .rest) ≡ head (taken c) ∷ lits (c .without .result)
 others c =
-    let f = c .before .before .before .before .before .before in
-    rest-next _ _ _ _ _ (literals-asc width _ _) (head-told f) (head-small f) (c .before .before .empty2 .ensures) (c .before .with2 .ensures) (c .without .ensures)
+    let f = taken c in
+    rest-next _ _ _ _ _ (lits-asc (left f .loop .rest)) (head-told f) (head-small f) (c .before .before .empty2 .ensures) (c .before .with2 .ensures) (c .without .ensures)
 
 loop-less : tie.Need-loop-less Inv-loop μ-loop
 loop-less c = omega (arith, ap length (others c))
 
 loop-again : tie.Need-loop-again Inv-loop μ-loop
 loop-again c =
-    let l = c .before .before .before .before .before .before .before .before .before in
-    by-more _ _ _ _ _ _ (l .before .before .before .pre) (literals-asc width _ _) (others c) (c .before .before .before .with .ensures ∙ ap (λ x. joined x (lits (l .loop .r))) (c .before .before .before .before .new-literal .ensures)) ∙ l .loop .inv
+    let l = left (taken c) in
+    let w = c .before .before .before in
+    by-more _ _ _ _ _ _ (l .before .before .before .pre) (lits-asc (l .loop .r)) (others c)
+    (w .with .ensures ∙ ap (λ x. joined x (lits (l .loop .r))) (w .before .new-literal .ensures)) ∙ l .loop .inv
 
 pub new-cube-spec : {M : Type 1} → statement M
 new-cube-spec =

@@ -3,16 +3,17 @@ use borrow.Author.Needs.{needs}
 use Prim.Native.Nat.{_-_, _≤_}
 use mathlib.Core.Path.{_≡_, subst}
 use native.Mathlib.Omega.{arith}
+use Rattle.network.specs.Held.{mostVariables}
 use Rattle.image_number.specs.Parts.{Itself}
 use Rattle.image_number.proofs.Placing.{itself-none, itself-next}
 use Rattle.image_number.proofs.own.Statement.{statement}
 use Rattle.image_number.proofs.own.Tie as tie
 
 abbrev Inv-loop : tie.InvT-loop
-Inv-loop places₀ v₀ places v = (v ≤ 64) × Itself v places
+Inv-loop places₀ v₀ places v = (v ≤ mostVariables) × Itself v places
 
 abbrev μ-loop : tie.MeasureT-loop
-μ-loop places₀ v₀ places v = 64 - v
+μ-loop places₀ v₀ places v = mostVariables - v
 
 loop-holds : tie.Need-loop-holds Inv-loop μ-loop
 loop-holds c = (omega arith, itself-none)
@@ -36,7 +37,7 @@ loop-again : tie.Need-loop-again Inv-loop μ-loop
 loop-again c = (omega arith, itself-next _ _ (omega arith) (c .before .loop .inv .1))
 
 returns : tie.Need-returns Inv-loop μ-loop
-returns c = let e : c .before .loop .v ≡ 64 = omega arith in subst (λ v. Itself v (c .before .loop .places)) e (c .before .loop .inv .1)
+returns c = let e : c .before .loop .v ≡ mostVariables = omega arith in subst (λ v. Itself v (c .before .loop .places)) e (c .before .loop .inv .1)
 
 pub own-spec : {M : Type 1} → statement M
 own-spec =

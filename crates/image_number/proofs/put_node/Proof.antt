@@ -3,9 +3,9 @@ use native.Mathlib.Omega.{arith}
 use borrow.Author.Needs.{needs}
 use lib.ListN.{length-map}
 use Rattle.expression.specs.Words.{cubesOf}
-use Rattle.expression.proofs.Words.{cubes-length}
+use Rattle.expression.proofs.Words.{cubes-few}
+use Rattle.expression.proofs.Placing.{placed-sort}
 use Rattle.image_number.specs.Parts.{cubeBy}
-use Rattle.image_number.proofs.Putting.{placed-sort}
 use Rattle.image_number.proofs.put_node.Statement.{statement}
 use Rattle.image_number.proofs.put_node.Tie as tie
 
@@ -22,7 +22,7 @@ abbrev copied : tie.After-number → tie.After-copy
 copied n = n .before .before .before
 
 add-e : tie.Need-add-e
-add-e c = let s = start (copied c) in omega (arith, s .pre .1, c .number .ensures, cubes-length (s .args .out .now))
+add-e c = let s = start (copied c) in omega (arith, s .pre .1, c .number .ensures, cubes-few (s .args .out .now))
 
 sort-part-requires : tie.Need-sort-part-requires
 sort-part-requires c κs = search needs

@@ -48,8 +48,8 @@ nodes-requires c κs =
 enum-known-d : tie.Need-enum-known-d
 enum-known-d c = search needs
 
-refused-requires : tie.Need-refused-requires
-refused-requires c κs = search needs
+refuse-requires : tie.Need-refuse-requires
+refuse-requires c κs = search needs
 
 enum-known-d-2 : tie.Need-enum-known-d-2
 enum-known-d-2 c = search needs
@@ -68,7 +68,7 @@ returns c =
     let o = c .before .before in
     let n = o .before .before .before .before in
     let s = start n in
-    divisors-refused (bitsIn (s .args .bytes .now)) (s .args .z) _ (c .refused .result) (c .refused .ensures) (read n _ (o .d .given .1))
+    divisors-refused (bitsIn (s .args .bytes .now)) (s .args .z) _ (c .refuse .result) (c .refuse .ensures) (read n _ (o .d .given .1))
 
 returns-2 : tie.Need-returns-2
 returns-2 c = c .rest .ensures
@@ -82,7 +82,7 @@ body-spec =
     slice-aggregate-nodes-2
     nodes-requires
     enum-known-d
-    refused-requires
+    refuse-requires
     enum-known-d-2
     slice-aggregate-rest
     rest-requires

@@ -4,7 +4,7 @@ use native.Mathlib.Omega.{arith}
 use lib.ListN.{length}
 use borrow.Author.Needs.{needs}
 use Rattle.network.specs.Handed.{nodeSlots}
-use Rattle.image_read.proofs.Telling.{whole-judging, whole-refused, whole-few, whole-told}
+use Rattle.image_read.proofs.Telling.{whole-judging, whole-refused, whole-told}
 use Rattle.image_read.proofs.finish.Statement.{statement}
 use Rattle.image_read.proofs.finish.Tie as tie
 
@@ -30,8 +30,8 @@ judge-requires c κs =
 enum-known-a : tie.Need-enum-known-a
 enum-known-a c = search needs
 
-refused-requires : tie.Need-refused-requires
-refused-requires c κs = search needs
+refuse-requires : tie.Need-refuse-requires
+refuse-requires c κs = search needs
 
 enum-told : tie.Need-enum-told
 enum-told c = search needs
@@ -40,23 +40,22 @@ slice-aggregate-copy : tie.Need-slice-aggregate-copy
 slice-aggregate-copy c = search needs
 
 copy-requires : tie.Need-copy-requires
-copy-requires c κs =
-    let e = c .before in
-    let j = e .before .before in
-    let f = whole-few (start j .pre) (j .judge .result) (j .judge .ensures) (e .enum-told .given .1) in
-    (omega (arith, f), omega (arith, f))
+copy-requires c κs = search needs
+
+hand-requires : tie.Need-hand-requires
+hand-requires c κs = search needs
 
 returns : tie.Need-returns
 returns c =
     let a = c .before .before in
     let j = a .before .before in
-    whole-refused (start j .pre) (j .judge .result) _ (c .refused .result) (j .judge .ensures) (a .a .given .1) (c .refused .ensures)
+    whole-refused (start j .pre) (j .judge .result) _ (c .refuse .result) (j .judge .ensures) (a .a .given .1) (c .refuse .ensures)
 
 returns-2 : tie.Need-returns-2
 returns-2 c =
-    let e = c .before .before .before in
+    let e = c .before .before .before .before in
     let j = e .before .before in
-    whole-told (start j .pre) (j .judge .result) (j .judge .ensures) (e .enum-told .given .1) _ (c .before .copy .ensures)
+    whole-told (start j .pre) (j .judge .result) (j .judge .ensures) (e .enum-told .given .1) _ (c .before .before .copy .ensures) (c .hand .result) (c .hand .ensures)
 
 pub finish-spec : {M : Type 1} → statement M
 finish-spec =
@@ -67,9 +66,10 @@ finish-spec =
     slice-aggregate-judge-2
     judge-requires
     enum-known-a
-    refused-requires
+    refuse-requires
     enum-told
     slice-aggregate-copy
     copy-requires
+    hand-requires
     returns
     returns-2)

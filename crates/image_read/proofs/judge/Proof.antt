@@ -7,12 +7,13 @@ use native.Mathlib.Omega.{arith}
 use lib.ListN.{take, drop, length-take}
 use lib.Dec.{leb}
 use borrow.Author.Needs.{needs}
-use borrow.Author.Tests.{not-true, not-false, le-leb, lt-leb}
+use borrow.Author.Tests.{not-true, not-false, leb-true}
 use Rattle.sets.specs.Lists.{total}
+use Rattle.sets.proofs.Truth.{both}
 use Rattle.image_fields.specs.Fields.{bitsIn}
-use Rattle.network.specs.Held.{mostCubes, mostLiterals}
+use Rattle.network.specs.Held.{mostCubes}
 use Rattle.image_laws.specs.Reading.{padding}
-use Rattle.image_read.specs.Parts.{nodesIn, orderedIn, outputCounts, divisorCounts}
+use Rattle.image_read.specs.Parts.{fewIn, nodesIn, orderedIn, outputCounts, divisorCounts}
 use Rattle.image_read.proofs.Telling.{verdict-11, verdict-12, verdict-13, verdict-yes}
 use Rattle.image_read.proofs.judge.Statement.{statement}
 use Rattle.image_read.proofs.judge.Tie as tie
@@ -20,15 +21,21 @@ use Rattle.image_read.proofs.judge.Tie as tie
 abbrev start : tie.After-is-padded → tie.Start
 start a = a .before .before .before .before .before
 
-abbrev whole : tie.After-struct-known3 → tie.Start
-whole k = start (k .before .before .before .before .before .before)
+abbrev summed : tie.After-is-few → tie.After-is-padded
+summed f = f .before .before
+
+abbrev passed : tie.After-struct-known → tie.After-is-few
+passed k = k .before .before
+
+abbrev whole : tie.After-struct-known → tie.Start
+whole k = start (summed (passed k))
 
 -- the tests
 abbrev padded : tie.Start → Bool
 padded s = padding (drop (s .args .s .at) (bitsIn (s .args .bytes .now)))
 
 abbrev few : tie.Start → Bool
-few s = leb (s .args .s .cubes) mostCubes && leb (s .args .s .literals) mostLiterals
+few s = fewIn (s .args .s)
 
 abbrev ordered : tie.Start → List ℕ → List ℕ → Bool
 ordered s ds os = s .args .s .ascending && orderedIn (s .args .z .inputs) (nodesIn ds (s .args .apart .now)) (nodesIn os (s .args .words .now))
@@ -36,11 +43,11 @@ ordered s ds os = s .args .s .ascending && orderedIn (s .args .z .inputs) (nodes
 abbrev sorted : tie.Start → Bool
 sorted s = ordered s (divisorCounts (s .args .z) (s .args .counts .now)) (outputCounts (s .args .z) (s .args .counts .now))
 
-is-padded : (k : tie.After-struct-known3) → padded (whole k) ≡ true
-is-padded k = let e = k .before .before .before .before .before in sym (e .before .is-padded .ensures) ∙ not-false _ (e .if1 .left)
+is-padded : (f : tie.After-is-few) → padded (start (summed f)) ≡ true
+is-padded f = sym (summed f .is-padded .ensures) ∙ not-false _ (f .before .if1 .left)
 
-is-few : (k : tie.After-struct-known3) → few (whole k) ≡ true
-is-few k = let s = whole k in ap₂ _&&_ (le-leb (s .args .s .cubes) mostCubes (k .before .before .before .if2 .left)) (le-leb (s .args .s .literals) mostLiterals (k .before .if3 .left))
+is-few : (k : tie.After-struct-known) → few (whole k) ≡ true
+is-few k = sym (passed k .is-few .ensures) ∙ not-false _ (k .before .if2 .left)
 
 -- the parts of the counts
 abbrev lentDivisors : tie.Start → List ℕ
@@ -65,16 +72,14 @@ returns : tie.Need-returns
 returns c =
     let s = start (c .before) in verdict-11 (padded s) (few s) (sorted s) (sym (c .before .is-padded .ensures) ∙ not-true _ (c .if1 .taken))
 
+is-few-requires : tie.Need-is-few-requires
+is-few-requires c κs = search needs
+
 returns-2 : tie.Need-returns-2
 returns-2 c =
-    let a = c .before .before .before in let s = start a in verdict-12 (padded s) (few s) (sorted s) (sym (a .is-padded .ensures) ∙ not-false _ (c .before .before .if1 .left)) (ap (λ (x : Bool). x && leb (s .args .s .literals) mostLiterals) (lt-leb (s .args .s .cubes) mostCubes (c .if2 .taken)))
-
-returns-3 : tie.Need-returns-3
-returns-3 c =
-    let e = c .before .before in
-    let a = e .before .before .before in
-    let s = start a in
-    verdict-12 (padded s) (few s) (sorted s) (sym (a .is-padded .ensures) ∙ not-false _ (e .before .before .if1 .left)) (ap₂ _&&_ (le-leb (s .args .s .cubes) mostCubes (e .if2 .left)) (lt-leb (s .args .s .literals) mostLiterals (c .if3 .taken)))
+    let f = c .before in
+    let s = start (summed f) in
+    verdict-12 (padded s) (few s) (sorted s) (is-padded f) (sym (f .is-few .ensures) ∙ not-true _ (c .if2 .taken))
 
 add-e : tie.Need-add-e
 add-e c = let s = whole c in omega (arith, s .pre .sized .outputs, s .pre .sized .variables)
@@ -104,27 +109,27 @@ in-order-requires : tie.Need-in-order-requires
 in-order-requires c κs =
     let k = c .before .before in
     let s = whole k in
+    let q = leb-true (s .args .s .cubes) mostCubes (both (leb (s .args .s .cubes) mostCubes) _ (is-few k) .0) in
     let d = ap (total (λ x. x)) (front s) in
-    let o = ap (total (λ x. x)) (back s) in (
-      record { divisors = omega (arith, d, s .pre .sum, k .before .before .before .if2 .left); outputs = omega (arith, o, s .pre .sum, k .before .before .before .if2 .left) },
-      omega (arith, length-take (s .args .z .outputs + s .args .z .divisors - s .args .z .outputs) (drop (s .args .z .outputs) (s .args .counts .now)), s .pre .sized .variables),
-    )
+    let o = ap (total (λ x. x)) (back s) in
+    let l = length-take (s .args .z .outputs + s .args .z .divisors - s .args .z .outputs) (drop (s .args .z .outputs) (s .args .counts .now)) in
+    (record { divisors = omega (arith, d, s .pre .sum, q); outputs = omega (arith, o, s .pre .sum, q) }, omega (arith, l, s .pre .sized .variables))
 
 -- what the last test found
 found : (o : tie.After-in-order) (b : Bool) → o .in-order .result ≡ b → sorted (whole (o .before .before .before)) ≡ b
 found o b e = _∙_ {b = o .in-order .result} (sym (o .in-order .ensures ∙ same (whole (o .before .before .before)))) e
 
+returns-3 : tie.Need-returns-3
+returns-3 c =
+    let k = c .before .before .before .before in
+    let s = whole k in
+    verdict-yes (padded s) (few s) (sorted s) (is-padded (passed k)) (is-few k) (found (c .before) _ (c .if3 .taken))
+
 returns-4 : tie.Need-returns-4
 returns-4 c =
     let k = c .before .before .before .before in
     let s = whole k in
-    verdict-yes (padded s) (few s) (sorted s) (is-padded k) (is-few k) (found (c .before) _ (c .if4 .taken))
-
-returns-5 : tie.Need-returns-5
-returns-5 c =
-    let k = c .before .before .before .before in
-    let s = whole k in
-    verdict-13 (padded s) (few s) (sorted s) (is-padded k) (is-few k) (found (c .before) _ (c .if4 .left))
+    verdict-13 (padded s) (few s) (sorted s) (is-padded (passed k)) (is-few k) (found (c .before) _ (c .if3 .left))
 
 pub judge-spec : {M : Type 1} → statement M
 judge-spec =
@@ -132,8 +137,8 @@ judge-spec =
     (tie.spec
     is-padded-requires
     returns
+    is-few-requires
     returns-2
-    returns-3
     add-e
     mul-in-order
     sub-in-order
@@ -143,5 +148,5 @@ judge-spec =
     part-in-order-start-2
     part-in-order-end-2
     in-order-requires
-    returns-4
-    returns-5)
+    returns-3
+    returns-4)

@@ -18,8 +18,8 @@ front-requires c κs = search needs
 enum-known-h : tie.Need-enum-known-h
 enum-known-h c = search needs
 
-refused-requires : tie.Need-refused-requires
-refused-requires c κs = search needs
+refuse-requires : tie.Need-refuse-requires
+refuse-requires c κs = search needs
 
 enum-known-h-2 : tie.Need-enum-known-h-2
 enum-known-h-2 c = search needs
@@ -31,7 +31,7 @@ returns : tie.Need-returns
 returns c =
     let h = c .before .before in
     let f = h .before .before in
-    read-refused (f .before .before .args .bytes .now) (c .refused .result) _ (told f _ (h .h .given .1)) (c .refused .ensures)
+    read-refused (f .before .before .args .bytes .now) (c .refuse .result) _ (told f _ (h .h .given .1)) (c .refuse .ensures)
 
 returns-2 : tie.Need-returns-2
 returns-2 c =
@@ -45,7 +45,7 @@ read-spec =
     (tie.spec
     front-requires
     enum-known-h
-    refused-requires
+    refuse-requires
     enum-known-h-2
     body-requires
     returns

@@ -49,8 +49,8 @@ nodes-requires c κs =
 enum-known-o : tie.Need-enum-known-o
 enum-known-o c = search needs
 
-refused-requires : tie.Need-refused-requires
-refused-requires c κs = search needs
+refuse-requires : tie.Need-refuse-requires
+refuse-requires c κs = search needs
 
 enum-known-o-2 : tie.Need-enum-known-o-2
 enum-known-o-2 c = search needs
@@ -73,7 +73,7 @@ returns c =
     let o = c .before .before in
     let n = o .before .before .before .before in
     let s = start n in
-    outputs-refused (bitsIn (s .args .bytes .now)) (s .args .z) _ (c .refused .result) (c .refused .ensures) (s .pre) (read n _ (o .o .given .1))
+    outputs-refused (bitsIn (s .args .bytes .now)) (s .args .z) _ (c .refuse .result) (c .refuse .ensures) (s .pre) (read n _ (o .o .given .1))
 
 returns-2 : tie.Need-returns-2
 returns-2 c = c .finish .ensures
@@ -87,7 +87,7 @@ rest-spec =
     slice-aggregate-nodes-2
     nodes-requires
     enum-known-o
-    refused-requires
+    refuse-requires
     enum-known-o-2
     finish-requires
     returns

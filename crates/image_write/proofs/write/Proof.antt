@@ -6,14 +6,15 @@ use borrow.Author.Needs.{needs}
 use Rattle.network.specs.Held.{netOf, rules}
 use Rattle.network.specs.Handed.{Shaped, Holds}
 use Rattle.network.proofs.Handing.{shape-of}
+use Rattle.network.proofs.Telling.{told-accepted, told-refused}
 use Rattle.image_laws.specs.Renumber.{renumbered}
-use Rattle.image_write.proofs.Telling.{by-rules, by-refusal, sizes, held, told-rule, told-over, ready, told-written}
+use Rattle.image_write.proofs.Telling.{sizes, held, told-rule, told-long, ready, told-written}
 use Rattle.image_write.proofs.write.Statement.{statement}
 use Rattle.image_write.proofs.write.Tie as tie
 
 -- the network is by the rules, and what renumbering gave holds it
 by : (c : tie.After-enum-told) → (rules (c .before .before .before .before .args .n) ≡ true) × Holds (c .before .before .renumber .result .network) (renumbered (netOf (c .before .before .before .before .args .n)))
-by c = by-rules _ _ _ (c .before .before .renumber .ensures) (c .enum-told .given .1)
+by c = told-accepted _ _ _ (c .before .before .renumber .ensures) (c .enum-told .given .1)
 
 shape : (c : tie.After-enum-told) → Shaped (c .before .before .before .before .args .n)
 shape c = shape-of _ (search needs) (search needs)
@@ -31,7 +32,7 @@ enum-told-2 : tie.Need-enum-told-2
 enum-told-2 c = search needs
 
 returns : tie.Need-returns
-returns c = told-rule _ _ (by-refusal _ _ _ _ (c .before .before .renumber .ensures) (c .enum-told2 .given .1))
+returns c = told-rule _ _ (told-refused _ _ _ _ (c .before .before .renumber .ensures) (c .enum-told2 .given .1) .0)
 
 slice-aggregate-nodes-bits : tie.Need-slice-aggregate-nodes-bits
 slice-aggregate-nodes-bits c = search needs
