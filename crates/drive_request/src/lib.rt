@@ -99,8 +99,8 @@ fn before(p: usize) -> usize
 pub fn head(text: &[u8]) -> &[u8]
     ensures { λ r. ⌜ now r ≡ firstGroup (now (text .entry)) ⌝ }
 {
-    let e = before(part(text));
-    &text[0..e]
+    let last = before(part(text));
+    &text[0..last]
 }
 
 // The groups after it.

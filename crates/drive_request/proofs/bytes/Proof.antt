@@ -7,7 +7,8 @@ use Rattle.drive_request.proofs.bytes.Statement.{statement}
 use Rattle.drive_request.proofs.bytes.Tie as tie
 
 -- nothing is stored yet of what the word is
-fresh : (s : tie.After-slice-known) → let a = s .before .before .args in Storing (a .room .now) (a .room .now) 0 (bytesOf (a .word .now)) (bytesOf (a .word .now))
+fresh : (s : tie.After-slice-known) → let a = s .before .before .args in
+    Storing (a .room .now) (a .room .now) 0 (bytesOf (a .word .now)) (bytesOf (a .word .now))
 fresh s = storing-all _ _
 
 returns : tie.Need-returns

@@ -76,7 +76,8 @@ loop-again : tie.Need-loop-again Inv-loop μ-loop
 loop-again c =
     let e = word (c .before) in let w = e .before in let s = stands w in
     let rest = wordsOf (drop (w .word-end .result + 1) (line s)) in
-    let l : s .loop .at < w .word-end .result = later (line s) (s .loop .at) (w .word-end .result) (w .before .loop-test .taken) (w .word-end .ensures .0) (e .if2 .left) in
+    let l : s .loop .at < w .word-end .result =
+    later (line s) (s .loop .at) (w .word-end .result) (w .before .loop-test .taken) (w .word-end .ensures .0) (e .if2 .left) in
     let p = parts-next (line s) (s .loop .at) (w .word-end .result) (w .before .loop-test .taken) (w .word-end .ensures .0) in (
       sym (filled-on (line s) (s .loop .at) (w .word-end .result) (w .before .loop-test .taken) (w .word-end .ensures .0) (e .if2 .left)) ∙ s .loop .inv .0,
       ⊎-elim

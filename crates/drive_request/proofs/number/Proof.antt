@@ -46,7 +46,8 @@ digit-requires c κs = search needs
 returns-2 : tie.Need-returns-2 Inv-loop μ-loop
 unfolding numberOf
 returns-2 c = let s = c .before .before .before .before in
-    rw (led s) (sym (hex-stop (word s) (s .loop .value) (s .loop .i) (c .before .before .before .loop-test .taken) (omega (arith, c .before .digit .ensures, c .if2 .taken)))
+    rw (led s) (sym (hex-stop (word s) (s .loop .value) (s .loop .i) (c .before .before .before .loop-test .taken)
+    (omega (arith, c .before .digit .ensures, c .if2 .taken)))
     ∙ s .loop .inv .2)
 
 -- the number has room for one digit more

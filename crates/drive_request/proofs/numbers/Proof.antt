@@ -68,8 +68,12 @@ same-length c = missing c .size
 returns : tie.Need-returns Inv-loop μ-loop
 returns c = storing-none (missing c)
 
+-- where the word's end was known
+abbrev word : tie.After-known-told Inv-loop μ-loop → tie.After-word-end Inv-loop μ-loop
+word c = c .before .before .before .before .before
+
 -- the number is due, then those after it
-due : (c : tie.After-known-told Inv-loop μ-loop) → let w = c .before .before .before .before .before in let s = w .before .before in
+due : (c : tie.After-known-told Inv-loop μ-loop) → let w = word c in let s = w .before .before in
     Storing (s .before .before .before .args .pool .now) (s .loop .pool) (s .loop .n) (some (c .before .v .given .0 .0) ∷ rest w) (numbersOf (text s))
 due c = let n = c .before .before .before in let w = n .before .before in let s = w .before .before in
     storing-as (read n ∙ ap (λ k. numberIn k ∷ rest w) (c .before .v .given .1)) (s .loop .inv .1)
@@ -96,7 +100,7 @@ loop-less : tie.Need-loop-less Inv-loop μ-loop
 loop-less c = search needs
 
 loop-again : tie.Need-loop-again Inv-loop μ-loop
-loop-again c = let w = c .before .before .before .before .before .before in
+loop-again c = let w = word (c .before) in
     (omega (arith, w .word-end .ensures .1), storing-next (due (c .before)) (c .if1 .left))
 
 same-length-3 : tie.Need-same-length-3 Inv-loop μ-loop

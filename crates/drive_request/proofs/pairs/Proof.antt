@@ -1,5 +1,5 @@
 -- `drive_request::pairs` meets its contract. The loop's invariant: the bytes from i on are due. Assumes nothing.
-use mathlib.Core.Path.{_≡_, sym, ap, _∙_}
+use mathlib.Core.Path.{_≡_, ap, _∙_}
 use mathlib.Core.List.{List, _∷_}
 use mathlib.Core.Option.{some}
 use Prim.Native.Nat.{ℕ, _+_, _-_, _*_, _<_, _≤_}

@@ -40,7 +40,8 @@ is-part-requires c κs = search needs
 returns : tie.Need-returns Inv-loop μ-loop
 returns c = let w = c .before .before .before in
     let s = w .before .before in (
-      sym (ahead-stop (text s) (s .loop .at) (w .word-end .result) (w .before .loop-test .taken) (w .word-end .ensures .0) (sym (c .before .is-part .ensures) ∙ c .if1 .taken))
+      sym (ahead-stop (text s) (s .loop .at) (w .word-end .result) (w .before .loop-test .taken) (w .word-end .ensures .0)
+          (sym (c .before .is-part .ensures) ∙ c .if1 .taken))
           ∙ s .loop .inv .0,
       s .loop .inv .1,
     )
@@ -54,7 +55,8 @@ loop-less c = search needs
 loop-again : tie.Need-loop-again Inv-loop μ-loop
 loop-again c = let w = c .before .before .before in
     let s = w .before .before in (
-      sym (ahead-on (text s) (s .loop .at) (w .word-end .result) (w .before .loop-test .taken) (w .word-end .ensures .0) (sym (c .before .is-part .ensures) ∙ c .if1 .left))
+      sym (ahead-on (text s) (s .loop .at) (w .word-end .result) (w .before .loop-test .taken) (w .word-end .ensures .0)
+          (sym (c .before .is-part .ensures) ∙ c .if1 .left))
           ∙ s .loop .inv .0,
       omega (arith, w .word-end .ensures .1),
     )

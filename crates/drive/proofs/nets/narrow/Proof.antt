@@ -1,7 +1,5 @@
 -- `drive::nets::narrow` is safe and ends. Assumes nothing.
-use mathlib.Core.Path.{_≡_}
-use Prim.Native.Nat.{_+_, _-_, _<_, _≤_}
-use lib.ListN.{length}
+use Prim.Native.Nat.{_-_, _≤_}
 use borrow.Author.Needs.{needs}
 use Rattle.drive.proofs.nets.narrow.Statement.{statement}
 use Rattle.drive.proofs.nets.narrow.Tie as tie

@@ -1,6 +1,6 @@
 -- `drive::runs::above` is safe: a weight that is not below zero reads as a number. Assumes nothing.
 use mathlib.Core.Path.{_≡_, sym, subst}
-use mathlib.Core.Bool.{true, false}
+use mathlib.Core.Bool.{false}
 use native.Mathlib.Nat.{lt-of-le-of-lt}
 use borrow.Author.Needs.{needs}
 use lib.Dec.{T, lit<}

@@ -1,7 +1,6 @@
 -- `drive::runs::put_steps` is safe and ends. Assumes nothing.
 use mathlib.Core.Path.{_≡_}
 use Prim.Native.Nat.{_-_, _≤_}
-use native.Mathlib.Omega.{arith}
 use lib.ListN.{length}
 use borrow.Author.Needs.{needs}
 use Rattle.drive.proofs.runs.put_steps.Statement.{statement}
