@@ -1,3 +1,4 @@
 pub mod Splitting
 pub mod Hexing
 pub mod Storing
+pub mod Spreading
