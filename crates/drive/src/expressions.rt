@@ -4,7 +4,6 @@ use crate::wire;
 use crate::wire::Told;
 use cokernel::Listed;
 use division::Division;
-use letters::Wrote;
 
 fn parts(a: Division) -> Told {
     match a {
@@ -80,16 +79,9 @@ fn list_to(f: &[u64], text: &[u8], out: &mut [u8]) -> usize {
     list(f, &mut room[0..n], out)
 }
 
-fn wrote(a: Wrote) -> Told {
-    match a {
-        Wrote::Bytes(n) => wire::found(n as u64),
-        Wrote::Refused(k) => wire::refused(k, 0),
-    }
-}
-
 fn write(f: &[u64], room: &mut [u8], out: &mut [u8]) -> usize {
     let a = factor::factored(f, room);
-    wire::put_left(out, wrote(a), room)
+    wire::put_left(out, wire::wrote(a), room)
 }
 
 fn write_to(f: &[u64], text: &[u8], out: &mut [u8]) -> usize {

@@ -3,20 +3,12 @@ use crate::nets;
 use crate::rooms;
 use crate::wire;
 use crate::wire::Told;
-use expression::Verdict;
-use image_write::Wrote;
+use image_read::Answer;
 use network::Network;
-
-fn wrote(a: Wrote) -> Told {
-    match a {
-        Wrote::Bytes(n) => wire::found(n as u64),
-        Wrote::Refused(k) => wire::refused(k, 0),
-    }
-}
 
 fn write(n: Network, room: &mut [u8], out: &mut [u8]) -> usize {
     let a = image_write::write(n, room);
-    wire::put_left(out, wrote(a), room)
+    wire::put_left(out, wire::wrote(a), room)
 }
 
 // `write ; NET ; ROOM`

@@ -38,11 +38,14 @@ fn on_table(text: &[u8], out: &mut [u8]) -> usize {
     nets::put_handed(out, read(answer), network)
 }
 
-// The length of a report; above 4,096 where there is none.
+// Bytes that every report fits.
+const PAGE: usize = 4096;
+
+// The length of a report; above a page where there is none.
 fn length(w: Wrote) -> usize {
     match w {
         Wrote::Bytes(k) => k,
-        Wrote::Refused(_) => 4097,
+        Wrote::Refused(_) => PAGE + 1,
     }
 }
 
@@ -55,9 +58,9 @@ fn put_page(page: &[u8], k: usize, out: &mut [u8]) -> usize {
     wire::put_bytes(out, at, &page[0..k])
 }
 
-// `report BYTES`, in a page that every report fits.
+// `report BYTES`
 fn on_report(text: &[u8], out: &mut [u8]) -> usize {
-    let mut page = [0u8; 4096];
+    let mut page = [0u8; PAGE];
     let w = report::report(text, &mut page);
     put_page(&page, length(w), out)
 }

@@ -1,4 +1,5 @@
 // An answer line put together.
+use letters::Wrote;
 use libc::STDOUT_FILENO;
 
 // One byte after n others. A room that is full is written out first, so that an answer may have any length.
@@ -115,6 +116,14 @@ pub fn refused(number: u32, line: u32) -> Told {
         first: number as u64,
         two: true,
         second: line as u64,
+    }
+}
+
+// How many bytes were written to a lent room, or what they were refused for.
+pub fn wrote(a: Wrote) -> Told {
+    match a {
+        Wrote::Bytes(n) => found(n as u64),
+        Wrote::Refused(k) => refused(k, 0),
     }
 }
 
