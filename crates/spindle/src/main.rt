@@ -5,7 +5,6 @@ mod form;
 mod help;
 mod line;
 mod map;
-mod name;
 mod node;
 mod show;
 
@@ -14,14 +13,12 @@ use libc::STDERR_FILENO;
 use libc::STDOUT_FILENO;
 use network::Network;
 
-// A byte more than a table may have, so that one too long is seen to be.
-const TABLE: usize = 65537;
+// Room for any file: a byte more than the longest image whose fields are each in range, and than any table.
+const ROOM: usize = image_laws::ROOM;
 
-// A byte more than the longest image whose fields are each in range.
-const IMAGE: usize = 5878735;
-
-// The commands of more than one word.
+// What is asked: a table alone asks for its report.
 enum Command {
+    Report,
     Image,
     Show,
     Ask,
@@ -46,7 +43,22 @@ fn refused(number: u32, line: u32) -> Loaded {
     Loaded { ok: false, network }
 }
 
-// ---- tables
+// ---- reports
+
+fn print_front(page: &[u8], n: usize) {
+    line::put_front(0, page, n);
+}
+
+fn print_report(text: &[u8]) {
+    let mut room = [0u8; 16384];
+    let a = report::report(text, &mut room);
+    match a {
+        Wrote::Bytes(n) => print_front(&room, n),
+        Wrote::Refused(k) => line::refuse(k, 0),
+    }
+}
+
+// ---- networks
 
 // The network of a table after its steps; a refusal is printed.
 fn extracted(text: &[u8]) -> Loaded {
@@ -65,18 +77,18 @@ fn extracted(text: &[u8]) -> Loaded {
     with(network)
 }
 
-fn print_front(page: &[u8], n: usize) {
-    line::put_front(0, page, n);
+// The network of an image; a refusal is printed.
+fn opened(bytes: &[u8]) -> Loaded {
+    let i = image_read::read(bytes);
+    let answer = i.answer;
+    if let image_read::Answer::Refused(k) = answer {
+        return refused(k, 0);
+    }
+    let network = i.network;
+    with(network)
 }
 
-fn print_report(text: &[u8]) {
-    let mut room = [0u8; 16384];
-    let a = report::report(text, &mut room);
-    match a {
-        Wrote::Bytes(n) => print_front(&room, n),
-        Wrote::Refused(k) => line::refuse(k, 0),
-    }
-}
+// ---- images
 
 // `orchards.image: 164 bytes, 80 literals`
 fn print_written(path: &[u8], bytes: usize, literals: u64) {
@@ -103,125 +115,79 @@ fn write_image(n: Network, path: &[u8]) {
     }
 }
 
-// The image of a table's network.
-fn on_image(text: &[u8], path: &[u8]) {
-    let l = extracted(text);
-    if l.ok {
-        let network = l.network;
-        write_image(network, path);
+// ---- files
+
+// Whether a table can begin with the byte: a blank, the end of a line, a comment or a dot. A table that begins with another is
+// refused, whatever follows, so a file that does is an image.
+fn begins_table(b: u8) -> bool {
+    match b {
+        b' ' | b'\t' | b'\r' | b'\n' | b'#' | b'.' => true,
+        _ => false,
     }
 }
 
-fn on_text(is_image: bool, text: &[u8], path: &[u8]) {
-    if is_image {
-        on_image(text, path);
-        return;
-    }
-    print_report(text);
-}
-
-fn table_into(is_image: bool, table: &[u8], path: &[u8], text: &mut [u8]) {
-    let got = file::read(table, text);
-    let n = got.count;
-    if got.ok {
-        on_text(is_image, &text[0..n], path);
-    }
-}
-
-// So long an array is lent as one before it is lent as a slice: its length is then known by its type.
-fn table_by(is_image: bool, table: &[u8], path: &[u8], text: &mut [u8; TABLE]) {
-    table_into(is_image, table, path, text);
-}
-
-// `spindle TABLE`, `spindle image TABLE FILE`
-fn on_table(is_image: bool, table: &[u8], path: &[u8]) {
-    let mut text = [0u8; TABLE];
-    table_by(is_image, table, path, &mut text);
-}
-
-// ---- images
-
-// Whether the bytes are those of an image: a table begins with none of these.
-fn is_image(bytes: &[u8]) -> bool {
+// Whether a file for the map is a table; one of no byte is.
+fn is_table(bytes: &[u8]) -> bool {
     if bytes.len() == 0 {
-        return false;
+        return true;
     }
-    if bytes[0] < 16 {
-        return false;
-    }
-    bytes[0] < 32
+    begins_table(bytes[0])
 }
 
-// The network of an image; a refusal is printed.
-fn opened(bytes: &[u8]) -> Loaded {
-    let i = image_read::read(bytes);
-    let answer = i.answer;
-    if let expression::Verdict::Refused(k) = answer {
-        return refused(k, 0);
-    }
-    let network = i.network;
-    with(network)
-}
-
-// The map of a table.
-fn map_table(text: &[u8]) {
-    let l = extracted(text);
-    if l.ok {
-        let network = l.network;
-        map::map(network, text);
-    }
-}
-
-fn on_network(c: Command, n: Network, setting: &[u8]) {
+// The word is the path of an image, or a setting; the text of a table may name its inputs.
+fn on_network(c: Command, n: Network, word: &[u8], text: &[u8]) {
     match c {
+        Command::Image => write_image(n, word),
         Command::Show => show::show(n),
-        Command::Ask => show::ask(n, setting),
-        Command::Map => map::map(n, b""),
-        Command::Image => {}
+        Command::Ask => show::ask(n, word),
+        Command::Map => map::map(n, text),
+        Command::Report => {}
         Command::Other => {}
     }
 }
 
-fn on_loaded(c: Command, l: Loaded, setting: &[u8]) {
+fn on_loaded(c: Command, l: Loaded, word: &[u8], text: &[u8]) {
     if l.ok {
         let network = l.network;
-        on_network(c, network, setting);
+        on_network(c, network, word, text);
     }
 }
 
-// Only the map is made of tables too.
-fn is_table(c: Command, bytes: &[u8]) -> bool {
-    if let Command::Map = c {
-        !is_image(bytes)
-    } else {
-        false
-    }
-}
-
-fn on_bytes(c: Command, bytes: &[u8], setting: &[u8]) {
-    if is_table(c, bytes) {
-        map_table(bytes);
+fn on_map(bytes: &[u8]) {
+    if is_table(bytes) {
+        on_loaded(Command::Map, extracted(bytes), b"", bytes);
         return;
     }
-    on_loaded(c, opened(bytes), setting);
+    on_loaded(Command::Map, opened(bytes), b"", b"");
 }
 
-fn file_into(c: Command, path: &[u8], setting: &[u8], bytes: &mut [u8]) {
-    let got = file::read(path, bytes);
-    let n = got.count;
-    if got.ok {
-        on_bytes(c, &bytes[0..n], setting);
+fn on_bytes(c: Command, bytes: &[u8], word: &[u8]) {
+    match c {
+        Command::Report => print_report(bytes),
+        Command::Map => on_map(bytes),
+        Command::Image => on_loaded(c, extracted(bytes), word, b""),
+        Command::Show => on_loaded(c, opened(bytes), word, b""),
+        Command::Ask => on_loaded(c, opened(bytes), word, b""),
+        Command::Other => {}
     }
 }
 
-fn file_by(c: Command, path: &[u8], setting: &[u8], bytes: &mut [u8; IMAGE]) {
-    file_into(c, path, setting, bytes);
+fn file_into(c: Command, path: &[u8], word: &[u8], room: &mut [u8]) {
+    let got = file::read(path, room);
+    let n = got.count;
+    if got.ok {
+        on_bytes(c, &room[0..n], word);
+    }
 }
 
-// `spindle show IMAGE`, `spindle ask IMAGE SETTING`, `spindle map FILE`
-fn on_file(c: Command, path: &[u8], setting: &[u8]) {
-    let mut bytes = [0u8; IMAGE];
-    file_by(c, path, setting, &mut bytes);
+// So long an array is lent as one before it is lent as a slice: its length is then known by its type.
+fn file_by(c: Command, path: &[u8], word: &[u8], room: &mut [u8; ROOM]) {
+    file_into(c, path, word, room);
+}
+
+fn on_file(c: Command, path: &[u8], word: &[u8]) {
+    let mut room = [0u8; ROOM];
+    file_by(c, path, word, &mut room);
 }
 
 // ---- words
@@ -231,46 +197,48 @@ fn image_to(table: &[u8], path: &[u8]) {
         line::complain(path, b": the image needs a name of its own");
         return;
     }
-    on_table(true, table, path);
+    on_file(Command::Image, table, path);
 }
 
-fn with_path(table: &[u8]) {
-    let mut path = io::buffer();
-    let k = os::arg(3, &mut path);
-    if os::errno() != 0 {
-        line::fail(b"FILE");
+// `spindle image TABLE FILE`: where FILE is no path that can be held, that is said.
+fn image_at(table: &[u8], path: &[u8], is_whole: bool) {
+    if is_whole {
+        image_to(table, path);
         return;
     }
-    image_to(table, &path[..k]);
+    line::fail(b"FILE");
 }
 
-// A table and a file.
-fn with_two() {
-    let mut table = io::buffer();
-    let n = os::arg(2, &mut table);
-    if os::errno() != 0 {
+// `spindle show IMAGE`, `spindle ask IMAGE SETTING`, `spindle map FILE`: a word too long to be held is no setting, as an empty one
+// is none.
+fn with_word(c: Command, path: &[u8]) {
+    let mut word = io::buffer();
+    let k = os::arg(3, &mut word);
+    let is_whole = os::errno() == 0;
+    if let Command::Image = c {
+        image_at(path, &word[..k], is_whole);
+        return;
+    }
+    on_file(c, path, &word[..k]);
+}
+
+// The file to read cannot be held.
+fn fail_path(c: Command) {
+    if let Command::Image = c {
         line::fail(b"TABLE");
         return;
     }
-    with_path(&table[..n]);
+    line::fail(b"IMAGE");
 }
 
-// A setting, to ask; one too long to be held is no setting, as an empty one is none.
-fn with_setting(c: Command, path: &[u8]) {
-    let mut setting = [0u8; 64];
-    let k = os::arg(3, &mut setting);
-    on_file(c, path, &setting[..k]);
-}
-
-// A file and, to ask, a setting.
 fn with_file(c: Command) {
     let mut path = io::buffer();
     let n = os::arg(2, &mut path);
     if os::errno() != 0 {
-        line::fail(b"IMAGE");
+        fail_path(c);
         return;
     }
-    with_setting(c, &path[..n]);
+    with_word(c, &path[..n]);
 }
 
 fn image_or_show(word: &[u8]) -> Command {
@@ -294,13 +262,14 @@ fn which(word: &[u8]) -> Command {
     image_or_show(word)
 }
 
-// How many words a command has.
+// How many words a command has that is named.
 fn words(c: Command) -> usize {
     match c {
         Command::Image => 4,
         Command::Ask => 4,
         Command::Show => 3,
         Command::Map => 3,
+        Command::Report => 0,
         Command::Other => 0,
     }
 }
@@ -308,10 +277,6 @@ fn words(c: Command) -> usize {
 fn on_command(c: Command, count: usize) {
     if words(c) != count {
         help::help(STDERR_FILENO);
-        return;
-    }
-    if let Command::Image = c {
-        with_two();
         return;
     }
     with_file(c);
@@ -327,7 +292,7 @@ fn on_word(word: &[u8]) {
         help::help(STDERR_FILENO);
         return;
     }
-    on_table(false, word, word);
+    on_file(Command::Report, word, word);
 }
 
 fn main() {

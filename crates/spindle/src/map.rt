@@ -1,9 +1,11 @@
 // The dispatcher's map of a network: the inputs, the shared conditions and the orchards, in columns for paper.
 use crate::form;
 use crate::line;
-use crate::name;
 use crate::node;
 use network::Network;
+use network::OUTPUTS;
+use network::VARIABLES;
+use network_map::CELLS;
 use std::num;
 
 // The columns of the names and of what they stand for.
@@ -90,13 +92,35 @@ fn put_name(letter: u8, i: usize) -> usize {
     line::column(put_first(letter, i), TEXT)
 }
 
-fn print_input(text: &[u8], i: usize) {
-    put_name(b'x', i);
-    if name::is_named(text, i) {
-        name::print(text, i);
+// A byte that moves the pen is a blank on paper.
+fn plain(b: u8) -> u8 {
+    if b < 32 || b == 127 {
+        return b' ';
+    }
+    b
+}
+
+fn put_plain(name: &[u8]) {
+    let mut i = 0;
+    while i < name.len() {
+        line::put_byte(0, plain(name[i]));
+        i += 1;
+    }
+}
+
+// The name, or `-` where there is none, ends its line.
+fn print_name(name: &[u8]) {
+    if name.len() == 0 {
+        line::print(b"-");
         return;
     }
-    line::print(b"-");
+    put_plain(name);
+    line::new();
+}
+
+fn print_input(text: &[u8], i: usize) {
+    put_name(b'x', i);
+    print_name(table_names::name_of(text, i));
 }
 
 fn print_each_input(text: &[u8], inputs: usize) {
@@ -111,7 +135,7 @@ fn print_each_input(text: &[u8], inputs: usize) {
 fn is_any(text: &[u8], inputs: usize) -> bool {
     let mut i = 0;
     while i < inputs {
-        if name::is_named(text, i) {
+        if table_names::name_of(text, i).len() > 0 {
             return true;
         }
         i += 1;
@@ -144,31 +168,31 @@ fn put_gap(at: usize) -> usize {
     line::pad(0, 1)
 }
 
-// A name in a list, where the mask has the number i.
-fn put_item(at: usize, mask: u64, letter: u8, i: usize) -> usize {
-    if !node::has(mask, i) {
-        return at;
+// A name in a list, where it is to be there.
+fn put_item(at: usize, is_in: bool, letter: u8, i: usize) -> usize {
+    if is_in {
+        return line::put_name(put_gap(at), letter, i);
     }
-    line::put_name(put_gap(at), letter, i)
+    at
 }
 
-// The names that the mask has.
-fn put_items(mask: u64, letter: u8) {
-    let mut at = 0;
-    let mut i = 0;
-    while i < 64 {
-        at = put_item(at, mask, letter, i);
-        i += 1;
+// Whether output j hangs on the variable v.
+fn hangs(cells: &[bool; CELLS], j: usize, v: usize) -> bool {
+    if j >= OUTPUTS {
+        return false;
     }
+    if v >= VARIABLES {
+        return false;
+    }
+    cells[j * VARIABLES + v]
 }
 
 // The list ends its line; an empty one says so.
-fn print_list(mask: u64, letter: u8) {
-    if mask == 0 {
+fn end_list(at: usize) {
+    if at == 0 {
         line::print(b"none");
         return;
     }
-    put_items(mask, letter);
     line::new();
 }
 
@@ -180,38 +204,27 @@ fn put_node(n: Network, i: usize, letter: u8, number: usize, wide: usize) {
 
 // ---- the conditions
 
-// The mask, with i where it is to be.
-fn with(mask: u64, i: usize, is_in: bool) -> u64 {
-    if !is_in {
-        return mask;
-    }
-    if i >= 64 {
-        return mask;
-    }
-    mask | (1u64 << i)
-}
-
 // The orchards that hang on the variable v.
-fn orchards(masks: [u64; 32], v: usize) -> u64 {
-    let mut mask: u64 = 0;
+fn put_orchards(cells: &[bool; CELLS], v: usize) -> usize {
+    let mut at = 0;
     let mut j = 0;
-    while j < 32 {
-        mask = with(mask, j, node::has(masks[j], v));
+    while j < OUTPUTS {
+        at = put_item(at, hangs(cells, j, v), b'y', j);
         j += 1;
     }
-    mask
+    at
 }
 
-fn print_condition(n: Network, i: usize, masks: [u64; 32], wide: usize) {
+fn print_condition(n: Network, i: usize, cells: &[bool; CELLS], wide: usize) {
     let v = num::wrapping_add_usize(n.inputs, i);
     put_node(n, num::wrapping_add_usize(n.outputs, i), b'x', v, wide);
-    print_list(orchards(masks, v), b'y');
+    end_list(put_orchards(cells, v));
 }
 
-fn print_each_condition(n: Network, masks: [u64; 32], wide: usize) {
+fn print_each_condition(n: Network, cells: &[bool; CELLS], wide: usize) {
     let mut i = 0;
     while i < n.divisors {
-        print_condition(n, i, masks, wide);
+        print_condition(n, i, cells, wide);
         i += 1;
     }
 }
@@ -226,18 +239,26 @@ fn print_conditions(divisors: usize, wide: usize) {
 
 // ---- the orchards
 
-fn print_orchard(n: Network, j: usize, mask: u64, wide: usize) {
-    put_node(n, j, b'y', j, wide);
-    print_list(mask, b'x');
+// The conditions that output j hangs on.
+fn put_conditions(cells: &[bool; CELLS], j: usize) -> usize {
+    let mut at = 0;
+    let mut v = 0;
+    while v < VARIABLES {
+        at = put_item(at, hangs(cells, j, v), b'x', v);
+        v += 1;
+    }
+    at
 }
 
-fn print_each_orchard(n: Network, masks: [u64; 32], wide: usize) {
+fn print_orchard(n: Network, j: usize, cells: &[bool; CELLS], wide: usize) {
+    put_node(n, j, b'y', j, wide);
+    end_list(put_conditions(cells, j));
+}
+
+fn print_each_orchard(n: Network, cells: &[bool; CELLS], wide: usize) {
     let mut j = 0;
     while j < n.outputs {
-        if j >= 32 {
-            return;
-        }
-        print_orchard(n, j, masks[j], wide);
+        print_orchard(n, j, cells, wide);
         j += 1;
     }
 }
@@ -259,11 +280,11 @@ fn list_column(n: Network) -> usize {
 
 fn print_lists(n: Network) {
     let wide = list_column(n);
-    let masks = node::masks(n);
+    let cells = network_map::cells(n);
     print_conditions(n.divisors, wide);
-    print_each_condition(n, masks, wide);
+    print_each_condition(n, &cells, wide);
     print_orchards(wide);
-    print_each_orchard(n, masks, wide);
+    print_each_orchard(n, &cells, wide);
 }
 
 // The map of the network; the text of its table, or nothing for an image, may name the inputs.

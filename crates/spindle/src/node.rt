@@ -1,19 +1,15 @@
-// The nodes of a network for printing: the literals and the length of each, and the divisors that each output hangs on.
+// The nodes of a network for printing: the literals and the length of each.
 use letters::Wrote;
 use network::Network;
 use std::num;
-ghost use mathlib.Core.Bool.{cond};
 ghost use mathlib.Core.List.{[]};
 ghost use mathlib.Core.Path.{_≡_};
-ghost use Prim.Native.Nat.{ℕ, _<_, _≤_};
-ghost use lib.Dec.{ltb};
+ghost use Prim.Native.Nat.{_≤_};
 ghost use lib.ListN.{getD};
-ghost use Rattle.sets.specs.Masks.{bit};
 ghost use Rattle.expression.specs.Words.{cubesOf};
 ghost use Rattle.expression.specs.Expression.{literalsOf};
 ghost use Rattle.expression.specs.Answers.{capped};
 ghost use Rattle.network_nodes.specs.Nodes.{cut};
-ghost use Rattle.network_hangs.specs.Hangs.{hangsAt, Marks};
 
 // The longest text that widens a column.
 const COLUMN: usize = 40;
@@ -68,37 +64,4 @@ pub fn widest(n: Network) -> usize
         i += 1;
     }
     most
-}
-
-// The divisors that output i hangs on.
-fn mask(n: Network, i: usize) -> u64
-    ensures { λ r. ⌜ Marks r (cond (ltb i (n .outputs)) (hangsAt n i) []) ⌝ }
-{
-    if i < n.outputs {
-        return network_hangs::hangs(n, i);
-    }
-    0
-}
-
-// The same for each output.
-pub fn masks(n: Network) -> [u64; 32]
-    ensures { λ r. ⌜ ((i : ℕ) → i < 32 → Marks (getD r i 0) (cond (ltb i (n .outputs)) (hangsAt n i) [])) ⌝ }
-{
-    let mut all = [0u64; 32];
-    let mut i = 0;
-    while i < 32 {
-        all[i] = mask(n, i);
-        i += 1;
-    }
-    all
-}
-
-// Whether the mask has the variable v.
-pub fn has(mask: u64, v: usize) -> bool
-    ensures { λ r. ⌜ r ≡ bit mask v ⌝ }
-{
-    if v >= 64 {
-        return false;
-    }
-    (mask >> v) & 1 == 1
 }

@@ -127,10 +127,13 @@ fn print_answer(j: usize, is_on: bool) {
     line::print(b" off");
 }
 
+// Output j is bit j of the answer.
 fn print_answers(outputs: usize, answer: u64) {
+    let mut left = answer;
     let mut j = 0;
     while j < outputs {
-        print_answer(j, node::has(answer, j));
+        print_answer(j, left % 2 == 1);
+        left = left / 2;
         j += 1;
     }
 }

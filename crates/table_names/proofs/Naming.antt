@@ -58,6 +58,7 @@ written-named i n e f = ap nameAfter (number (ltb i 10)) ∙ name
         cond b (after (48 + i) t) (after (48 + i % 10) (after (48 + i / 10) t)) ≡ 32 ∷ n
     number true = rw (eq-eqb (48 + i) (48 + i) refl)
     number false = rw (eq-eqb (48 + i / 10) (48 + i / 10) refl, eq-eqb (48 + i % 10) (48 + i % 10) refl)
+
     name : nameAfter (32 ∷ n) ≡ n
     name = rw (e, lt-ltb (length n) (suc (length n)) (omega arith), f)
 

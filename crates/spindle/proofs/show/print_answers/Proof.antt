@@ -5,31 +5,10 @@ use Rattle.spindle.proofs.show.print_answers.Statement.{statement}
 use Rattle.spindle.proofs.show.print_answers.Tie as tie
 
 abbrev Inv-loop : tie.InvT-loop
-Inv-loop outputs answer j₀ j = Unit {0}
+Inv-loop outputs answer left₀ j₀ left j = Unit {0}
 
 abbrev μ-loop : tie.MeasureT-loop
-μ-loop outputs answer j₀ j = outputs - j
-
-loop-holds : tie.Need-loop-holds Inv-loop μ-loop
-loop-holds c = search needs
-
-has-requires : tie.Need-has-requires Inv-loop μ-loop
-has-requires c κs = search needs
-
-print-answer-requires : tie.Need-print-answer-requires Inv-loop μ-loop
-print-answer-requires c κs = search needs
-
-add-j : tie.Need-add-j Inv-loop μ-loop
-add-j c = search needs
-
-loop-less : tie.Need-loop-less Inv-loop μ-loop
-loop-less c = search needs
-
-loop-again : tie.Need-loop-again Inv-loop μ-loop
-loop-again c = search needs
-
-returns : tie.Need-returns Inv-loop μ-loop
-returns c = search needs
+μ-loop outputs answer left₀ j₀ left j = outputs - j
 
 pub print-answers-spec : {M : Type 1} → statement M
 print-answers-spec =
@@ -37,10 +16,9 @@ print-answers-spec =
     (tie.spec
     Inv-loop
     μ-loop
-    loop-holds
-    has-requires
-    print-answer-requires
-    add-j
-    loop-less
-    loop-again
-    returns)
+    (λ c. search needs)
+    (λ c κs. search needs)
+    (λ c. search needs)
+    (λ c. search needs)
+    (λ c. search needs)
+    (λ c. search needs))

@@ -1,9 +1,9 @@
--- `name::put_plain` is safe and ends. Assumes nothing.
+-- `map::put_plain` is safe and ends. Assumes nothing.
 use Prim.Native.Nat.{_-_, _≤_}
 use lib.ListN.{length}
 use borrow.Author.Needs.{needs}
-use Rattle.spindle.proofs.name.put_plain.Statement.{statement}
-use Rattle.spindle.proofs.name.put_plain.Tie as tie
+use Rattle.spindle.proofs.map.put_plain.Statement.{statement}
+use Rattle.spindle.proofs.map.put_plain.Tie as tie
 
 abbrev Inv-loop : tie.InvT-loop
 Inv-loop name i₀ i = i ≤ length name

@@ -1,0 +1,19 @@
+-- Which output of a network hangs on which variable, as a table of cells.
+use Prim.Native.Nat.{ℕ, _+_, _*_, _<_}
+use mathlib.Core.Path.{_≡_}
+use mathlib.Core.Bool.{Bool, false, cond}
+use mathlib.Core.List.{List, []}
+use lib.Dec.{ltb}
+use lib.ListN.{getD}
+use Rattle.sets.specs.Sets.{mem}
+use Rattle.network.specs.Held.{mostOutputs, mostVariables}
+use Rattle.network.specs.declared.Network.{Network}
+use Rattle.network_hangs.specs.Hangs.{hangsAt}
+
+-- the divisors that output j hangs on; none past the last output
+unfoldable pub rowOf : Network → ℕ → List ℕ
+rowOf n j = cond (ltb j (n .outputs)) (hangsAt n j) []
+
+-- cell v of row j says whether output j hangs on the variable v
+pub record Crossed (n : Network) (cells : List Bool) : Type 0 where
+  pub each : (j v : ℕ) → j < mostOutputs → v < mostVariables → getD cells (j * mostVariables + v) false ≡ mem v (rowOf n j)
