@@ -3,7 +3,7 @@ use crate::nets;
 use crate::rooms;
 use crate::wire;
 use crate::wire::Told;
-use image_read::Answer;
+use expression::Verdict;
 use network::Network;
 
 fn write(n: Network, room: &mut [u8], out: &mut [u8]) -> usize {

@@ -22,7 +22,7 @@ use Rattle.extract_laws.specs.Extract.{redo, nextFree, step}
 use Rattle.extract_laws.specs.Meaning.{Good, Fit}
 use Rattle.extract_laws.proofs.Using.{sum-parts}
 use Rattle.extract_laws.proofs.Replacing.{rewrite-value, rewrite-expression, rewrite-ordered, rewrite-reads}
-use Rattle.extract_laws.proofs.Making.{step-node, step-variables, step-turn}
+use Rattle.extract_laws.proofs.Making.{next-free, below-free, step-node, step-variables, step-turn}
 use Rattle.extract_laws.proofs.Reading.{step-acyclic}
 
 own-ordered : (d : Divisor) → sound d ≡ true → ordered (own d) ≡ true

@@ -25,7 +25,10 @@ use Rattle.image_laws.specs.Renumber.{newNode, renumbered}
 use Rattle.image_laws.specs.Widths.{headSize}
 use Rattle.image_laws.specs.Image.{headFields, netFields, netBytes, imageOf}
 use Rattle.image_laws.proofs.Fielding.{divisorCubes, nodeBits, net-bits, net-bits-length, nodes-bits-length}
-use Rattle.image_write.specs.Answers.{refusedBy, Told}
+use Rattle.letters.specs.Told.{Told}
+use Rattle.letters.specs.declared.Wrote.the-variants as wrote
+use Rattle.letters.proofs.Telling.{told-before, told-long, told-whole}
+use Rattle.image_write.specs.Answers.{refusedBy}
 use Rattle.image_write.specs.Parts.{overlaid, LaidBits, nodesFrom, bitsFrom, allBits, mostHeldBits, Held, Writable}
 
 -- ---- the bits of the words are those of the network that they hold

@@ -81,7 +81,7 @@ fn extracted(text: &[u8]) -> Loaded {
 fn opened(bytes: &[u8]) -> Loaded {
     let i = image_read::read(bytes);
     let answer = i.answer;
-    if let image_read::Answer::Refused(k) = answer {
+    if let expression::Verdict::Refused(k) = answer {
         return refused(k, 0);
     }
     let network = i.network;

@@ -8,7 +8,7 @@ use Rattle.network.specs.Handed.{Shaped, Holds}
 use Rattle.network.proofs.Handing.{shape-of}
 use Rattle.network.proofs.Telling.{told-accepted, told-refused}
 use Rattle.image_laws.specs.Renumber.{renumbered}
-use Rattle.image_write.proofs.Telling.{sizes, held, told-rule, told-long, ready, told-written}
+use Rattle.image_write.proofs.Telling.{sizes, held, told-rule, told-over, ready, told-written}
 use Rattle.image_write.proofs.write.Statement.{statement}
 use Rattle.image_write.proofs.write.Tie as tie
 
