@@ -21,13 +21,6 @@ use Rattle.network.proofs.Parts.{nodes-at}
 use Rattle.network.proofs.Limits.{sized-out}
 use Rattle.extract_tidy.specs.Tidy.{arranged}
 
--- the cubes of node i are those after the nodes before it
-pub node-is : (counts words : List ℕ) (e i at : ℕ) → i < e → at ≡ total (λ c. c) (take i counts)
-    → getD (nodesOf e counts words) i [] ≡ take (at + getD counts i 0 - at) (drop at (cubesOf words))
-node-is counts words e i at h q =
-    let k : at + getD counts i 0 - at ≡ getD counts i 0 = omega arith in
-    nodes-at counts words e i h ∙ cut-node counts (cubesOf words) i ∙ ap₂ (λ (a b : ℕ). take a (drop b (cubesOf words))) (sym k) (sym q)
-
 module _ (n : Network) where
   -- the limits, and then the order
   pub arranged-as : (b : Bool) → sized n ≡ b → (b && all ordered (nodesOf (n .outputs + n .divisors) (n .counts) (n .words))) ≡ arranged n

@@ -1,4 +1,2 @@
-pub mod Neighbours
 pub mod Arranged
-pub mod Sorted
-pub mod Tidied
+pub mod Laid

@@ -1,20 +1,17 @@
--- Words for the contracts of the private functions: nodes that stand in cube order, and nodes put so.
+-- Words for the contracts of the private functions: nodes that a struct has room for, and nodes laid one after the other.
 use Prim.Native.Nat.{ℕ, _≤_}
-use mathlib.Core.Path.{_≡_}
-use mathlib.Core.List.{List, _++_, map}
-use lib.ListN.{length, take, drop}
+use mathlib.Core.List.{List}
+use lib.ListN.{length}
 use Rattle.sets.specs.Lists.{total}
-use Rattle.expression.specs.Words.{cubesOf}
-use Rattle.expression.specs.Expression.{sort}
-use Rattle.network.specs.Handed.{flat}
+use Rattle.network.specs.Handed.{nodeSlots, cubeSlots, LaidNodes}
 use Rattle.network.specs.Parts.{nodesOf}
 
--- there are e counts, and all their cubes
-pub record Sortable (e : ℕ) (counts words : List ℕ) : Type 0 where
+-- there are e counts, and a struct has room for the nodes and their cubes
+pub record Room (e : ℕ) (counts words : List ℕ) : Type 0 where
   pub counted : e ≤ length counts
-  pub there : total (λ c. c) (take e counts) ≤ length (cubesOf words)
+  pub slots : e ≤ nodeSlots
+  pub cubes : total length (nodesOf e counts words) ≤ cubeSlots
 
--- the first e nodes, of so many cubes, each in cube order, and after them what stood there
-pub record Sorts (e : ℕ) (counts old new : List ℕ) (n : ℕ) : Type 0 where
-  pub number : n ≡ total (λ c. c) (take e counts)
-  pub cubes : cubesOf new ≡ flat (map sort (nodesOf e counts old)) ++ drop n (cubesOf old)
+-- the nodes stand one after the other, and after them nothing
+abbrev pub Laid : List ℕ → List ℕ → List (List (List ℕ)) → Type 0
+Laid words sizes fs = LaidNodes words sizes (total length fs) fs

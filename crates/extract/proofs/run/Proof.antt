@@ -6,7 +6,7 @@ use Rattle.network.specs.Held.{netOf, rules}
 use Rattle.network.specs.Handed.{Holds, Shaped}
 use Rattle.network.proofs.Handing.{shape-of}
 use Rattle.extract_laws.specs.Run.{inOrder}
-use Rattle.extract_tidy.proofs.Tidied.{tidied-accepted, tidied-refused}
+use Rattle.network.proofs.Telling.{told-accepted, told-refused}
 use Rattle.extract.proofs.Starting.{start-ready, start-told, refused-told}
 use borrow.Author.Needs.{needs}
 use Rattle.extract.proofs.run.Statement.{statement}
@@ -17,7 +17,7 @@ shape s = shape-of _ (search needs) (search needs)
 
 -- what is held where the network is accepted
 kept : (c : tie.After-enum-told) → let i = c .before .before .before in let n = i .before .args .n in (rules n ≡ true) × Holds (i .in-order .result .network) (inOrder (netOf n))
-kept c = let i = c .before .before .before in tidied-accepted (i .before .args .n) (i .in-order .result) (i .in-order .ensures) (c .enum-told .given .1)
+kept c = let i = c .before .before .before in told-accepted (i .before .args .n) (inOrder (netOf (i .before .args .n))) (i .in-order .result) (i .in-order .ensures) (c .enum-told .given .1)
 
 in-order-requires : tie.Need-in-order-requires
 in-order-requires c κs = search needs
@@ -36,7 +36,7 @@ returns c =
     let m = c .before in
     let i = m .before .before .before in
     let n = i .before .args .n in
-    let q = tidied-refused n (i .in-order .result) (i .in-order .ensures) _ (m .enum-told2 .given .1) in
+    let q = told-refused n (inOrder (netOf n)) (i .in-order .result) _ (i .in-order .ensures) (m .enum-told2 .given .1) in
     refused-told (i .before .args .steps) n _ (q .0) refl (q .1) (c .no-steps .ensures)
 
 follow-requires : tie.Need-follow-requires

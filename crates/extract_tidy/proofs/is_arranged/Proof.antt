@@ -8,7 +8,6 @@ use Rattle.network.specs.Parts.{Limited}
 use Rattle.network.proofs.Handing.{shape-of}
 use Rattle.network.proofs.Limits.{sized-out}
 use Rattle.extract_tidy.proofs.Arranged.{arranged-as}
-use Rattle.extract_tidy.proofs.Sorted.{sized-sortable}
 use borrow.Author.Needs.{needs}
 use Rattle.extract_tidy.proofs.is_arranged.Statement.{statement}
 use Rattle.extract_tidy.proofs.is_arranged.Tie as tie
@@ -36,7 +35,7 @@ add-all-ordered : tie.Need-add-all-ordered
 add-all-ordered c = let z = small (c .before .before .before .before .before) in omega (arith, z .narrow, z .variables)
 
 all-ordered-requires : tie.Need-all-ordered-requires
-all-ordered-requires c κs = sized-sortable (small (c .before .before .before .before .before))
+all-ordered-requires c κs = small (c .before .before .before .before .before) .counted
 
 returns-2 : tie.Need-returns-2
 returns-2 c =

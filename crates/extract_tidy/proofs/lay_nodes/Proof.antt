@@ -1,0 +1,147 @@
+-- `extract_tidy::lay_nodes` meets its contract. The loop's invariant: the nodes passed stand in cube order one after the other. Assumes nothing.
+use Prim.Native.Nat.{ℕ, _+_, _-_, _≤_}
+use mathlib.Core.Path.{_≡_, refl, sym, ap, _∙_, subst}
+use mathlib.Core.List.{List, [], map}
+use native.Mathlib.Omega.{arith}
+use borrow.Author.Needs.{needs}
+use lib.ListN.{length, take}
+use Rattle.expression.specs.Words.{cubesOf}
+use Rattle.expression.specs.Expression.{sort}
+use Rattle.expression.proofs.Sorting.{sort-length}
+use Rattle.expression.proofs.Words.{cubes-few}
+use Rattle.network.specs.Handed.{LaidNodes}
+use Rattle.network.specs.Parts.{nodesOf}
+use Rattle.network.proofs.Laying.{laid-none}
+use Rattle.extract_tidy.specs.Parts.{Laid}
+use Rattle.extract_tidy.proofs.Laid.{nodes-laid, node-fits, node-laid, sorted-copy}
+use Rattle.extract_tidy.proofs.lay_nodes.Statement.{statement}
+use Rattle.extract_tidy.proofs.lay_nodes.Tie as tie
+
+abbrev Inv-loop : tie.InvT-loop
+Inv-loop words counts e out₀ sizes₀ at₀ i₀ out sizes at i =
+    (i ≤ e) × LaidNodes out sizes at (take i (map sort (nodesOf e counts words))) × (length out ≡ length out₀) × (length sizes ≡ length sizes₀)
+
+abbrev μ-loop : tie.MeasureT-loop
+μ-loop words counts e out₀ sizes₀ at₀ i₀ out sizes at i = e - i
+
+-- ---- the states of the walk
+
+abbrev Loop : Type 0
+Loop = tie.At-loop Inv-loop μ-loop
+
+abbrev start : Loop → tie.Start Inv-loop μ-loop
+start l = l .before .before .before .before .before
+
+abbrev head : tie.After-number Inv-loop μ-loop → Loop
+head c = c .before .before .before
+
+abbrev counted : tie.After-copy Inv-loop μ-loop → tie.After-number Inv-loop μ-loop
+counted c = c .before .before
+
+abbrev copied : tie.After-sort-part-arg Inv-loop μ-loop → tie.After-copy Inv-loop μ-loop
+copied c = c .before .before .before
+
+abbrev sorted : tie.After-slice-known4 Inv-loop μ-loop → tie.After-sort-part Inv-loop μ-loop
+sorted c = c .before .before
+
+abbrev at : tie.After-slice-known4 Inv-loop μ-loop → tie.After-number Inv-loop μ-loop
+at c = counted (copied (sorted c .before))
+
+-- ---- what holds there
+
+fewer : (f : List (List ℕ)) → length (sort f) ≤ length f
+fewer f = omega (arith, sort-length f)
+
+-- there is room for the node
+fits : (c : tie.After-number Inv-loop μ-loop) → head c .loop .at + length (cubesOf (c .before .node .result .now)) ≤ length (cubesOf (head c .loop .out))
+fits c = let l = head c in node-fits sort fewer (start l .pre .0) (l .loop .inv .1) (omega arith) (c .before .node .ensures .0)
+
+loop-holds : tie.Need-loop-holds Inv-loop μ-loop
+loop-holds c =
+    let s = c .before .before .before .before in (
+      omega arith,
+      subst (λ ws. LaidNodes ws (s .args .sizes .now) 0 []) (sym (s .pre .1 .0)) (subst (λ ws. LaidNodes _ ws 0 []) (sym (s .pre .1 .1)) laid-none),
+      refl,
+      refl,
+    )
+
+node-requires : tie.Need-node-requires Inv-loop μ-loop
+node-requires c κs = search needs
+
+number-requires : tie.Need-number-requires Inv-loop μ-loop
+number-requires c κs = search needs
+
+copy-requires : tie.Need-copy-requires Inv-loop μ-loop
+copy-requires c κs = search needs
+
+add-sort-part : tie.Need-add-sort-part Inv-loop μ-loop
+add-sort-part c =
+    let n = counted (copied c) in record { fits = omega (arith, n .number .ensures, fits n, cubes-few (head n .loop .out)) }
+
+sort-part-requires : tie.Need-sort-part-requires Inv-loop μ-loop
+sort-part-requires c κs = search needs
+
+mul-sizes : tie.Need-mul-sizes Inv-loop μ-loop
+mul-sizes c = search needs
+
+slice-write-sizes : tie.Need-slice-write-sizes Inv-loop μ-loop
+slice-write-sizes c =
+    let l = head (at c) in omega (arith, start l .pre .0 .slots, l .loop .inv .3, ap length (start l .pre .1 .1))
+
+add-at : tie.Need-add-at Inv-loop μ-loop
+add-at c = let n = at c in record { fits = omega (arith, n .number .ensures, fits n, cubes-few (head n .loop .out)) }
+
+add-i : tie.Need-add-i Inv-loop μ-loop
+add-i c = search needs
+
+loop-less : tie.Need-loop-less Inv-loop μ-loop
+loop-less c = search needs
+
+loop-again : tie.Need-loop-again Inv-loop μ-loop
+loop-again c =
+    let s = sorted c in
+    let p = copied (s .before) in
+    let n = at c in
+    let l = head n in
+    let f = cubesOf (n .before .node .result .now) in (
+      omega arith,
+      node-laid sort fewer (start l .pre .0) (l .loop .inv .1) (omega arith) (n .before .node .ensures .0) (n .number .ensures ∙ sym (sort-length f))
+      (sorted-copy f (n .number .ensures) (fits n) (p .copy .ensures) (s .sort-part .ensures)),
+      search needs,
+      search needs,
+    )
+
+same-length : tie.Need-same-length Inv-loop μ-loop
+same-length c = c .before .loop .inv .2
+
+same-length-2 : tie.Need-same-length-2 Inv-loop μ-loop
+same-length-2 c = c .before .loop .inv .3
+
+returns : tie.Need-returns Inv-loop μ-loop
+returns c =
+    let l = c .before in
+    let a = start l .args in
+    let w = nodes-laid sort fewer (start l .pre .0) {i = l .loop .i} (l .loop .inv .1) (omega arith) in
+    subst (λ t. LaidNodes (l .loop .out) (l .loop .sizes) t (map sort (nodesOf (a .e) (a .counts .now) (a .words .now)))) (w .place) w
+
+pub lay-nodes-spec : {M : Type 1} → statement M
+lay-nodes-spec =
+    tie.close
+    (tie.spec
+    Inv-loop
+    μ-loop
+    loop-holds
+    node-requires
+    number-requires
+    copy-requires
+    add-sort-part
+    sort-part-requires
+    mul-sizes
+    slice-write-sizes
+    add-at
+    add-i
+    loop-less
+    loop-again
+    same-length
+    same-length-2
+    returns)
