@@ -6,21 +6,23 @@ use mathlib.Core.List.{List, [], _∷_, _++_, map}
 use mathlib.Core.Option.{Option, none, some}
 use native.Mathlib.Omega.{arith}
 use lib.Dec.{ltb}
-use lib.ListN.{length, take as front, drop, replicate, length-append, length-map}
+use lib.ListN.{length, take as front, drop, set, replicate, length-append, length-map}
 use borrow.Author.Tests.{ltb-false, lt-ltb, le-ltb}
 use Rattle.sets.specs.Lists.{all, total}
 use Rattle.sets.proofs.Lists.{total-append, total-map}
 use Rattle.expression.specs.Expression.{ordered, literalsOf}
-use Rattle.expression.specs.Words.{cubesOf}
+use Rattle.expression.specs.Words.{cubesOf, Appends}
 use Rattle.expression.specs.Answers.{capped}
 use Rattle.network.specs.Net.{Net, nodes, variables, cubeCount, literalCount}
 use Rattle.network.specs.Held.{netOf, mostVariables, mostCubes, mostLiterals}
-use Rattle.network.specs.Handed.{flat, cubeSlots, Shaped, Holds}
+use Rattle.network.specs.Handed.{flat, cubeSlots, Shaped, LaidNodes, Holds}
 use Rattle.network.specs.Parts.{nodesOf, heldIn, netAt, Limited}
 use Rattle.network.specs.declared.Network.{Network}
 use Rattle.network.proofs.Holding.{nodes-held, outputs-held, divisors-held}
 use Rattle.network_nodes.proofs.Cutting.{cut-total}
-use Rattle.network.proofs.Handing.{Typed, cut-flat, flat-length, holds-one, blank-one}
+use Rattle.network.proofs.Handing.{Typed, cut-flat, holds-one, blank-one}
+use Rattle.network.proofs.Laying.{laid-next, laid-holds}
+use Rattle.network.proofs.Parts.{nodes-length}
 use Rattle.extract_laws.specs.Divisor.{own, rewrite}
 use Rattle.extract_laws.specs.Divisor as extraction
 use Rattle.extract_laws.specs.Extract.{redo, nextFree, step}
@@ -28,11 +30,12 @@ use Rattle.extract_laws.specs.Run.{Move, finished, stuck, makes, roomFor, done,
 use Rattle.extract_laws.proofs.Making.{next-free, step-nodes}
 use Rattle.extract_tidy.specs.Tidy.{arranged}
 use Rattle.extract_tidy.proofs.Arranged.{arranged-parts, arranged-sized}
+use Rattle.extract_tidy.proofs.Laid.{limited-room}
 use Rattle.extract_divisor.specs.Divisor.{divisorOf}
 use Rattle.extract_divisor.specs.declared.Divisor.{Divisor}
 use Rattle.extract_fit.specs.Fitness.{fitting}
 use Rattle.extract_step.specs.Replace.{allowed, outcome, Zeros, Stepped}
-use Rattle.extract_step.specs.Parts.{LaidNodes, SourceNodes}
+use Rattle.extract_step.specs.Parts.{SourceNodes}
 use Rattle.extract_step.specs.declared.Next.{Next}
 
 -- ---- the network of a step, from the nodes laid
@@ -57,7 +60,7 @@ module _ (n m k : ℕ) (words counts : List ℕ) (s : SourceNodes words counts (
   net = netAt n m k counts words
 
   few : m + k ≤ length counts
-  few = omega (arith, s .slots, s .free)
+  few = s .room .counted
 
   numbered : variables net ≡ n + k
   numbered = ap (n +_) (divisors-held (heldIn n m k counts words) few)
@@ -73,35 +76,41 @@ module _ (n m k : ℕ) (words counts : List ℕ) (s : SourceNodes words counts (
         sym (step-nodes net d
         ∙ ap₂ (λ (v : ℕ) (fs : List (List (List ℕ))). map (rewrite (2 * v) d) fs ++ (own d ∷ [])) next (nodes-held (heldIn n m k counts words)))
 
-    pub laid-count : {ws sizes : List ℕ} {t : ℕ} → LaidNodes ws sizes t (map (rewrite (2 * (n + k)) d) (nodesOf (m + k) counts words)) → cubeCount (step net d) ≡ t + length (own d)
+    pub laid-count : {ws sizes : List ℕ} {t : ℕ} → LaidNodes ws sizes t (map (rewrite (2 * (n + k)) d) (nodesOf (m + k) counts words))
+        → cubeCount (step net d) ≡ t + length (own d)
     laid-count l =
         let fs = map (rewrite (2 * (n + k)) d) (nodesOf (m + k) counts words) in
-        omega (arith, ap (total length) laid-nodes, total-append length fs (own d ∷ []), flat-length fs, l .front .number)
+        omega (arith, ap (total length) laid-nodes, total-append length fs (own d ∷ []), l .place)
 
     -- the literals in the words are those of the network
-    pub laid-literals : {ws sizes : List ℕ} {t : ℕ} {f : List (List ℕ)} → LaidNodes ws sizes t (nodes (step net d)) → f ≡ front (t - 0) (drop 0 (cubesOf ws)) → literalsOf f ≡ literalCount (step net d)
+    pub laid-literals : {ws sizes : List ℕ} {t : ℕ} {f : List (List ℕ)} → LaidNodes ws sizes t (nodes (step net d))
+        → f ≡ front (t - 0) (drop 0 (cubesOf ws)) → literalsOf f ≡ literalCount (step net d)
     laid-literals {t = t} l e =
         let fs = nodes (step net d) in
-        let k : t - 0 ≡ total (λ c. c) (map length fs) = omega (arith, l .front .number, flat-length fs, total-map (λ c. c) length fs) in
-        ap literalsOf e ∙ ap₂ (λ (k : ℕ) (g : List (List ℕ)). literalsOf (front k g)) k (l .front .cubes) ∙ sym (cut-total length (map length fs) (flat fs ++ replicate (cubeSlots - t) []))
+        let k : t - 0 ≡ total (λ c. c) (map length fs) = omega (arith, l .place, total-map (λ c. c) length fs) in
+        ap literalsOf e ∙ ap₂ (λ (k : ℕ) (g : List (List ℕ)). literalsOf (front k g)) k (l .cubes)
+        ∙ sym (cut-total length (map length fs) (flat fs ++ replicate (cubeSlots - t) []))
         ∙ ap (total literalsOf) (cut-flat fs (replicate (cubeSlots - t) []))
 
-    pub laid-holds : {ws sizes : List ℕ} {t : ℕ} → LaidNodes ws sizes t (nodes (step net d)) → Holds (heldIn n m (k + 1) sizes ws) (step net d)
-    laid-holds l = record {
-      inputs = refl;
-      outputs = sym (length-map (net .outputs) (rewrite (2 * nextFree net) d) ∙ outputs-held (heldIn n m k counts words) few);
-      divisors = omega (
-        arith,
-        length-append (map (redo (2 * nextFree net) d) (net .divisors)) (record { number = nextFree net; cubes = own d } ∷ []),
-        length-map (net .divisors) (redo (2 * nextFree net) d),
-        divisors-held (heldIn n m k counts words) few,
-      );
-      laid = record {
-        place = refl;
-        counts = l .counted;
-        cubes = l .front .cubes ∙ ap (λ (z : ℕ). flat (nodes (step net d)) ++ replicate (cubeSlots - z) []) (l .front .number ∙ flat-length (nodes (step net d)));
-      };
-    }
+    -- the divisor's own node after the others
+    pub step-laid : {ws new sizes : List ℕ} {t u : ℕ} → LaidNodes ws sizes t (map (rewrite (2 * (n + k)) d) (nodesOf (m + k) counts words))
+        → Appends ws new t (own d) u → LaidNodes new (set sizes (m + k) (u - t)) u (nodes (step net d))
+    step-laid {new = new} {sizes} {t} {u} l o =
+        let fs = map (rewrite (2 * (n + k)) d) (nodesOf (m + k) counts words) in
+        let e : t + (u - t) ≡ u = omega (arith, o .next) in
+        let i : length fs ≡ m + k = length-map (nodesOf (m + k) counts words) (rewrite (2 * (n + k)) d) ∙ nodes-length counts words (m + k) few in
+        subst (LaidNodes new (set sizes (m + k) (u - t)) u) laid-nodes
+        (subst (λ z. LaidNodes new (set sizes (m + k) (u - t)) z (fs ++ (own d ∷ []))) e (laid-next l (sym i) (s .free) (omega (arith, o .next)) (o .placed)))
+
+    pub step-held : {ws sizes : List ℕ} {t : ℕ} → LaidNodes ws sizes t (nodes (step net d)) → Holds (heldIn n m (k + 1) sizes ws) (step net d)
+    step-held l =
+        laid-holds l (step net d) refl refl (sym (length-map (net .outputs) (rewrite (2 * nextFree net) d) ∙ outputs-held (heldIn n m k counts words) few))
+        (omega (
+          arith,
+          length-append (map (redo (2 * nextFree net) d) (net .divisors)) (record { number = nextFree net; cubes = own d } ∷ []),
+          length-map (net .divisors) (redo (2 * nextFree net) d),
+          divisors-held (heldIn n m k counts words) few,
+        ))
 
     module _ (h : n + k < mostVariables) where
       pub room-rows : mostCubes < cubeCount (step net d) → roomFor net d ≡ stuck rows
@@ -131,9 +140,8 @@ module _ (n : Network) (shape : Shaped n) (a : arranged n ≡ true) where
 
   pub arranged-source : n .inputs + n .divisors < mostVariables → SourceNodes (n .words) (n .counts) (n .outputs + n .divisors)
   arranged-source h = record {
-    slots = shape .slots;
+    room = limited-room n within;
     free = omega (arith, within .narrow);
-    cubes = within .cubes;
     order = ap (all ordered) (sym (nodes-held n)) ∙ arranged-parts n a .1;
   }
 

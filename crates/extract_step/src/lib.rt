@@ -7,18 +7,20 @@ use network::Network;
 ghost use mathlib.Core.Path.{_≡_};
 ghost use mathlib.Core.Bool.{true};
 ghost use mathlib.Core.List.{[], map};
-ghost use Prim.Native.Nat.{_+_, _<_, _≤_};
+ghost use Prim.Native.Nat.{_+_, _*_, _<_, _≤_};
 ghost use lib.ListN.{length, replicate};
-ghost use Rattle.cube.specs.Cube.{lits};
-ghost use Rattle.expression.specs.Words.{cubesOf};
+ghost use Rattle.cube.specs.Cube.{width, lits};
+ghost use Rattle.expression.specs.Words.{cubesOf, Appends};
 ghost use Rattle.expression.specs.Expression.{ordered};
+ghost use Rattle.network.specs.Held.{mostVariables};
+ghost use Rattle.network.specs.Handed.{nodeSlots, wordSlots, LaidNodes};
 ghost use Rattle.network.specs.Parts.{nodesOf, heldIn, netAt};
 ghost use Rattle.extract_laws.specs.Divisor.{own, part, hit, gone, rewrite};
 ghost use Rattle.extract_laws.specs.Run.{roomFor};
 ghost use Rattle.extract_divisor.specs.Divisor.{divisorOf};
 ghost use Rattle.extract_fit.specs.Fitness.{fitting};
 ghost use Rattle.extract_step.specs.Replace.{allowed, Zeros, Stepped, outcome};
-ghost use Rattle.extract_step.specs.Parts.{fate, fateOf, become, Appends, LaidNodes, SourceNodes};
+ghost use Rattle.extract_step.specs.Parts.{fate, fateOf, become, Fitted, SourceNodes};
 
 pub enum Outcome {
     Made,
@@ -80,7 +82,7 @@ fn is_gone(f: &[u64], d: Divisor, c: Cube) -> bool
 
 // The part that a use is named by.
 fn part_of(d: Divisor) -> Cube
-    requires { ⌜ fitting 64 (divisorOf d) ≡ true ⌝ }
+    requires { ⌜ fitting width (divisorOf d) ≡ true ⌝ }
     ensures { λ r. ⌜ lits r ≡ part (divisorOf d) ⌝ }
 {
     match d {
@@ -91,7 +93,7 @@ fn part_of(d: Divisor) -> Cube
 
 // A use's cube takes the literal x in place of the part, the other cube of a use goes, and any other cube stays.
 fn remake(f: &[u64], d: Divisor, x: Literal, c: Cube) -> Fate
-    requires { ⌜ (ordered (cubesOf (now f)) ≡ true) × (fitting 64 (divisorOf d) ≡ true) × (x .0 < 128) ⌝ }
+    requires { ⌜ (ordered (cubesOf (now f)) ≡ true) × Fitted d x ⌝ }
     ensures { λ r. ⌜ fateOf r ≡ fate (x .0) (divisorOf d) (cubesOf (now (f .entry))) (lits c) ⌝ }
 {
     if is_hit(f, d, c) {
@@ -105,8 +107,8 @@ fn remake(f: &[u64], d: Divisor, x: Literal, c: Cube) -> Fate
 
 // What the cubes of f become, from place `at` on; the place after them.
 fn write_node(f: &[u64], d: Divisor, x: Literal, out: &mut [u64], at: usize) -> usize
-    requires { ⌜ (ordered (cubesOf (now f)) ≡ true) × (fitting 64 (divisorOf d) ≡ true) × (x .0 < 128) × (at + length (cubesOf (now f)) ≤ 1088) ⌝ }
-    ensures { λ r. ⌜ Appends (now (out .entry)) (now (out .exit)) at r (become (fate (x .0) (divisorOf d) (cubesOf (now (f .entry)))) (cubesOf (now (f .entry)))) ⌝ }
+    requires { ⌜ (ordered (cubesOf (now f)) ≡ true) × Fitted d x ⌝ ∗ ⌜ at + length (cubesOf (now f)) ≤ length (cubesOf (now out)) ⌝ }
+    ensures { λ r. ⌜ Appends (now (out .entry)) (now (out .exit)) at (become (fate (x .0) (divisorOf d) (cubesOf (now (f .entry)))) (cubesOf (now (f .entry)))) r ⌝ }
 {
     let n = expression::number(f);
     let mut to = at;
@@ -125,8 +127,8 @@ fn write_node(f: &[u64], d: Divisor, x: Literal, out: &mut [u64], at: usize) -> 
 
 // The same, in cube order.
 fn put_node(f: &[u64], d: Divisor, x: Literal, out: &mut [u64], at: usize) -> usize
-    requires { ⌜ (ordered (cubesOf (now f)) ≡ true) × (fitting 64 (divisorOf d) ≡ true) × (x .0 < 128) × (at + length (cubesOf (now f)) ≤ 1088) ⌝ }
-    ensures { λ r. ⌜ Appends (now (out .entry)) (now (out .exit)) at r (rewrite (x .0) (divisorOf d) (cubesOf (now (f .entry)))) ⌝ }
+    requires { ⌜ (ordered (cubesOf (now f)) ≡ true) × Fitted d x ⌝ ∗ ⌜ at + length (cubesOf (now f)) ≤ length (cubesOf (now out)) ⌝ }
+    ensures { λ r. ⌜ Appends (now (out .entry)) (now (out .exit)) at (rewrite (x .0) (divisorOf d) (cubesOf (now (f .entry)))) r ⌝ }
 {
     let to = write_node(f, d, x, out, at);
     expression_sort::sort_part(out, at, to);
@@ -143,18 +145,15 @@ fn put_nodes(
     out: &mut [u64],
     sizes: &mut [usize],
 ) -> usize
-    requires { ⌜ SourceNodes (now words) (now counts) e × (fitting 64 (divisorOf d) ≡ true) × (x .0 < 128) ⌝ ∗ ⌜ (now out ≡ replicate 2176 0) × (now sizes ≡ replicate 96 0) ⌝ }
+    requires { ⌜ SourceNodes (now words) (now counts) e × Fitted d x ⌝ ∗ ⌜ (now out ≡ replicate wordSlots 0) × (now sizes ≡ replicate nodeSlots 0) ⌝ }
     ensures { λ r. ⌜ LaidNodes (now (out .exit)) (now (sizes .exit)) r (map (rewrite (x .0) (divisorOf d)) (nodesOf e (now (counts .entry)) (now (words .entry)))) ⌝ }
 {
-    let mut at = 0;
     let mut to = 0;
     let mut i = 0;
     while i < e {
-        let n = counts[i];
-        let next = put_node(expression::part(words, at, at + n), d, x, out, to);
+        let next = put_node(network_nodes::node(words, counts, i), d, x, out, to);
         sizes[i] = next - to;
         to = next;
-        at += n;
         i += 1;
     }
     to
@@ -172,8 +171,8 @@ fn own_size(d: Divisor) -> usize
 
 // The divisor's own cubes, from place `at` on; the place after them.
 fn put_own(d: Divisor, out: &mut [u64], at: usize) -> usize
-    requires { ⌜ (fitting 64 (divisorOf d) ≡ true) × (at + length (own (divisorOf d)) ≤ 1088) ⌝ }
-    ensures { λ r. ⌜ Appends (now (out .entry)) (now (out .exit)) at r (own (divisorOf d)) ⌝ }
+    requires { ⌜ (fitting width (divisorOf d) ≡ true) × (at + length (own (divisorOf d)) ≤ length (cubesOf (now out))) ⌝ }
+    ensures { λ r. ⌜ Appends (now (out .entry)) (now (out .exit)) at (own (divisorOf d)) r ⌝ }
 {
     expression::put_cube(out, at, part_of(d));
     let next = at + 1;
@@ -200,7 +199,7 @@ fn refused(outcome: Outcome) -> Next
 
 // The step, where a number is free: the new literal is the plain one of the next free number.
 fn made(words: &[u64], counts: &[usize], n: usize, m: usize, k: usize, d: Divisor) -> Next
-    requires { ⌜ SourceNodes (now words) (now counts) (m + k) × (n + k < 64) × (fitting 64 (divisorOf d) ≡ true) ⌝ }
+    requires { ⌜ SourceNodes (now words) (now counts) (m + k) × (n + k < mostVariables) × (fitting width (divisorOf d) ≡ true) ⌝ }
     ensures { λ r. ⌜ Stepped (heldIn n m k (now (counts .entry)) (now (words .entry))) (allowed (netAt n m k (now (counts .entry)) (now (words .entry))) (roomFor (netAt n m k (now (counts .entry)) (now (words .entry))) (divisorOf d))) r ⌝ }
 {
     let mut out = [0u64; network::WORDS];

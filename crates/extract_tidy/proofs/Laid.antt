@@ -1,6 +1,6 @@
 -- Nodes put in cube order one after the other are those of the network in cube order. Assumes nothing.
 use Prim.Native.Nat.{ℕ, zero, suc, _+_, _-_, _<_, _≤_}
-use mathlib.Core.Path.{_≡_, refl, sym, ap, _∙_}
+use mathlib.Core.Path.{_≡_, refl, sym, ap, _∙_, subst}
 use mathlib.Core.Bool.{true}
 use mathlib.Core.List.{List, [], _∷_, map}
 use native.Mathlib.Omega.{arith}
@@ -41,7 +41,7 @@ take-map g (suc i) [] = refl
 take-map g (suc i) (x ∷ l) = ap (g x ∷_) (take-map g i l)
 
 -- all places are there
-laid-places : {ws sizes : List ℕ} {at : ℕ} {gs : List (List (List ℕ))} → LaidNodes ws sizes at gs → at ≤ cubeSlots → length (cubesOf ws) ≡ cubeSlots
+pub laid-places : {ws sizes : List ℕ} {at : ℕ} {gs : List (List (List ℕ))} → LaidNodes ws sizes at gs → at ≤ cubeSlots → length (cubesOf ws) ≡ cubeSlots
 laid-places {at = at} {gs} l h = omega (
   arith,
   l .place,
@@ -65,6 +65,9 @@ module _ (op : List (List ℕ) → List (List ℕ)) (fewer : (f : List (List ℕ
 
   many : length fs ≡ e
   many = length-map ns op ∙ kept
+
+  pub nodes-few : total length fs ≤ cubeSlots
+  nodes-few = omega (arith, total-map length op ns, total-le (λ g. length (op g)) length ns (λ g m. fewer g), r .cubes)
 
   module _ {ws sizes : List ℕ} {at i : ℕ} (l : LaidNodes ws sizes at (take i fs)) where
     pub nodes-laid : e ≤ i → LaidNodes ws sizes at fs
@@ -92,10 +95,11 @@ module _ (op : List (List ℕ) → List (List ℕ)) (fewer : (f : List (List ℕ
       node-fits = omega (arith, before, laid-places l (omega (arith, before)))
 
       -- one node more
-      pub node-laid : {next : List ℕ} {n : ℕ} → n ≡ length (op f) → Placed ws next at (op f) → LaidNodes next (set sizes i n) (at + n) (take (i + 1) fs)
-      node-laid k p =
-          laid-more {i = i} fs l (omega (arith, many)) (omega (arith, many, r .slots))
-          (ap op node-was ∙ sym (getD-map op ns i [] [] (omega (arith, kept)))) k p
+      pub node-laid : {next : List ℕ} {n t : ℕ} → n ≡ length (op f) → at + n ≡ t → Placed ws next at (op f) → LaidNodes next (set sizes i n) t (take (i + 1) fs)
+      node-laid {next} {n} k e p =
+          subst (λ z. LaidNodes next (set sizes i n) z (take (i + 1) fs)) e
+          (laid-more {i = i} fs l (omega (arith, many)) (omega (arith, many, r .slots))
+          (ap op node-was ∙ sym (getD-map op ns i [] [] (omega (arith, kept)))) k p)
 
 -- a node copied and put in cube order
 pub sorted-copy : {ws mid next : List ℕ} {at n : ℕ} (f : List (List ℕ)) → n ≡ length f → at + length f ≤ length (cubesOf ws)

@@ -72,7 +72,13 @@ pub fn in_order(n: Network) -> Handed
     let counts = n.counts;
     let mut out = [0u64; network::WORDS];
     let mut sizes = [0usize; network::NODES];
-    lay_nodes(&words, &counts, n.outputs + n.divisors, &mut out, &mut sizes);
+    lay_nodes(
+        &words,
+        &counts,
+        n.outputs + n.divisors,
+        &mut out,
+        &mut sizes,
+    );
     network::hand(Network {
         inputs: n.inputs,
         outputs: n.outputs,

@@ -1,21 +1,21 @@
 -- `extract_step::made` meets its contract: the nodes are laid rewritten, and the divisor's own after them where there is room. Assumes nothing.
 use Prim.Native.Nat.{ℕ, _+_, _-_, _*_, _≤_}
-use mathlib.Core.Path.{_≡_, refl, ap, _∙_, subst}
+use mathlib.Core.Path.{_≡_, refl, sym, ap, _∙_, subst}
 use mathlib.Core.List.{map}
 use native.Mathlib.Omega.{arith}
 use lib.ListN.{set, length-map}
 use Rattle.expression.specs.Answers.{capped}
 use Rattle.network.specs.Net.{nodes, cubeCount, literalCount}
 use Rattle.network.specs.Held.{mostCubes}
+use Rattle.network.specs.Handed.{cubeSlots, LaidNodes}
 use Rattle.network.specs.Parts.{nodesOf, netAt}
+use Rattle.extract_tidy.proofs.Laid.{laid-places, nodes-few}
+use Rattle.extract_step.proofs.Becoming.{rewrite-length}
 use Rattle.extract_laws.specs.Divisor.{rewrite}
 use Rattle.extract_laws.specs.Extract.{step}
 use Rattle.extract_divisor.specs.Divisor.{divisorOf}
 use Rattle.extract_step.specs.Replace.{allowed}
-use Rattle.extract_step.specs.Parts.{LaidNodes}
-use Rattle.extract_step.proofs.Filling.{laid-next}
-use Rattle.extract_step.proofs.Walking.{many}
-use Rattle.extract_step.proofs.Answering.{laid-nodes, laid-count, laid-literals, laid-holds, next, room-rows, room-literals, room-over, room-made, stepped-as}
+use Rattle.extract_step.proofs.Answering.{laid-nodes, laid-count, laid-literals, step-laid, step-held, next, room-rows, room-literals, room-over, room-made, stepped-as}
 use borrow.Author.Needs.{needs}
 use Rattle.extract_step.proofs.made.Statement.{statement}
 use Rattle.extract_step.proofs.made.Tie as tie
@@ -33,6 +33,13 @@ laid c =
     let p = c .before .before .before in
     let a = start p .args in
     subst (λ (x : ℕ). LaidNodes (c .put-nodes .last .1 .1 .1 .1 .1 .0) (c .put-nodes .last .1 .1 .1 .1 .1 .1 .0) (c .put-nodes .result) (map (rewrite x (divisorOf (a .d))) (nodesOf (a .m + a .k) (a .counts .now) (a .words .now)))) (literal p) (c .put-nodes .ensures)
+
+-- no more cubes than there are places
+below : (c : tie.After-put-nodes) → c .put-nodes .result ≤ cubeSlots
+below c =
+    let s = start (c .before .before .before) in
+    let a = s .args in
+    omega (arith, laid c .place, nodes-few (rewrite (2 * (a .n + a .k)) (divisorOf (a .d))) (rewrite-length (2 * (a .n + a .k)) (divisorOf (a .d))) (s .pre .0 .room))
 
 add-v : tie.Need-add-v
 add-v c = search needs
@@ -55,13 +62,13 @@ slice-aggregate-put-nodes-2 c = search needs
 put-nodes-requires : tie.Need-put-nodes-requires
 put-nodes-requires c κs =
     let s = start (c .before .before) in
-    ((s .pre .0, s .pre .2, omega (arith, literal (c .before .before), s .pre .1)), (refl, refl))
+    ((s .pre .0, record { divisor = s .pre .2; literal = omega (arith, literal (c .before .before), s .pre .1) }), (refl, refl))
 
 own-size-requires : tie.Need-own-size-requires
 own-size-requires c κs = search needs
 
 sub-if1 : tie.Need-sub-if1
-sub-if1 c = search needs
+sub-if1 c = omega (arith, below (c .before .before .before))
 
 refused-requires : tie.Need-refused-requires
 refused-requires c κs = search needs
@@ -87,16 +94,13 @@ whole : (w : tie.After-put-own) → let a = begun w .args in
 whole w =
     let s = begun w in
     let a = s .args in
-    let fs = nodesOf (a .m + a .k) (a .counts .now) (a .words .now) in
-    let d = divisorOf (a .d) in
-    subst (LaidNodes _ _ _) (laid-nodes (a .n) (a .m) (a .k) (a .words .now) (a .counts .now) (s .pre .0) d)
-    (laid-next (laid (first w)) (length-map fs (rewrite (2 * (a .n + a .k)) d) ∙ many (s .pre .0)) (s .pre .0 .free) (w .put-own .ensures))
+    step-laid (a .n) (a .m) (a .k) (a .words .now) (a .counts .now) (s .pre .0) (divisorOf (a .d)) (laid (first w)) (w .put-own .ensures)
 
 rows : (w : tie.After-put-own) → let a = begun w .args in cubeCount (step (netAt (a .n) (a .m) (a .k) (a .counts .now) (a .words .now)) (divisorOf (a .d))) ≤ mostCubes
 rows w =
     let s = begun w in
     let a = s .args in
-    omega (arith, laid-count (a .n) (a .m) (a .k) (a .words .now) (a .counts .now) (s .pre .0) (divisorOf (a .d)) (laid (first w)), w .before .before .before .own-size .ensures, laid (first w) .front .few)
+    omega (arith, laid-count (a .n) (a .m) (a .k) (a .words .now) (a .counts .now) (s .pre .0) (divisorOf (a .d)) (laid (first w)), w .before .before .before .own-size .ensures, below (first w))
 
 counted : (c : tie.After-literals) → let a = begun (c .before .before .before .before) .args in c .literals .result ≡ capped (literalCount (step (netAt (a .n) (a .m) (a .k) (a .counts .now) (a .words .now)) (divisorOf (a .d))))
 counted c =
@@ -108,7 +112,10 @@ slice-aggregate-put-own : tie.Need-slice-aggregate-put-own
 slice-aggregate-put-own c = search needs
 
 put-own-requires : tie.Need-put-own-requires
-put-own-requires c κs = search needs
+put-own-requires c κs =
+    let p = c .before .before .before .before .before in
+    let s = start (p .before .before .before) in
+    (s .pre .2, omega (arith, below p, laid-places (laid p) (below p), c .before .before .own-size .ensures))
 
 slice-aggregate-part : tie.Need-slice-aggregate-part
 slice-aggregate-part c = search needs
@@ -154,7 +161,7 @@ returns-3 c =
     stepped-as _ _ (room-made (a .n) (a .m) (a .k) (a .words .now) (a .counts .now) (s .pre .0) (divisorOf (a .d)) (s .pre .1) (rows w) _ (counted l) (c .if2 .left)) (
       refl,
       record {
-        held = laid-holds (a .n) (a .m) (a .k) (a .words .now) (a .counts .now) (s .pre .0) (divisorOf (a .d)) (whole w);
+        held = step-held (a .n) (a .m) (a .k) (a .words .now) (a .counts .now) (s .pre .0) (divisorOf (a .d)) (whole w);
         number = omega (arith, next (a .n) (a .m) (a .k) (a .words .now) (a .counts .now) (s .pre .0), s .pre .1);
         literals = room-literals (a .n) (a .m) (a .k) (a .words .now) (a .counts .now) (s .pre .0) (divisorOf (a .d)) (s .pre .1) (rows w) _ (counted l) (c .if2 .left);
       },

@@ -1,77 +1,90 @@
--- `extract_step::put_nodes` meets its contract. The loop's invariant: the nodes passed stand rewritten one after the other, in no more places than before. Assumes nothing.
-use Prim.Native.Nat.{ℕ, _-_, _<_, _≤_}
+-- `extract_step::put_nodes` meets its contract. The loop's invariant: the nodes passed stand rewritten one after the other. Assumes nothing.
+use Prim.Native.Nat.{ℕ, _+_, _-_, _≤_}
 use mathlib.Core.Path.{_≡_, refl, sym, ap, subst}
+use mathlib.Core.Bool.{true}
 use mathlib.Core.List.{List, [], map}
 use native.Mathlib.Omega.{arith}
 use lib.ListN.{length, getD, take}
-use lib.Seq.{take-all}
+use Rattle.sets.proofs.Lists.{all-out}
+use Rattle.sets.proofs.Places.{at-in}
 use Rattle.expression.specs.Words.{cubesOf}
+use Rattle.expression.specs.Expression.{ordered}
+use Rattle.network.specs.Handed.{LaidNodes}
 use Rattle.network.specs.Parts.{nodesOf}
-use Rattle.network_nodes.specs.Nodes.{countBefore}
-use Rattle.network_nodes.proofs.Starting.{start-next}
+use Rattle.network.proofs.Laying.{laid-none}
+use Rattle.network.proofs.Parts.{nodes-length, nodes-at}
+use Rattle.network_nodes.specs.Nodes.{cut}
 use Rattle.extract_laws.specs.Divisor.{rewrite}
+use Rattle.extract_tidy.proofs.Laid.{nodes-laid, node-fits, node-laid}
 use Rattle.extract_divisor.specs.Divisor.{divisorOf}
-use Rattle.extract_step.specs.Parts.{LaidNodes, SourceNodes}
+use Rattle.extract_step.specs.Parts.{SourceNodes}
 use Rattle.extract_step.proofs.Becoming.{rewrite-length}
-use Rattle.extract_step.proofs.Filling.{laid-none, adds-as}
-use Rattle.extract_step.proofs.Walking.{many, node-inside, node-is, node-few, node-ordered, laid-more}
 use borrow.Author.Needs.{needs}
 use Rattle.extract_step.proofs.put_nodes.Statement.{statement}
 use Rattle.extract_step.proofs.put_nodes.Tie as tie
 
 abbrev Inv-loop : tie.InvT-loop
-Inv-loop words counts e d x out₀ sizes₀ at₀ to₀ i₀ out sizes at to i =
-    (i ≤ e) × (at ≡ countBefore i counts) × (to ≤ at) × LaidNodes out sizes to (map (rewrite (x .0) (divisorOf d)) (take i (nodesOf e counts words))) × (length out ≡ length out₀) × (length sizes ≡ length sizes₀)
+Inv-loop words counts e d x out₀ sizes₀ to₀ i₀ out sizes to i =
+    (i ≤ e) × LaidNodes out sizes to (take i (map (rewrite (x .0) (divisorOf d)) (nodesOf e counts words)))
+    × (length out ≡ length out₀) × (length sizes ≡ length sizes₀)
 
 abbrev μ-loop : tie.MeasureT-loop
-μ-loop words counts e d x out₀ sizes₀ at₀ to₀ i₀ out sizes at to i = e - i
+μ-loop words counts e d x out₀ sizes₀ to₀ i₀ out sizes to i = e - i
 
-abbrev start : tie.At-loop Inv-loop μ-loop → tie.Start Inv-loop μ-loop
+-- ---- the states of the walk
+
+abbrev Loop : Type 0
+Loop = tie.At-loop Inv-loop μ-loop
+
+abbrev start : Loop → tie.Start Inv-loop μ-loop
 start l = l .before .before .before .before .before
 
-abbrev held : tie.At-loop Inv-loop μ-loop → List (List (List ℕ))
-held l = nodesOf (start l .args .e) (start l .args .counts .now) (start l .args .words .now)
+abbrev head : tie.After-node Inv-loop μ-loop → Loop
+head c = c .before .before
 
-source : (l : tie.At-loop Inv-loop μ-loop) → SourceNodes (start l .args .words .now) (start l .args .counts .now) (start l .args .e)
+abbrev put : tie.After-slice-known3 Inv-loop μ-loop → tie.After-put-node Inv-loop μ-loop
+put c = c .before .before
+
+abbrev at : tie.After-slice-known3 Inv-loop μ-loop → tie.After-node Inv-loop μ-loop
+at c = put c .before .before
+
+-- ---- what holds there
+
+abbrev changed : Loop → List (List ℕ) → List (List ℕ)
+changed l = rewrite (start l .args .x .0) (divisorOf (start l .args .d))
+
+fewer : (l : Loop) (f : List (List ℕ)) → length (changed l f) ≤ length f
+fewer l f = rewrite-length (start l .args .x .0) (divisorOf (start l .args .d)) f
+
+source : (l : Loop) → SourceNodes (start l .args .words .now) (start l .args .counts .now) (start l .args .e)
 source l = start l .pre .0 .0
 
--- the cubes of node i
-node : (c : tie.After-part Inv-loop μ-loop) → let l = c .before .before .before in cubesOf (c .part .result .now) ≡ getD (held l) (l .loop .i) []
-node c =
-    let l = c .before .before .before in
-    node-is (source l) (omega arith) (l .loop .inv .1) (c .part .ensures .0)
+-- there is room for the node as it was
+fits : (c : tie.After-node Inv-loop μ-loop) → head c .loop .to + length (cubesOf (c .node .result .now)) ≤ length (cubesOf (head c .loop .out))
+fits c = let l = head c in node-fits (changed l) (fewer l) (source l .room) {i = l .loop .i} (l .loop .inv .1) (omega arith) (c .node .ensures .0)
+
+-- which stands in cube order
+node-ordered : (c : tie.After-node Inv-loop μ-loop) → ordered (cubesOf (c .node .result .now)) ≡ true
+node-ordered c =
+    let l = head c in
+    let a = start l .args in
+    rw (c .node .ensures .0, sym (nodes-at (a .counts .now) (a .words .now) (a .e) (l .loop .i) (omega arith)))
+    (all-out ordered (at-in (nodesOf (a .e) (a .counts .now) (a .words .now)) (l .loop .i) [] (omega (arith, nodes-length (a .counts .now) (a .words .now) (a .e) (source l .room .counted)))) (source l .order))
 
 loop-holds : tie.Need-loop-holds Inv-loop μ-loop
 loop-holds c =
-    let s = c .before .before .before .before in
-    (omega arith, refl, omega arith, subst (λ ws. LaidNodes ws (s .args .sizes .now) 0 []) (sym (s .pre .1 .0)) (subst (λ ws. LaidNodes _ ws 0 []) (sym (s .pre .1 .1)) laid-none), refl, refl)
+    let s = c .before .before .before .before in (
+      omega arith,
+      subst (λ ws. LaidNodes ws (s .args .sizes .now) 0 []) (sym (s .pre .1 .0)) (subst (λ ws. LaidNodes _ ws 0 []) (sym (s .pre .1 .1)) laid-none),
+      refl,
+      refl,
+    )
 
-mul-n : tie.Need-mul-n Inv-loop μ-loop
-mul-n c = search needs
-
-shared-slice-read-n : tie.Need-shared-slice-read-n Inv-loop μ-loop
-shared-slice-read-n c = search needs
-
-add-part : tie.Need-add-part Inv-loop μ-loop
-add-part c =
-    let l = c .before .before in
-    let k : l .loop .i < start l .args .e = omega arith in
-    record { fits = omega (arith, node-inside (source l) k, l .loop .inv .1) }
-
-part-requires : tie.Need-part-requires Inv-loop μ-loop
-part-requires c κs = search needs
+node-requires : tie.Need-node-requires Inv-loop μ-loop
+node-requires c κs = search needs
 
 put-node-requires : tie.Need-put-node-requires Inv-loop μ-loop
-put-node-requires c κs =
-    let p = c .before in
-    let l = p .before .before .before in
-    let s = start l in
-    let k : l .loop .i < s .args .e = omega arith in (
-      rw (node p) (node-ordered (source l) k),
-      s .pre .0 .1,
-      s .pre .0 .2,
-      omega (arith, ap length (node p), node-few (source l) k, node-inside (source l) k, l .loop .inv .1),
-    )
+put-node-requires c κs = let n = c .before in ((node-ordered n, start (head n) .pre .0 .1), fits n)
 
 sub-sizes : tie.Need-sub-sizes Inv-loop μ-loop
 sub-sizes c = search needs
@@ -80,15 +93,7 @@ mul-sizes : tie.Need-mul-sizes Inv-loop μ-loop
 mul-sizes c = search needs
 
 slice-write-sizes : tie.Need-slice-write-sizes Inv-loop μ-loop
-slice-write-sizes c =
-    let l = c .before .before .before .before .before .before .before in
-    omega (arith, source l .free, l .loop .inv .5, ap length (start l .pre .1 .1))
-
-add-at : tie.Need-add-at Inv-loop μ-loop
-add-at c =
-    let l = c .before .before .before .before .before .before .before in
-    let k : l .loop .i < start l .args .e = omega arith in
-    record { fits = omega (arith, node-inside (source l) k, l .loop .inv .1) }
+slice-write-sizes c = let l = head (at c) in omega (arith, source l .free, l .loop .inv .3, ap length (start l .pre .1 .1))
 
 add-i : tie.Need-add-i Inv-loop μ-loop
 add-i c = search needs
@@ -98,30 +103,26 @@ loop-less c = search needs
 
 loop-again : tie.Need-loop-again Inv-loop μ-loop
 loop-again c =
-    let w = c .before .before in
-    let p = w .before .before in
-    let l = p .before .before .before in
-    let s = start l in
-    let k : l .loop .i < s .args .e = omega arith in
-    let done = adds-as (ap (rewrite (s .args .x .0) (divisorOf (s .args .d))) (node p)) (w .put-node .ensures) in (
+    let w = put c .put-node .ensures in
+    let n = at c in
+    let l = head n in
+    let t = put c .put-node .result in
+    let k : t - l .loop .to ≡ length (changed l (cubesOf (n .node .result .now))) = omega (arith, w .next) in
+    let e : l .loop .to + (t - l .loop .to) ≡ t = omega (arith, w .next) in (
       omega arith,
-      start-next (s .args .counts .now) (l .loop .i) (l .loop .at) (omega (arith, source l .slots, source l .free)) (l .loop .inv .1),
-      omega (arith, done .number, rewrite-length (s .args .x .0) (divisorOf (s .args .d)) (getD (held l) (l .loop .i) []), node-few (source l) k),
-      laid-more (source l) k (s .args .x .0) (divisorOf (s .args .d)) (l .loop .inv .3) done,
+      node-laid (changed l) (fewer l) (source l .room) {i = l .loop .i} (l .loop .inv .1) (omega arith) (n .node .ensures .0) k e (w .placed),
       search needs,
       search needs,
     )
 
 same-length : tie.Need-same-length Inv-loop μ-loop
-same-length c = c .before .loop .inv .4
+same-length c = c .before .loop .inv .2
 
 same-length-2 : tie.Need-same-length-2 Inv-loop μ-loop
-same-length-2 c = c .before .loop .inv .5
+same-length-2 c = c .before .loop .inv .3
 
 returns : tie.Need-returns Inv-loop μ-loop
-returns c =
-    let l = c .before in
-    subst (λ fs. LaidNodes (l .loop .out) (l .loop .sizes) (l .loop .to) (map (rewrite (start l .args .x .0) (divisorOf (start l .args .d))) fs)) (take-all (l .loop .i) (held l) (omega (arith, many (source l)))) (l .loop .inv .3)
+returns c = let l = c .before in nodes-laid (changed l) (fewer l) (source l .room) {i = l .loop .i} (l .loop .inv .1) (omega arith)
 
 pub put-nodes-spec : {M : Type 1} → statement M
 put-nodes-spec =
@@ -130,15 +131,11 @@ put-nodes-spec =
     Inv-loop
     μ-loop
     loop-holds
-    mul-n
-    shared-slice-read-n
-    add-part
-    part-requires
+    node-requires
     put-node-requires
     sub-sizes
     mul-sizes
     slice-write-sizes
-    add-at
     add-i
     loop-less
     loop-again

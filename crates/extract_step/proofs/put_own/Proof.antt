@@ -1,4 +1,5 @@
 -- `extract_step::put_own` meets its contract: the part, and after it the other part of a sum. Assumes nothing.
+use Prim.Native.Nat.{_≤_}
 use mathlib.Core.Path.{sym, ap, _∙_}
 use mathlib.Core.List.{[], _∷_}
 use native.Mathlib.Omega.{arith}
@@ -6,10 +7,18 @@ use lib.ListN.{length}
 use Rattle.cube.specs.Cube.{lits}
 use Rattle.extract_laws.specs.Divisor.{own, part}
 use Rattle.extract_divisor.specs.Divisor.{divisorOf}
-use Rattle.extract_step.proofs.Filling.{adds-none, adds-as, adds-put}
+use Rattle.extract_divisor.specs.declared.Divisor.{Divisor}
+use Rattle.extract_divisor.specs.declared.Divisor.the-variants.{Pair, Sum}
+use Rattle.expression.proofs.Words.{cubes-few}
+use Rattle.expression.proofs.Placing.{appends-none, appends-as, appends-put}
 use borrow.Author.Needs.{needs}
 use Rattle.extract_step.proofs.put_own.Statement.{statement}
 use Rattle.extract_step.proofs.put_own.Tie as tie
+
+-- one cube at least
+own-some : (d : Divisor) → 1 ≤ length (own (divisorOf d))
+own-some (Pair p q) = omega arith
+own-some (Sum a e) = omega arith
 
 part-of-requires : tie.Need-part-of-requires
 part-of-requires c κs = search needs
@@ -18,7 +27,7 @@ put-cube-requires : tie.Need-put-cube-requires
 put-cube-requires c κs = search needs
 
 add-next : tie.Need-add-next
-add-next c = search needs
+add-next c = let s = c .before .before .before .before .before .before in record { fits = omega (arith, s .pre .1, own-some (s .args .d), cubes-few (s .args .out .now)) }
 
 enum-told : tie.Need-enum-told
 enum-told c = search needs
@@ -30,7 +39,10 @@ put-cube-requires-2 : tie.Need-put-cube-requires-2
 put-cube-requires-2 c κs = search needs
 
 add-result : tie.Need-add-result
-add-result c = search needs
+add-result c =
+    let t = c .before .before .before .before .before in
+    let s = t .before .before .before .before .before .before .before .before in
+    record { fits = omega (arith, s .pre .1, ap (λ d. length (own (divisorOf d))) (t .d .given .1), cubes-few (s .args .out .now)) }
 
 same-length : tie.Need-same-length
 same-length c = search needs
@@ -40,8 +52,8 @@ returns c =
     let e = c .enum-told .given .1 in
     let p = c .before .before .before .before in
     let s = p .before .before .before .before in
-    adds-as (ap (_∷ []) (p .before .part-of .ensures ∙ ap (λ d. part (divisorOf d)) e) ∙ sym (ap (λ d. own (divisorOf d)) e))
-    (adds-put (adds-none _ _) (omega (arith, s .pre .1, ap (λ d. length (own (divisorOf d))) e)) (p .put-cube .ensures))
+    appends-as (ap (_∷ []) (p .before .part-of .ensures ∙ ap (λ d. part (divisorOf d)) e) ∙ sym (ap (λ d. own (divisorOf d)) e))
+    (appends-put (appends-none _ _) (omega (arith, s .pre .1, ap (λ d. length (own (divisorOf d))) e)) (p .put-cube .ensures))
 
 same-length-2 : tie.Need-same-length-2
 same-length-2 c = search needs
@@ -54,8 +66,8 @@ returns-2 c =
     let p = t .before .before .before .before in
     let s = p .before .before .before .before in
     let n = ap (λ d. length (own (divisorOf d))) e in
-    adds-as (ap (_∷ lits (t .d .given .0 .1 .0) ∷ []) (p .before .part-of .ensures ∙ ap (λ d. part (divisorOf d)) e) ∙ sym (ap (λ d. own (divisorOf d)) e))
-    (adds-put (adds-put (adds-none _ _) (omega (arith, s .pre .1, n)) (p .put-cube .ensures)) (omega (arith, s .pre .1, n)) (q .put-cube2 .ensures))
+    appends-as (ap (_∷ lits (t .d .given .0 .1 .0) ∷ []) (p .before .part-of .ensures ∙ ap (λ d. part (divisorOf d)) e) ∙ sym (ap (λ d. own (divisorOf d)) e))
+    (appends-put (appends-put (appends-none _ _) (omega (arith, s .pre .1, n)) (p .put-cube .ensures)) (omega (arith, s .pre .1, n)) (q .put-cube2 .ensures))
 
 pub put-own-spec : {M : Type 1} → statement M
 put-own-spec =

@@ -25,7 +25,7 @@ returns c =
     let p = c .before .before in
     let s = p .before .before .before .before in
     ap some (c .with .ensures ∙ ap (joined (s .args .x .0)) (c .before .without .ensures ∙ ap (without (lits (s .args .c))) (p .part-of .ensures)))
-    ∙ fate-use _ _ _ _ (sym (p .before .before .is-hit .ensures) ∙ p .before .if1 .taken) (s .pre .2)
+    ∙ fate-use _ _ _ _ (sym (p .before .before .is-hit .ensures) ∙ p .before .if1 .taken) (s .pre .1 .literal)
 
 is-gone-requires : tie.Need-is-gone-requires
 is-gone-requires c κs = search needs

@@ -6,18 +6,19 @@ use mathlib.Core.Option.{Option}
 use native.Mathlib.Omega.{arith}
 use lib.ListN.{length, getD, take}
 use lib.Seq.{take-all}
-use Rattle.expression.specs.Words.{cubesOf}
+use Rattle.expression.specs.Words.{cubesOf, Appends}
 use Rattle.extract_divisor.specs.Divisor.{divisorOf}
-use Rattle.extract_step.specs.Parts.{fate, fateOf, become, Appends}
+use Rattle.extract_step.specs.Parts.{fate, fateOf, become}
 use Rattle.extract_step.proofs.Becoming.{become-few, become-none, become-one}
-use Rattle.extract_step.proofs.Filling.{adds-none, adds-as, adds-put}
+use Rattle.expression.proofs.Words.{cubes-few}
+use Rattle.expression.proofs.Placing.{appends-none, appends-as, appends-put}
 use borrow.Author.Needs.{needs}
 use Rattle.extract_step.proofs.write_node.Statement.{statement}
 use Rattle.extract_step.proofs.write_node.Tie as tie
 
 abbrev Inv-loop : tie.InvT-loop
 Inv-loop f d x out₀ at n to₀ i₀ out to i =
-    (n ≡ length (cubesOf f)) × (i ≤ n) × Appends out₀ out at to (become (fate (x .0) (divisorOf d) (cubesOf f)) (take i (cubesOf f))) × (length out ≡ length out₀)
+    (n ≡ length (cubesOf f)) × (i ≤ n) × Appends out₀ out at (become (fate (x .0) (divisorOf d) (cubesOf f)) (take i (cubesOf f))) to × (length out ≡ length out₀)
 
 abbrev μ-loop : tie.MeasureT-loop
 μ-loop f d x out₀ at n to₀ i₀ out to i = n - i
@@ -33,7 +34,7 @@ fates l = fate (start l .args .x .0) (divisorOf (start l .args .d)) (cubes l)
 
 -- so far there are no more cubes than were passed
 below : (l : tie.At-loop Inv-loop μ-loop) → l .loop .to ≤ start l .args .at + l .loop .i
-below l = omega (arith, l .loop .inv .2 .number, become-few (fates l) (cubes l) (l .loop .i))
+below l = omega (arith, l .loop .inv .2 .next, become-few (fates l) (cubes l) (l .loop .i))
 
 -- what becomes of cube i
 told : (c : tie.After-remake Inv-loop μ-loop) → let l = c .before .before .before in fates l (getD (cubes l) (l .loop .i) []) ≡ fateOf (c .remake .result)
@@ -43,7 +44,7 @@ number-requires : tie.Need-number-requires Inv-loop μ-loop
 number-requires c κs = search needs
 
 loop-holds : tie.Need-loop-holds Inv-loop μ-loop
-loop-holds c = (c .number .ensures, omega arith, adds-none _ _, refl)
+loop-holds c = (c .number .ensures, omega arith, appends-none _ _, refl)
 
 cube-at-requires : tie.Need-cube-at-requires Inv-loop μ-loop
 cube-at-requires c κs = search needs
@@ -67,7 +68,7 @@ loop-again : tie.Need-loop-again Inv-loop μ-loop
 loop-again c =
     let r = c .before .before in
     let l = r .before .before .before in
-    (l .loop .inv .0, omega arith, adds-as (sym (become-none (fates l) (cubes l) (l .loop .i) [] (omega arith) (told r ∙ ap fateOf (c .enum-told .given .1)))) (l .loop .inv .2), l .loop .inv .3)
+    (l .loop .inv .0, omega arith, appends-as (sym (become-none (fates l) (cubes l) (l .loop .i) [] (omega arith) (told r ∙ ap fateOf (c .enum-told .given .1)))) (l .loop .inv .2), l .loop .inv .3)
 
 put-cube-requires : tie.Need-put-cube-requires Inv-loop μ-loop
 put-cube-requires c κs = search needs
@@ -75,7 +76,7 @@ put-cube-requires c κs = search needs
 add-to : tie.Need-add-to Inv-loop μ-loop
 add-to c =
     let l = c .before .before .before .before .before .before .before .before .before .before in
-    record { fits = omega (arith, below l) }
+    record { fits = omega (arith, below l, cubes-few (start l .args .out .now)) }
 
 loop-less-2 : tie.Need-loop-less-2 Inv-loop μ-loop
 loop-less-2 c = search needs
@@ -88,7 +89,7 @@ loop-again-2 c =
     let l = r .before .before .before in (
       l .loop .inv .0,
       omega arith,
-      adds-as (sym (become-one (fates l) (cubes l) (l .loop .i) [] (omega arith) _ (told r ∙ ap fateOf (t .t .given .1)))) (adds-put (l .loop .inv .2) (omega (arith, below l)) (p .put-cube .ensures)),
+      appends-as (sym (become-one (fates l) (cubes l) (l .loop .i) [] (omega arith) _ (told r ∙ ap fateOf (t .t .given .1)))) (appends-put (l .loop .inv .2) (omega (arith, below l)) (p .put-cube .ensures)),
       p .put-cube .kept .0 ∙ l .loop .inv .3,
     )
 
@@ -98,7 +99,7 @@ same-length c = c .before .loop .inv .3
 returns : tie.Need-returns Inv-loop μ-loop
 returns c =
     let l = c .before in
-    adds-as (ap (become (fates l)) (take-all (l .loop .i) (cubes l) (omega arith))) (l .loop .inv .2)
+    appends-as (ap (become (fates l)) (take-all (l .loop .i) (cubes l) (omega arith))) (l .loop .inv .2)
 
 pub write-node-spec : {M : Type 1} → statement M
 write-node-spec =

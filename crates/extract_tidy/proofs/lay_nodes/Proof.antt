@@ -105,8 +105,8 @@ loop-again c =
     let l = head n in
     let f = cubesOf (n .before .node .result .now) in (
       omega arith,
-      node-laid sort fewer (start l .pre .0) (l .loop .inv .1) (omega arith) (n .before .node .ensures .0) (n .number .ensures ∙ sym (sort-length f))
-      (sorted-copy f (n .number .ensures) (fits n) (p .copy .ensures) (s .sort-part .ensures)),
+      node-laid sort fewer (start l .pre .0) (l .loop .inv .1) (omega arith) (n .before .node .ensures .0) (n .number .ensures ∙ sym (sort-length f)) refl
+          (sorted-copy f (n .number .ensures) (fits n) (p .copy .ensures) (s .sort-part .ensures)),
       search needs,
       search needs,
     )
