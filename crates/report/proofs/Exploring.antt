@@ -27,8 +27,8 @@ use Rattle.extract.specs.declared.Steps.{Steps}
 use Rattle.extract.specs.declared.Ran.{Ran}
 use Rattle.table.specs.declared.Answer.the-variants.{Read}
 use Rattle.report.specs.Report.{ranText, runText}
-use Rattle.report.specs.Parts.{Falls, madeIn, runOf, Explored}
-use Rattle.report.proofs.Counting.{run-falls}
+use Rattle.report.specs.Parts.{Above, madeIn, runOf, Explored}
+use Rattle.report.proofs.Counting.{run-above}
 
 -- ---- a run on a struct that follows the rules
 
@@ -50,13 +50,6 @@ module _ (n : Network) (shape : Shaped n) (h : rules n ≡ true) where
   within : Within (netOf n)
   within = rules-within n shape h
 
-  -- the first divisor's number
-  pub first-number : n .inputs + n .divisors ≡ variables (netOf n)
-  first-number = omega (arith, rules-divisors n shape h)
-
-  pub first-few : n .inputs + n .divisors ≤ 64
-  first-few = omega (arith, first-number, within .variables)
-
   module _ (r : Ran) (t : extract.Told (runOn 64 n) r) where
     abbrev result : Result
     result = run 64 (netOf n)
@@ -74,7 +67,7 @@ module _ (n : Network) (shape : Shaped n) (h : rules n ≡ true) where
 
     -- what is found is what the definitions say
     pub explored : (start end : ℕ) (stop : Stop) → r .answer ≡ Stopped stop → start ≡ literalCount (netOf n) → end ≡ literalCount (result .network)
-        → Explored n (record { answer = Read; first = n .inputs + n .divisors; start = start; steps = r .steps; end = end; stop = stop })
+        → Explored n (record { answer = Read; start = start; steps = r .steps; end = end; stop = stop })
     unfolding runOf ranText
     explored start end stop a b e =
         let q = told .0 .1 in
@@ -83,9 +76,9 @@ module _ (n : Network) (shape : Shaped n) (h : rules n ≡ true) where
         let made = steps-are (r .steps) (result .steps) (told .2) in
         record {
           answer = refl;
-          text = λ i. runText (first-number i) (b i) (made i) (e i) (why i);
+          text = λ i. runText (b i) (made i) (e i) (why i);
           steady = record {
-            numbered = record { first = first-few; few = omega (arith, told .2 .number, run-few 64 (netOf n)) };
-            falls = subst (λ (l : List Made). Falls start l) (sym made) (subst (λ (k : ℕ). Falls k (result .steps)) (sym b) (run-falls 64 (netOf n) good (omega (arith, within .literals))));
+            few = omega (arith, told .2 .number, run-few 64 (netOf n));
+            above = subst (λ (l : List Made). Above l) (sym made) (run-above 64 (netOf n) good (omega (arith, within .literals)));
           };
         }

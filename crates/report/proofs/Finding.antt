@@ -17,8 +17,8 @@ use Rattle.table.specs.declared.Table.{Table}
 use Rattle.table.proofs.Telling.{told-refused}
 use Rattle.table.proofs.Keeping.{read-net, read-rules}
 use Rattle.report.specs.Report.{ranText, outcomeText, reportOf}
-use Rattle.report.specs.Parts.{Falls, foundText, Steady, Explored}
-use Rattle.report.specs.Parts.Falls.{none}
+use Rattle.report.specs.Parts.{Above, foundText, Steady, Explored}
+use Rattle.report.specs.Parts.Above.{none}
 use Rattle.report.specs.declared.Findings.{Findings}
 use Rattle.report.proofs.Lines.{found-read, found-refused}
 
@@ -27,12 +27,12 @@ use Rattle.report.proofs.Lines.{found-read, found-refused}
 module _ (t : List ℕ) (r : Table) (h : table.Told (readText t) r) where
   -- of a refused table nothing is to be written but the refusal
   pub found-refusal : (k : Refusal) → r .answer ≡ Refused k → (f : Findings)
-      → (f .answer ≡ r .answer) × (f .first ≡ 0) × (f .steps .count ≡ 0) → Steady f × (foundText f ≡ reportOf t)
+      → (f .answer ≡ r .answer) × (f .steps .count ≡ 0) → Steady (f .steps) × (foundText f ≡ reportOf t)
   unfolding reportOf outcomeText
   found-refusal k e f q = (
     record {
-      numbered = record { first = omega (arith, q .1); few = omega (arith, q .2) };
-      falls = subst (λ (i : ℕ). Falls (f .start) (map madeOf (take i (f .steps .list)))) (sym (q .2)) none;
+      few = omega (arith, q .1);
+      above = subst (λ (i : ℕ). Above (map madeOf (take i (f .steps .list)))) (sym (q .1)) none;
     },
     found-refused f k (q .0 ∙ e) ∙ sym (ap outcomeText (told-refused r (readText t) h k e)),
   )
@@ -41,7 +41,7 @@ module _ (t : List ℕ) (r : Table) (h : table.Told (readText t) r) where
     pub found-rules : rules (r .network) ≡ true
     found-rules = read-rules t r h e
 
-    pub found-run : (f : Findings) → Explored (r .network) f → Steady f × (foundText f ≡ reportOf t)
+    pub found-run : (f : Findings) → Explored (r .network) f → Steady (f .steps) × (foundText f ≡ reportOf t)
     unfolding reportOf outcomeText
     found-run f x = let s = read-net t r h e in
         (x .steady, found-read f (x .answer) ∙ x .text ∙ ap (λ (n : Net). ranText n (run 64 n)) (s .2) ∙ sym (ap outcomeText (s .1)))

@@ -63,29 +63,23 @@ pub sum-start : (a b : List ℕ) → divisorText (sum a b) ≡ cubeText a ++ (pl
 unfolding divisorText
 sum-start a b = refl
 
-pub step-start : (v : ℕ) (d : Divisor) (w n : ℕ) → stepLine v d (pos w) (pos n) ≡ nameText 120 v ++ (equalsWord ++ (divisorText d ++ (field weightWord w ++ (field nowWord n ++ lineEnd))))
+pub step-start : (v : ℕ) (d : Divisor) (w n : ℕ) → stepLine v d (pos w) (pos n) ≡ nameText 120 v ++
+    (equalsWord ++ (divisorText d ++ (field weightWord w ++ (field nowWord n ++ lineEnd))))
 unfolding stepLine integer
 step-start v d w n = refl
 
-pub lines-none : (v : ℕ) (c : ℤ) → stepLines v c [] ≡ []
+pub lines-none : stepLines [] ≡ []
 unfolding stepLines
-lines-none v c = refl
+lines-none = refl
 
-pub lines-first : (v : ℕ) (c : ℤ) (m : Made) (l : List Made) → stepLines v c (m ∷ l) ≡ stepLine v (m .divisor) (m .weight) (c -ℤ m .weight) ++ stepLines (suc v) (c -ℤ m .weight) l
+pub lines-first : (m : Made) (l : List Made) {w : ℕ} → pos w ≡ m .weight
+    → stepLines (m ∷ l) ≡ stepLine (m .number) (m .divisor) (pos w) (pos (m .literals)) ++ stepLines l
 unfolding stepLines
-lines-first v c m l = refl
-
--- step i, by the numbers that are printed of it
-pub lines-next : (v i c : ℕ) (m : Made) (l : List Made) {w r : ℕ} → pos w ≡ m .weight → pos r ≡ pos c -ℤ m .weight
-    → stepLines (v + i) (pos c) (m ∷ l) ≡ stepLine (v + i) (m .divisor) (pos w) (pos r) ++ stepLines (v + (i + 1)) (pos r) l
-lines-next v i c m l {w} {r} e f =
-    let k : suc (v + i) ≡ v + (i + 1) = omega arith in
-    lines-first (v + i) (pos c) m l
-    ∙ ap₂ (λ y z. stepLine (v + i) (m .divisor) y z ++ stepLines (suc (v + i)) z l) (sym e) (sym f)
-    ∙ ap (λ n. stepLine (v + i) (m .divisor) (pos w) (pos r) ++ stepLines n (pos r) l) k
+lines-first m l e = ap (λ z. stepLine (m .number) (m .divisor) z (pos (m .literals)) ++ stepLines l) (sym e)
 
 -- the steps from i on, of those that are counted
-pub made-next : (s : List extract.Made) (n i : ℕ) → i < n → n ≤ length s → drop i (map madeOf (take n s)) ≡ madeOf (getD s i noMade) ∷ drop (i + 1) (map madeOf (take n s))
+pub made-next : (s : List extract.Made) (n i : ℕ) → i < n → n ≤ length s
+    → drop i (map madeOf (take n s)) ≡ madeOf (getD s i noMade) ∷ drop (i + 1) (map madeOf (take n s))
 made-next s n i h k =
     let e : length (take n s) ≡ n = length-take-le n s k in
     let j : i < length (map madeOf (take n s)) = omega (arith, length-map (take n s) madeOf) in
@@ -97,9 +91,10 @@ made-next s n i h k =
     getD-map (x ∷ l) zero = refl
     getD-map (x ∷ l) (suc i) = getD-map l i
 
-pub run-start : (n a : ℕ) (l : List Made) (e : ℕ) (r : Stop) → runText n a l e r ≡ field startWord a ++ (lineEnd ++ (stepLines n (pos a) l ++ (field endWord e ++ stopText r)))
+pub run-start : (a : ℕ) (l : List Made) (e : ℕ) (r : Stop)
+    → runText a l e r ≡ field startWord a ++ (lineEnd ++ (stepLines l ++ (field endWord e ++ stopText r)))
 unfolding runText
-run-start n a l e r = refl
+run-start a l e r = refl
 
 pub refusal-start : (q : Refusal) → refusalText q ≡ field refusedWord (q .number) ++ (field lineWord (q .line) ++ lineEnd)
 unfolding refusalText
@@ -107,9 +102,10 @@ refusal-start q = refl
 
 -- ---- what was found
 
-pub found-start : (f : Findings) → runOf f ≡ field startWord (f .start) ++ (lineEnd ++ (stepLines (f .first) (pos (f .start)) (madeIn (f .steps)) ++ (field endWord (f .end) ++ stopText (stopOf (f .stop)))))
+pub found-start : (f : Findings) → runOf f ≡ field startWord (f .start) ++
+    (lineEnd ++ (stepLines (madeIn (f .steps)) ++ (field endWord (f .end) ++ stopText (stopOf (f .stop)))))
 unfolding runOf
-found-start f = run-start _ _ _ _ _
+found-start f = run-start _ _ _ _
 
 pub found-read : (f : Findings) → f .answer ≡ Read → foundText f ≡ runOf f
 unfolding foundText

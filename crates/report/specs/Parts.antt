@@ -1,4 +1,4 @@
--- What the contracts of the writers say: weights that can be taken off, and what was found as values.
+-- What the contracts of the writers say: weights that can be written, and what was found as values.
 use Prim.Native.Nat.{ℕ, _-_, _<_, _≤_}
 use mathlib.Core.Path.{_≡_}
 use mathlib.Core.List.{List, [], _∷_, map}
@@ -15,22 +15,16 @@ use Rattle.table.specs.declared.Answer.the-variants.{Read, Refused}
 use Rattle.report.specs.Report.{runText, refusalText, askedSteps, ranText}
 use Rattle.report.specs.declared.Findings.{Findings}
 
--- the weight can be taken off the count, which a network can have
-pub record Off (count : ℕ) (weight : ℤ) : Type 0 where
+-- a weight that is a number of 31 bits
+pub record Sized (weight : ℤ) : Type 0 where
   pub size : ℕ
   pub is : weight ≡ pos size
-  pub fits : size ≤ count
-  pub small : count < 2147483648
+  pub small : size < 2147483648
 
--- and so the weight of each step in turn
-pub data Falls : ℕ → List Made → Type 0 where
-  none : {c : ℕ} → Falls c []
-  more : {c : ℕ} {m : Made} {l : List Made} (o : Off c (m .weight)) → Falls (c - o .size) l → Falls c (m ∷ l)
-
--- the numbers of the variables that the steps make, from v on
-pub record Numbered (v : ℕ) (s : Steps) : Type 0 where
-  pub first : v ≤ mostVariables
-  pub few : s .count ≤ mostVariables
+-- and so the weight of each step
+pub data Above : List Made → Type 0 where
+  none : Above []
+  more : {m : Made} {l : List Made} → Sized (m .weight) → Above l → Above (m ∷ l)
 
 -- the steps that are counted
 abbrev pub madeIn : Steps → List Made
@@ -38,7 +32,7 @@ madeIn s = map madeOf (take (s .count) (s .list))
 
 -- the text of a run that was found
 unfoldable pub runOf : Findings → List ℕ
-runOf f = runText (f .first) (f .start) (madeIn (f .steps)) (f .end) (stopOf (f .stop))
+runOf f = runText (f .start) (madeIn (f .steps)) (f .end) (stopOf (f .stop))
 
 -- a text, or a refusal in its place
 abbrev pub unlessRefused : Answer → List ℕ → List ℕ
@@ -50,12 +44,12 @@ unfoldable pub foundText : Findings → List ℕ
 foundText f = unlessRefused (f .answer) (runOf f)
 
 -- the steps can be written
-pub record Steady (f : Findings) : Type 0 where
-  pub numbered : Numbered (f .first) (f .steps)
-  pub falls : Falls (f .start) (madeIn (f .steps))
+pub record Steady (s : Steps) : Type 0 where
+  pub few : s .count ≤ mostVariables
+  pub above : Above (madeIn s)
 
 -- what a run of 64 steps leaves of a network
 pub record Explored (n : Network) (f : Findings) : Type 0 where
   pub answer : f .answer ≡ Read
   pub text : runOf f ≡ ranText (netOf n) (run askedSteps (netOf n))
-  pub steady : Steady f
+  pub steady : Steady (f .steps)

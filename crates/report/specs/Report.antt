@@ -23,12 +23,13 @@ integer (negsuc n) = 45 ∷ decimal (suc n)
 -- `x4 = x0 + x1 weight 2 now 6`
 unfoldable pub stepLine : ℕ → Divisor → ℤ → ℤ → List ℕ
 stepLine v d weight now =
-    120 ∷ (decimal v ++ (32 ∷ 61 ∷ 32 ∷ (divisorText d ++ (32 ∷ 119 ∷ 101 ∷ 105 ∷ 103 ∷ 104 ∷ 116 ∷ 32 ∷ (integer weight ++ (32 ∷ 110 ∷ 111 ∷ 119 ∷ 32 ∷ (integer now ++ (10 ∷ []))))))))
+    120 ∷ (decimal v ++ (32 ∷ 61 ∷ 32 ∷
+    (divisorText d ++ (32 ∷ 119 ∷ 101 ∷ 105 ∷ 103 ∷ 104 ∷ 116 ∷ 32 ∷ (integer weight ++ (32 ∷ 110 ∷ 111 ∷ 119 ∷ 32 ∷ (integer now ++ (10 ∷ []))))))))
 
--- the steps in turn: the first makes the variable v, and each takes its weight off the count c before it
-unfoldable pub stepLines : ℕ → ℤ → List Made → List ℕ
-stepLines v c [] = []
-stepLines v c (m ∷ l) = stepLine v (m .divisor) (m .weight) (c -ℤ m .weight) ++ stepLines (suc v) (c -ℤ m .weight) l
+-- the steps in turn: each with the number of its node and the literal count after it
+unfoldable pub stepLines : List Made → List ℕ
+stepLines [] = []
+stepLines (m ∷ l) = stepLine (m .number) (m .divisor) (m .weight) (pos (m .literals)) ++ stepLines l
 
 -- ` done`, ` asked`, ` numbers`, ` rows`
 unfoldable pub stopText : Stop → List ℕ
@@ -38,9 +39,9 @@ stopText numbers = 32 ∷ 110 ∷ 117 ∷ 109 ∷ 98 ∷ 101 ∷ 114 ∷ 115 ∷
 stopText rows = 32 ∷ 114 ∷ 111 ∷ 119 ∷ 115 ∷ 10 ∷ []
 
 -- `start 8`, the steps, `end 6 done`
-unfoldable pub runText : ℕ → ℕ → List Made → ℕ → Stop → List ℕ
-runText first start steps end stop =
-    115 ∷ 116 ∷ 97 ∷ 114 ∷ 116 ∷ 32 ∷ (decimal start ++ (10 ∷ (stepLines first (pos start) steps ++ (101 ∷ 110 ∷ 100 ∷ 32 ∷ (decimal end ++ stopText stop)))))
+unfoldable pub runText : ℕ → List Made → ℕ → Stop → List ℕ
+runText start steps end stop =
+    115 ∷ 116 ∷ 97 ∷ 114 ∷ 116 ∷ 32 ∷ (decimal start ++ (10 ∷ (stepLines steps ++ (101 ∷ 110 ∷ 100 ∷ 32 ∷ (decimal end ++ stopText stop)))))
 
 -- `refused 2 at line 3`
 unfoldable pub refusalText : Refusal → List ℕ
@@ -51,9 +52,9 @@ refusalText q =
 abbrev pub askedSteps : ℕ
 askedSteps = 64
 
--- a run on a network: the first divisor takes the next free number, and the count at the end is over the network that is left
+-- a run on a network: the count at the end is over the network that is left
 unfoldable pub ranText : Net → Result → List ℕ
-ranText n r = runText (variables n) (literalCount n) (r .steps) (literalCount (r .network)) (r .stop)
+ranText n r = runText (literalCount n) (r .steps) (literalCount (r .network)) (r .stop)
 
 unfoldable pub outcomeText : Outcome → List ℕ
 outcomeText (accepted s) = ranText (tableNet s) (run askedSteps (tableNet s))

@@ -11,7 +11,7 @@ ghost use mathlib.Core.Path.{_≡_};
 ghost use mathlib.Core.Bool.{true};
 ghost use mathlib.Core.List.{_++_};
 ghost use mathlib.Core.Option.{none};
-ghost use lib.IntN.{pos, _-ℤ_};
+ghost use lib.IntN.{pos};
 ghost use lib.Signed.{_≤ℤ_};
 ghost use Rattle.letters.specs.Letters.{decimal};
 ghost use Rattle.letters.specs.Laid.{Laid};
@@ -20,15 +20,14 @@ ghost use Rattle.extract_divisor.specs.Divisor.{divisorOf};
 ghost use Rattle.network.specs.Held.{rules};
 ghost use Rattle.extract.specs.Answers.{stopOf};
 ghost use Rattle.report.specs.Report.{divisorText, stepLine, stepLines, stopText, refusalText, reportOf};
-ghost use Rattle.report.specs.Parts.{Off, Falls, Numbered, madeIn, runOf, foundText, Steady, Explored};
+ghost use Rattle.report.specs.Parts.{madeIn, runOf, foundText, Steady, Explored};
 
 // The program asks for 64 steps (`askedSteps`).
 pub const ASKED: u64 = 64;
 
-// What a report tells: the number of the first divisor, the counts, the steps and the reason; of a refused table the answer alone.
+// What a report tells: the counts, the steps and the reason; of a refused table the answer alone.
 struct Findings {
     answer: Answer,
-    first: usize,
     start: u64,
     steps: Steps,
     end: u64,
@@ -63,14 +62,6 @@ fn put_divisor(o: &mut [u8], at: usize, d: Divisor) -> usize
     }
 }
 
-// What is left of a count when the weight is taken off.
-fn less(count: u64, weight: i32) -> u64
-    requires { ⌜ Off count weight ⌝ }
-    ensures { λ r. ⌜ pos r ≡ pos count -ℤ weight ⌝ }
-{
-    (count as i32 - weight) as u64
-}
-
 // A weight that is not below zero, as a number to print.
 fn size(weight: i32) -> u64
     requires { ⌜ pos 0 ≤ℤ weight ⌝ }
@@ -79,7 +70,7 @@ fn size(weight: i32) -> u64
     weight as u64
 }
 
-// The line of a step: its number, its divisor and weight, and the count after it, which the weight was taken off.
+// The line of a step: its number, its divisor and weight, and the count after it.
 fn put_step(o: &mut [u8], at: usize, v: u64, d: Divisor, weight: u64, left: u64) -> usize
     ensures { λ r. ⌜ Laid (now (o .entry)) (now (o .exit)) at r (stepLine v (divisorOf d) (pos weight) (pos left)) ⌝ }
 {
@@ -91,21 +82,20 @@ fn put_step(o: &mut [u8], at: usize, v: u64, d: Divisor, weight: u64, left: u64)
     letters::put(o, t, b'\n')
 }
 
-// The lines of all steps, from a number and a count on.
-fn put_steps(o: &mut [u8], at: usize, v: u64, count: u64, steps: Steps) -> usize
-    requires { ⌜ Numbered v steps × Falls count (madeIn steps) ⌝ }
-    ensures { λ r. ⌜ Laid (now (o .entry)) (now (o .exit)) at r (stepLines v (pos count) (madeIn steps)) ⌝ }
+// The lines of all steps.
+fn put_steps(o: &mut [u8], at: usize, steps: Steps) -> usize
+    requires { ⌜ Steady steps ⌝ }
+    ensures { λ r. ⌜ Laid (now (o .entry)) (now (o .exit)) at r (stepLines (madeIn steps)) ⌝ }
 {
     let n = steps.count;
     let list = steps.list;
-    let mut left = count;
     let mut p = at;
     let mut i = 0;
     while i < n {
         let s = list[i];
         let d = s.divisor;
-        left = less(left, s.weight);
-        p = put_step(o, p, v + i as u64, d, size(s.weight), left);
+        let v = s.number;
+        p = put_step(o, p, v.0 as u64, d, size(s.weight), s.literals);
         i += 1;
     }
     p
@@ -127,13 +117,13 @@ fn put_stop(o: &mut [u8], at: usize, stop: Stop) -> usize
 
 // `start`, the steps, `end`.
 fn put_run(o: &mut [u8], f: Findings) -> usize
-    requires { ⌜ Steady f ⌝ }
+    requires { ⌜ Steady (f .steps) ⌝ }
     ensures { λ r. ⌜ Laid (now (o .entry)) (now (o .exit)) 0 r (runOf f) ⌝ }
 {
     let p = put_field(o, 0, b"start ", f.start);
     let q = letters::put(o, p, b'\n');
     let steps = f.steps;
-    let r = put_steps(o, q, f.first as u64, f.start, steps);
+    let r = put_steps(o, q, steps);
     let s = put_field(o, r, b"end ", f.end);
     let stop = f.stop;
     put_stop(o, s, stop)
@@ -150,7 +140,7 @@ fn put_refusal(o: &mut [u8], refusal: Refusal) -> usize
 
 // What was found, as far as there is room, and its length.
 fn put_findings(o: &mut [u8], f: Findings) -> usize
-    requires { ⌜ Steady f ⌝ }
+    requires { ⌜ Steady (f .steps) ⌝ }
     ensures { λ r. ⌜ Laid (now (o .entry)) (now (o .exit)) 0 r (foundText f) ⌝ }
 {
     let answer = f.answer;
@@ -162,11 +152,10 @@ fn put_findings(o: &mut [u8], f: Findings) -> usize
 
 // Of a refused table the answer alone is told.
 fn refused(answer: Answer) -> Findings
-    ensures { λ r. ⌜ (r .answer ≡ answer) × (r .first ≡ 0) × (r .steps .count ≡ 0) ⌝ }
+    ensures { λ r. ⌜ (r .answer ≡ answer) × (r .steps .count ≡ 0) ⌝ }
 {
     Findings {
         answer,
-        first: 0,
         start: 0,
         steps: extract::no_steps(),
         end: 0,
@@ -193,7 +182,6 @@ fn explore(n: Network) -> Findings
     let steps = r.steps;
     Findings {
         answer: Answer::Read,
-        first: n.inputs + n.divisors,
         start,
         steps,
         end,
@@ -203,7 +191,7 @@ fn explore(n: Network) -> Findings
 
 // The table is read and its network run, once.
 fn find(text: &[u8]) -> Findings
-    ensures { λ r. ⌜ Steady r × (foundText r ≡ reportOf (now (text .entry))) ⌝ }
+    ensures { λ r. ⌜ Steady (r .steps) × (foundText r ≡ reportOf (now (text .entry))) ⌝ }
 {
     let t = table::read(text);
     let answer = t.answer;

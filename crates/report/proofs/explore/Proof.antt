@@ -4,10 +4,14 @@ use mathlib.Core.Path.{_≡_, sym, _∙_}
 use native.Mathlib.Omega.{arith}
 use borrow.Author.Needs.{needs}
 use lib.ListN.{length}
+use Rattle.network.specs.Net.{literalCount}
+use Rattle.network.specs.Held.{netOf}
+use Rattle.network.specs.Answers.{counted}
 use Rattle.network.specs.declared.Number.the-variants.{Is, No}
+use Rattle.extract_laws.specs.Run.{run}
 use Rattle.network.specs.Handed.{Shaped}
 use Rattle.network.proofs.Handing.{shape-of}
-use Rattle.report.proofs.Exploring.{counted-rules, first-few, never-refused, counted-after, explored}
+use Rattle.report.proofs.Exploring.{counted-rules, never-refused, counted-after, explored}
 use Rattle.report.proofs.explore.Statement.{statement}
 use Rattle.report.proofs.explore.Tie as tie
 
@@ -36,7 +40,8 @@ refused-requires c κs = search needs
 returns : tie.Need-returns
 returns c =
     let s = c .before .before .before .before in
-    absurd (never-refused (s .args .n) (shape s) (s .pre) (c .before .before .before .run .result) (c .before .before .before .run .ensures) _ (c .before .enum-told .given .1))
+    absurd (never-refused (s .args .n) (shape s) (s .pre) (c .before .before .before .run .result) (c .before .before .before .run .ensures) _
+    (c .before .enum-told .given .1))
 
 literals-requires : tie.Need-literals-requires
 literals-requires c κs = search needs
@@ -67,20 +72,31 @@ enum-told-3 c = search needs
 refused-requires-3 : tie.Need-refused-requires-3
 refused-requires-3 c κs = search needs
 
+-- the states of the walk: after the run, after the start and the end are counted
+abbrev ran : tie.After-literals → tie.After-run
+ran c = c .before .before .before .before
+
+abbrev counted-first : tie.After-literals2 → tie.After-literals
+counted-first c = c .before .before .before .before
+
+-- the literals that are left
+left : (c : tie.After-run) → let s = c .before .args .n in counted (c .run .result .network) ≡ Is (literalCount (run 64 (netOf s) .network))
+left c = let s = c .before in counted-after (s .args .n) (shape s) (s .pre) (c .run .result) (c .run .ensures)
+
 returns-3 : tie.Need-returns-3
 returns-3 c =
-    let s = c .before .before .before .before .before .before .before .before .before .before .before .before in
-    absurd (clash _ _ (sym (counted-after (s .args .n) (shape s) (s .pre) (c .before .before .before .before .before .before .before .before .before .before .before .run .result) (c .before .before .before .before .before .before .before .before .before .before .before .run .ensures)) ∙ sym (c .before .before .before .literals2 .ensures) ∙ c .before .enum-told3 .given .1))
-
-add-t14 : tie.Need-add-t14
-add-t14 c = let s = c .before .before .before .before .before .before .before .before .before .before .before .before .before .before in omega (arith, first-few (s .args .n) (shape s) (s .pre))
+    let e = c .before .before .before in
+    absurd (clash _ _ (sym (left (ran (counted-first e))) ∙ sym (e .literals2 .ensures) ∙ c .before .enum-told3 .given .1))
 
 returns-4 : tie.Need-returns-4
 returns-4 c =
-    let s = c .before .before .before .before .before .before .before .before .before .before .before .before .before .before in
-    explored (s .args .n) (shape s) (s .pre) (c .before .before .before .before .before .before .before .before .before .before .before .before .before .run .result) (c .before .before .before .before .before .before .before .before .before .before .before .before .before .run .ensures) _ _ _ (c .before .before .before .before .before .before .before .before .before .before .before .answer .given .1)
-    (same _ _ (sym (c .before .before .before .before .before .before .before .start .given .1) ∙ c .before .before .before .before .before .before .before .before .before .literals .ensures ∙ counted-rules (s .args .n) (s .pre)))
-    (same _ _ (sym (c .before .before .before .end .given .1) ∙ c .before .before .before .before .before .literals2 .ensures ∙ counted-after (s .args .n) (shape s) (s .pre) (c .before .before .before .before .before .before .before .before .before .before .before .before .before .run .result) (c .before .before .before .before .before .before .before .before .before .before .before .before .before .run .ensures)))
+    let e = c .before .before .before .before in
+    let b = counted-first e in
+    let r = ran b in
+    let s = r .before in
+    explored (s .args .n) (shape s) (s .pre) (r .run .result) (r .run .ensures) _ _ _ (b .before .before .answer .given .1)
+    (same _ _ (sym (e .before .before .start .given .1) ∙ b .literals .ensures ∙ counted-rules (s .args .n) (s .pre)))
+    (same _ _ (sym (c .before .before .end .given .1) ∙ e .literals2 .ensures ∙ left r))
 
 pub explore-spec : {M : Type 1} → statement M
 explore-spec =
@@ -101,5 +117,4 @@ explore-spec =
     enum-told-3
     refused-requires-3
     returns-3
-    add-t14
     returns-4)

@@ -17,13 +17,16 @@ refused-requires : tie.Need-refused-requires
 refused-requires c κs = search needs
 
 returns : tie.Need-returns
-returns c = found-refusal (c .before .before .before .before .before .args .text .now) (c .before .before .before .read .result) (c .before .before .before .read .ensures) _ (c .before .enum-told2 .given .1) (c .refused .result) (c .refused .ensures)
+returns c = found-refusal (c .before .before .before .before .before .args .text .now) (c .before .before .before .read .result)
+    (c .before .before .before .read .ensures) _ (c .before .enum-told2 .given .1) (c .refused .result) (c .refused .ensures)
 
 explore-requires : tie.Need-explore-requires
-explore-requires c κs = found-rules (c .before .before .before .before .before .args .text .now) (c .before .before .before .read .result) (c .before .before .before .read .ensures) (c .before .enum-told .given .1)
+explore-requires c κs = found-rules (c .before .before .before .before .before .args .text .now) (c .before .before .before .read .result)
+    (c .before .before .before .read .ensures) (c .before .enum-told .given .1)
 
 returns-2 : tie.Need-returns-2
-returns-2 c = found-run (c .before .before .before .before .before .before .args .text .now) (c .before .before .before .before .read .result) (c .before .before .before .before .read .ensures) (c .before .before .enum-told .given .1) (c .explore .result) (c .explore .ensures)
+returns-2 c = found-run (c .before .before .before .before .before .before .args .text .now) (c .before .before .before .before .read .result)
+    (c .before .before .before .before .read .ensures) (c .before .before .enum-told .given .1) (c .explore .result) (c .explore .ensures)
 
 pub find-spec : {M : Type 1} → statement M
 find-spec =

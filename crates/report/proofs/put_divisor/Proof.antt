@@ -45,7 +45,8 @@ returns c =
     let s = c .before .before .before .before .before .before in
     let l = s .before .before .before .before in
     let pair = ap (λ d. divisorText (divisorOf d)) (l .before .before .before .d .given .1) ∙ pair-start _ _ in
-    due-last (due-next (due-next (due-all _ _ (omega arith) (omega arith) pair) (l .put-literal .ensures)) (s .put .ensures)) (c .before .before .put-literal2 .ensures)
+    due-last (due-next (due-next (due-all _ _ (omega arith) (omega arith) pair) (l .put-literal .ensures)) (s .put .ensures))
+    (c .before .before .put-literal2 .ensures)
 
 same-length-2 : tie.Need-same-length-2
 same-length-2 c = search needs
@@ -56,7 +57,8 @@ returns-2 c =
     let s = c .before .before .before .before .before .before in
     let l = s .before .before .before .before .before in
     let sum = ap (λ d. divisorText (divisorOf d)) (l .before .before .before .d2 .given .1) ∙ sum-start _ _ in
-    due-last (due-next (due-next (due-all _ _ (omega arith) (omega arith) sum) (l .put-product .ensures)) (s .put-bytes .ensures)) (c .before .before .put-product2 .ensures)
+    due-last (due-next (due-next (due-all _ _ (omega arith) (omega arith) sum) (l .put-product .ensures)) (s .put-bytes .ensures))
+    (c .before .before .put-product2 .ensures)
 
 pub put-divisor-spec : {M : Type 1} → statement M
 put-divisor-spec =

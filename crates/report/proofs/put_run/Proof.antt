@@ -16,7 +16,7 @@ put-requires : tie.Need-put-requires
 put-requires c κs = search needs
 
 put-steps-requires : tie.Need-put-steps-requires
-put-steps-requires c κs = let p = c .before .before .before .before in let s = p .before .before .before .before in let f = s .before .before .before .before .pre in (f .numbered, f .falls)
+put-steps-requires c κs = let l = c .before .before .before .before in l .before .before .before .before .before .before .before .before .pre
 
 slice-aggregate-put-field-2 : tie.Need-slice-aggregate-put-field-2
 slice-aggregate-put-field-2 c = search needs

@@ -17,7 +17,8 @@ read c = subst (λ (z : ℤ). pos 0 ≤ℤ z) (sym (toZ-ofZ w32 (c .args .weight
 cast-result : tie.Need-cast-result
 cast-result c = (
   yes-nonNeg (read c),
-  subst (λ (z : ℤ). Fits w64 (natAbs z)) (sym (toZ-ofZ w32 (c .args .weight) (c .fits .weight))) (record { fits = lt-of-le-of-lt (natAbs-le (c .args .weight) (c .fits .weight .sfits)) (lit< tt) }),
+  subst (λ (z : ℤ). Fits w64 (natAbs z)) (sym (toZ-ofZ w32 (c .args .weight) (c .fits .weight)))
+      (record { fits = lt-of-le-of-lt (natAbs-le (c .args .weight) (c .fits .weight .sfits)) (lit< tt) }),
 )
 
 returns : tie.Need-returns
