@@ -36,7 +36,8 @@ left : (c : tie.After-named Inv-loop μ-loop) → nameOf (input (turn c)) (table
     ≡ firstName (input (turn c)) (line (turn c) ∷ linesOf (drop (c .before .before .line-end .result + 1) (table (turn c))))
 left c = turn c .loop .inv .2 ∙ names-from _ _ _ _ (c .before .before .line-end .ensures)
 
-whole : (c : tie.After-named Inv-loop μ-loop) → take (c .before .before .line-end .result - turn c .loop .at) (drop (turn c .loop .at) (table (turn c))) ≡ line (turn c)
+whole : (c : tie.After-named Inv-loop μ-loop)
+    → take (c .before .before .line-end .result - turn c .loop .at) (drop (turn c .loop .at) (table (turn c))) ≡ line (turn c)
 whole c = line-part _ _ _ (c .before .before .line-end .ensures)
 
 name : (c : tie.After-named Inv-loop μ-loop) → c .named .result .now ≡ named (input (turn c)) (line (turn c))

@@ -10,7 +10,8 @@ returns : tie.Need-returns
 unfolding named
 returns c =
     let trimmed = c .before .before .before in
-    let letter = ap (after 120) (trimmed .trim-front2 .ensures ∙ ap trimFront (trimmed .before .after .ensures ∙ ap (after 35) (trimmed .before .before .trim-front .ensures))) in
+    let letter = ap (after 120) (trimmed .trim-front2 .ensures
+    ∙ ap trimFront (trimmed .before .after .ensures ∙ ap (after 35) (trimmed .before .before .trim-front .ensures))) in
     c .name-after .ensures ∙ ap nameAfter (c .before .after-number .ensures ∙ ap (afterNumber _) (c .before .before .after2 .ensures ∙ letter))
 
 pub named-spec : {M : Type 1} → statement M
