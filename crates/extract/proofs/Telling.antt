@@ -181,7 +181,8 @@ module _ (k : ℕ) (n : Network) (r : Ran) (shape : Shaped n)
   ran-literals = (
     rw h,
     rw ran-rules,
-    ap (λ z. pos (literalCount z)) ran-network ∙ run-literals k (netOf n) (rules-good n shape h) ∙ ap (λ l. pos (literalCount (netOf n)) -ℤ fall l) (sym ran-steps),
+    ap (λ z. pos (literalCount z)) ran-network ∙ run-literals k (netOf n) (rules-good n shape h)
+        ∙ ap (λ l. pos (literalCount (netOf n)) -ℤ fall l) (sym ran-steps),
   )
 
   -- each step listed carries the number of its node, and the literals of the network after it: those before it less the weight

@@ -58,7 +58,8 @@ pub kept-total-le : {A : Type 0} (g : A → ℕ) (p q : A → Bool) (l : List A)
 kept-total-le g p q [] h = omega arith
 kept-total-le g p q (x ∷ l) h = go (p x) (q x) (h x) (kept-total-le g p q l h)
   where
-    go : (a b : Bool) → (a ≡ true → b ≡ true) → total g (keep p l) ≤ total g (keep q l) → total g (cond a (x ∷ keep p l) (keep p l)) ≤ total g (cond b (x ∷ keep q l) (keep q l))
+    go : (a b : Bool) → (a ≡ true → b ≡ true) → total g (keep p l) ≤ total g (keep q l)
+        → total g (cond a (x ∷ keep p l) (keep p l)) ≤ total g (cond b (x ∷ keep q l) (keep q l))
     go true true k i = omega arith
     go true false k i = absurd (false≢true (k refl))
     go false true k i = omega arith
@@ -70,11 +71,25 @@ length-total (x ∷ l) = omega (arith, length-total l)
 
 pub counted-flat : {A : Type 0} (p : A → Bool) (fs : List (List A)) → total (λ f. length (keep p f)) fs ≡ length (keep p (flat fs))
 counted-flat p [] = refl
-counted-flat p (f ∷ fs) = omega (arith, kept-append (λ x. 1) p f (flat fs), length-total (keep p (f ++ flat fs)), length-total (keep p f), length-total (keep p (flat fs)), counted-flat p fs)
+counted-flat p (f ∷ fs) = omega (
+  arith,
+  kept-append (λ x. 1) p f (flat fs),
+  length-total (keep p (f ++ flat fs)),
+  length-total (keep p f),
+  length-total
+      (keep p (flat fs)),
+  counted-flat p fs,
+)
 
 -- a sum over fewer elements is no greater
 pub total-take-le : {A : Type 0} (f : A → ℕ) (l : List A) (i j : ℕ) → i ≤ j → total f (take i l) ≤ total f (take j l)
-total-take-le f l i j h = omega (arith, ap (total f) (take-append-drop i (take j l)), total-append f (take i (take j l)) (drop i (take j l)), ap (total f) (take-take i j l h))
+total-take-le f l i j h = omega (
+  arith,
+  ap (total f) (take-append-drop i (take j l)),
+  total-append f (take i (take j l)) (drop i (take j l)),
+  ap (total f)
+      (take-take i j l h),
+)
 
 -- ---- a sum in one node
 
@@ -95,7 +110,14 @@ module _ (a b : List ℕ) (f : List (List ℕ)) where
       pub counting-off : useOf a b f (getD f i []) ≡ false → Counting a b f (i + 1) u l
       counting-off e =
           let k = kept-off (useOf a b f) f i [] h e in
-          record { inside = omega arith; few = omega (arith, c .few); short = omega (arith, c .short); uses = rw k at (c .uses); literals = rw k at (c .literals) }
+          record {
+            inside = omega arith;
+            few = omega (arith, c .few);
+            short = omega (arith, c .short);
+            uses = rw k at (c .uses);
+            literals = rw k at
+                (c .literals);
+          }
 
       pub counting-on : useOf a b f (getD f i []) ≡ true → (m : ℕ) → m ≡ length (without (getD f i []) a) → m ≤ 128 → Counting a b f (i + 1) (u + 1) (l + m)
       counting-on e m q s =
@@ -127,7 +149,8 @@ module _ (p : List ℕ → Bool) (each : (x y : ℕ) → p (literals 64 x y) ≡
   all-held e counts words =
       let t = total (λ c. c) (take e counts) in
       let f = cubesOf words in
-      cut-all p (take e counts) f ∙ (both (all p (take t f)) (all p (drop t f)) (sym (all-append p (take t f) (drop t f)) ∙ ap (all p) (take-append-drop t f) ∙ all-words words)) .0
+      cut-all p (take e counts) f ∙ (both (all p (take t f)) (all p (drop t f))
+      (sym (all-append p (take t f) (drop t f)) ∙ ap (all p) (take-append-drop t f) ∙ all-words words)) .0
 
 -- the cubes of the nodes one after the other are those in use
 flat-cut : (ns : List ℕ) (f : List (List ℕ)) → flat (cut ns f) ≡ take (total (λ c. c) ns) f
@@ -136,7 +159,8 @@ flat-cut [] f = refl
 flat-cut (n ∷ ns) f = rw (flat-cut ns (drop n f)) (sym (take-add n (total (λ c. c) ns) f))
 
 -- the part of so many cubes
-pub front-flat : (counts words : List ℕ) (e t : ℕ) (f : List (List ℕ)) → t ≡ total (λ c. c) (take e counts) → f ≡ take (t - 0) (drop 0 (cubesOf words)) → f ≡ flat (nodesOf e counts words)
+pub front-flat : (counts words : List ℕ) (e t : ℕ) (f : List (List ℕ)) → t ≡ total (λ c. c) (take e counts) → f ≡ take (t - 0) (drop 0 (cubesOf words))
+    → f ≡ flat (nodesOf e counts words)
 front-flat counts words e t f p q =
     let z : t - 0 ≡ total (λ c. c) (take e counts) = omega arith in
     q ∙ ap (λ k. take k (cubesOf words)) z ∙ sym (flat-cut (take e counts) (cubesOf words))
@@ -179,7 +203,11 @@ bases-le a p [] h = omega arith
 bases-le a p (c ∷ f) h =
     let q = both (short c) (all short f) h in
     let l = leb-true (length c) 128 (q .0) in
-    elim (decided (p c)) [ inl e ↦ rw e (omega (arith, kept-le (λ x. not (mem x a)) c, bases-le a p f (q .1))) | inr e ↦ rw e (omega (arith, bases-le a p f (q .1))) ]
+    elim (decided (p c)) [
+      | inl e ↦ rw e (omega (arith, kept-le (λ x. not (mem x a)) c, bases-le a p f (q .1)))
+      | inr e ↦ rw e
+          (omega (arith, bases-le a p f (q .1)))
+    ]
 
 module _ (words counts : List ℕ) (e : ℕ) (o : Orderly words counts e) where
   cubes-few : total length (nodesOf e counts words) ≤ mostCubes
@@ -200,7 +228,8 @@ module _ (words counts : List ℕ) (e : ℕ) (o : Orderly words counts e) where
         omega (
           arith,
           cubes-few,
-          total-le (λ f. literalsOf (bases (sum a b) f)) (λ f. length f * 128) (nodesOf e counts words) (λ f m. bases-le a (useOf a b f) f (all-out (all short) m s)),
+          total-le (λ f. literalsOf (bases (sum a b) f)) (λ f. length f * 128) (nodesOf e counts words)
+              (λ f m. bases-le a (useOf a b f) f (all-out (all short) m s)),
           total-times length 128 (nodesOf e counts words),
         )
 
@@ -220,4 +249,5 @@ module _ (a b : List ℕ) (fs : List (List (List ℕ))) where
         record { uses = omega (arith, rw n at (c .uses), k .uses); literals = omega (arith, rw n at (c .literals), k .literals) }
 
     pub all-counted : length fs ≤ i → Counts a b fs u l
-    all-counted h = let n = drop-of-length-le fs {i = i} h in record { uses = omega (arith, rw n at (c .uses)); literals = omega (arith, rw n at (c .literals)) }
+    all-counted h = let n = drop-of-length-le fs {i = i} h in
+        record { uses = omega (arith, rw n at (c .uses)); literals = omega (arith, rw n at (c .literals)) }

@@ -2,7 +2,8 @@
 use mathlib.Core.Path.{_≡_, refl, sym, ap, _∙_, subst}
 use mathlib.Core.Logic.{inl, inr}
 use mathlib.Core.Bool.{Bool, true, false, cond, not, _&&_}
-use mathlib.Core.List.{List, [], _∷_, _++_, append-assoc, List·Memᴰ·head as here, List·Memᴰ·tail as there, List·Memᴰ·not-nil, List·Memᴰ·eq-of-singleton, List·Memᴰ·cases-cons, Memᴰ·append-left, Memᴰ·append-right, List·Memᴰ·append-cases}
+use mathlib.Core.List.{List, [], _∷_, _++_, append-assoc, List·Memᴰ·head as here, List·Memᴰ·tail as there, List·Memᴰ·not-nil}
+use mathlib.Core.List.{List·Memᴰ·eq-of-singleton, List·Memᴰ·cases-cons, Memᴰ·append-left, Memᴰ·append-right, List·Memᴰ·append-cases}
 use lib.IntN.{pos}
 use lib.Signed.{ltZ}
 use Rattle.sets.specs.Sets.{lex}
@@ -47,20 +48,23 @@ module _ (n : Net) where
 
   -- of divisors in any order, and with others whose weight is not above 0
   pub leads-same : (l m : List extraction.Divisor) (s : Step)
-      → ((e : extraction.Divisor) → e ∈ l → ltZ (pos 0) (weight n e) ≡ true → e ∈ m) → ((e : extraction.Divisor) → e ∈ m → ltZ (pos 0) (weight n e) ≡ true → e ∈ l)
+      → ((e : extraction.Divisor) → e ∈ l → ltZ (pos 0) (weight n e) ≡ true → e ∈ m)
+      → ((e : extraction.Divisor) → e ∈ m → ltZ (pos 0) (weight n e) ≡ true → e ∈ l)
       → Wins n l s → Wins n m s
   leads-same l m s to back (nothing e h) = nothing e (λ g i. elim (decided (ltZ (pos 0) (weight n g))) [ inl a ↦ h g (back g i a) | inr a ↦ a ])
   leads-same l m s to back (first d i e a h) =
       first d (to d i a) e a (λ g j. elim (decided (ltZ (pos 0) (weight n g))) [ inl b ↦ h g (back g j b) | inr b ↦ low-not-better g d b a ])
 
   -- divisors whose weight is not above 0 change nothing
-  pub leads-low : (new l : List extraction.Divisor) (s : Step) → ((e : extraction.Divisor) → e ∈ new → ltZ (pos 0) (weight n e) ≡ false) → Wins n l s → Wins n (new ++ l) s
+  pub leads-low : (new l : List extraction.Divisor) (s : Step) → ((e : extraction.Divisor) → e ∈ new → ltZ (pos 0) (weight n e) ≡ false) → Wins n l s
+      → Wins n (new ++ l) s
   leads-low new l s k =
       leads-same l (new ++ l) s (λ e m a. Memᴰ·append-right new m) (λ e m a. elim (List·Memᴰ·append-cases new m) [ inl i ↦ clash a (k e i) | inr i ↦ i ])
 
   -- nor do divisors that are there already
   pub leads-known : (new l : List extraction.Divisor) (s : Step) → ((e : extraction.Divisor) → e ∈ new → e ∈ l) → Wins n l s → Wins n (new ++ l) s
-  leads-known new l s k = leads-same l (new ++ l) s (λ e m a. Memᴰ·append-right new m) (λ e m a. elim (List·Memᴰ·append-cases new m) [ inl i ↦ k e i | inr i ↦ i ])
+  leads-known new l s k = leads-same l (new ++ l) s (λ e m a. Memᴰ·append-right new m)
+      (λ e m a. elim (List·Memᴰ·append-cases new m) [ inl i ↦ k e i | inr i ↦ i ])
 
   -- the better of the two leads the divisors judged so far and the new one
   module _ (d : extraction.Divisor) (l : List extraction.Divisor) (s t : Step) (e : weighedOf t ≡ weighing n d) where
@@ -74,7 +78,8 @@ module _ (n : Net) where
     fresh : ltZ (pos 0) (weight n d) ≡ true → ((g : extraction.Divisor) → g ∈ l → better n g d ≡ false) → Wins n (d ∷ l) t
     fresh a h = first d (here refl) e a (λ g i. elim (List·Memᴰ·cases-cons i) [ inl q ↦ rw q (better-order n .irrefl d) | inr j ↦ h g j ])
 
-    against : (g : extraction.Divisor) → g ∈ l → weighedOf s ≡ weighing n g → ltZ (pos 0) (weight n g) ≡ true → ((x : extraction.Divisor) → x ∈ l → better n x g ≡ false)
+    against : (g : extraction.Divisor) → g ∈ l → weighedOf s ≡ weighing n g → ltZ (pos 0) (weight n g) ≡ true
+        → ((x : extraction.Divisor) → x ∈ l → better n x g ≡ false)
         → ltZ (pos 0) (weight n d) ≡ true → (b : Bool) → better n d g ≡ b → Wins n (d ∷ l) (cond b t s)
     against g i q a h k true p = fresh k (λ x j. not-after (better n) (better-order n) x g d (h x j) (asym (better n) (better-order n) d g p))
     against g i q a h k false p = first g (there i) q a (λ x j. elim (List·Memᴰ·cases-cons j) [ inl y ↦ rw y p | inr y ↦ h x y ])
@@ -91,7 +96,8 @@ module _ (n : Net) where
 
     pub leads-taken : Wins n l s → Wins n (d ∷ l) (taken s t)
     leads-taken h = elim (decided (ltZ (pos 0) (t .weight))) [
-      | inr k ↦ subst (Wins n (d ∷ l)) (taken-low s t k) (leads-low (d ∷ []) l s (λ g i. ap (λ x. ltZ (pos 0) (weight n x)) (List·Memᴰ·eq-of-singleton i) ∙ ap (ltZ (pos 0)) (sym tw) ∙ k) h)
+      | inr k ↦ subst (Wins n (d ∷ l)) (taken-low s t k) (leads-low (d ∷ []) l s
+          (λ g i. ap (λ x. ltZ (pos 0) (weight n x)) (List·Memᴰ·eq-of-singleton i) ∙ ap (ltZ (pos 0)) (sym tw) ∙ k) h)
       | inl k ↦ go k h
     ]
       where
@@ -111,7 +117,10 @@ module _ {p : Net → Type 0} where
 
   -- first some, then others, all with the same known
   pub adds-more : {known one two : List extraction.Divisor} {s r t : Step} → Adds p known one s r → Adds p known two r t → Adds p known (two ++ one) s t
-  adds-more {one = one} f g = record { leads = λ n c l k h. rw append-assoc (g .leads n c (one ++ l) (λ d m. Memᴰ·append-right one (k d m)) (f .leads n c l k h)) }
+  adds-more {one = one} f g = record {
+    leads = λ n c l k h. rw append-assoc
+        (g .leads n c (one ++ l) (λ d m. Memᴰ·append-right one (k d m)) (f .leads n c l k h));
+  }
 
   -- what needs nothing known
   pub adds-any : (known : List extraction.Divisor) {new : List extraction.Divisor} {s r : Step} → Adds p [] new s r → Adds p known new s r

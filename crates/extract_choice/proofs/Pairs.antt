@@ -3,7 +3,8 @@ use Prim.Native.Nat.{ℕ, zero, suc, _+_, _-_, _<_, _≤_}
 use mathlib.Core.Path.{_≡_, refl, sym, ap, ap₂, _∙_}
 use mathlib.Core.Logic.{inl, inr}
 use mathlib.Core.Bool.{Bool, true, false, _&&_}
-use mathlib.Core.List.{List, [], _∷_, _++_, map, List·Memᴰ·head as here, List·Memᴰ·tail as there, List·Memᴰ·not-nil, Memᴰ·append-left, Memᴰ·append-right, List·Memᴰ·append-cases}
+use mathlib.Core.List.{List, [], _∷_, _++_, map, List·Memᴰ·head as here, List·Memᴰ·tail as there, List·Memᴰ·not-nil, Memᴰ·append-left}
+use mathlib.Core.List.{Memᴰ·append-right, List·Memᴰ·append-cases}
 use native.Mathlib.Omega.{arith}
 use lib.ListN.{length}
 use lib.IntN.{pos, _-ℤ_}
@@ -82,7 +83,8 @@ from-down (suc q) h k = let z : suc q - 1 ≡ q = omega arith in let e : 128 - q
 pub pairs-down : (p q : ℕ) → 0 < q → q ≤ 128 → map (pair p) (from (q - 1) (128 - (q - 1))) ≡ pair p (q - 1) ∷ map (pair p) (from q (128 - q))
 pairs-down p q h k = ap (map (pair p)) (from-down q h k)
 
-pub pairs-next : (p : ℕ) → 0 < p → p ≤ 128 → pairsIn (from (p - 1) (128 - (p - 1))) ≡ map (pair (p - 1)) (from ((p - 1) + 1) (127 - (p - 1))) ++ pairsIn (from p (128 - p))
+pub pairs-next : (p : ℕ) → 0 < p → p ≤ 128 → pairsIn (from (p - 1) (128 - (p - 1))) ≡ map (pair (p - 1)) (from ((p - 1) + 1) (127 - (p - 1))) ++ pairsIn
+    (from p (128 - p))
 unfolding pairsIn
 pairs-next p h k =
     let e : p ≡ (p - 1) + 1 = omega arith in
@@ -97,7 +99,8 @@ spans c = asc c && sub c (from 0 128)
 
 pub spans-literals : (x y : ℕ) → spans (literals 64 x y) ≡ true
 unfolding spans
-spans-literals x y = together (asc (literals 64 x y)) _ (literals-asc 64 x y) (sub-in (literals 64 x y) (from 0 128) (λ z m. from-mem 0 128 z ∙ rw (le-leb 0 z (omega arith), lt-ltb z 128 (mem-inside 64 x y z m))))
+spans-literals x y = together (asc (literals 64 x y)) _ (literals-asc 64 x y)
+    (sub-in (literals 64 x y) (from 0 128) (λ z m. from-mem 0 128 z ∙ rw (le-leb 0 z (omega arith), lt-ltb z 128 (mem-inside 64 x y z m))))
 
 -- no use, no weight
 kept-none : {A : Type 0} (p : A → Bool) (l : List A) → any p l ≡ false → length (keep p l) ≡ 0
@@ -139,7 +142,8 @@ module _ (n : Net) (w : all (all spans) (nodes n) ≡ true) where
       go (t .0) (z .1) (pairs-out (t .0) (z .0) e (t .2))
     where
       go : (c : List ℕ) → sub c (from 0 128) ≡ true → (p : ℕ) × (q : ℕ) × (e ≡ pair p q) × (p ∈ c) × (q ∈ c) × (p < q) → e ∈ pairsIn (from 0 128)
-      go c s (p, q, x, i, j, l) = rw x (pairs-made (from 0 128) (from-asc 0 128) (of-mem p (from 0 128) (sub-out c (from 0 128) p s (mem-of i))) (of-mem q (from 0 128) (sub-out c (from 0 128) q s (mem-of j))) l)
+      go c s (p, q, x, i, j, l) = rw x (pairs-made (from 0 128) (from-asc 0 128) (of-mem p (from 0 128) (sub-out c (from 0 128) p s (mem-of i)))
+          (of-mem q (from 0 128) (sub-out c (from 0 128) q s (mem-of j))) l)
 
   -- what leads all sums and all pairs below 128 leads the candidates
   pub leads-candidates : (s : Step) → Wins n (gather sumsIn (nodes n) ++ (pairsIn (from 0 128) ++ [])) s → Wins n (candidates n) s
@@ -149,7 +153,11 @@ module _ (n : Net) (w : all (all spans) (nodes n) ≡ true) where
         | inl i ↦ Memᴰ·append-right pairs i
         | inr i ↦ elim (List·Memᴰ·append-cases all-pairs i) [ inl j ↦ Memᴰ·append-left sums (pair-candidate e j a) | inr j ↦ absurd (List·Memᴰ·not-nil j) ]
       ])
-      (λ e m a. elim (List·Memᴰ·append-cases pairs m) [ inl i ↦ Memᴰ·append-right sums (Memᴰ·append-left [] (candidate-pair e i)) | inr i ↦ Memᴰ·append-left (all-pairs ++ []) i ])
+      (λ e m a. elim (List·Memᴰ·append-cases pairs m) [
+        | inl i ↦ Memᴰ·append-right sums
+            (Memᴰ·append-left [] (candidate-pair e i))
+        | inr i ↦ Memᴰ·append-left (all-pairs ++ []) i
+      ])
       h
     where
       sums : List extraction.Divisor

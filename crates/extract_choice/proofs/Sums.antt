@@ -3,7 +3,8 @@ use Prim.Native.Nat.{ℕ, zero, suc, _+_, _*_, _-_, _<_, _≤_}
 use mathlib.Core.Path.{_≡_, refl, sym, ap, ap₂, _∙_, subst}
 use mathlib.Core.Logic.{_⊎_, inl, inr}
 use mathlib.Core.Bool.{Bool, true, false, not, false≢true}
-use mathlib.Core.List.{List, [], _∷_, _++_, List·Memᴰ·head as here, List·Memᴰ·tail as there, List·Memᴰ·not-nil, List·Memᴰ·eq-of-singleton, Memᴰ·cast, Memᴰ·append-left, Memᴰ·append-right}
+use mathlib.Core.List.{List, [], _∷_, _++_, List·Memᴰ·head as here, List·Memᴰ·tail as there, List·Memᴰ·not-nil, List·Memᴰ·eq-of-singleton, Memᴰ·cast}
+use mathlib.Core.List.{Memᴰ·append-left, Memᴰ·append-right}
 use native.Mathlib.Nat.{mul-le-mul-right}
 use native.Mathlib.Omega.{arith}
 use lib.Dec.{ltb}
@@ -52,8 +53,10 @@ unfolding weight allUses basesLiterals
 sum-judged fs a b u l s h c z = record {
   leads = λ n e k known g.
       let x : u ≡ total (uses (sum (lits a) (lits b))) (nodes n) = c .uses ∙ ap (total (uses (sum (lits a) (lits b)))) (sym e) in
-      let y : l ≡ total (λ f. literalsOf (bases (sum (lits a) (lits b)) f)) (nodes n) = c .literals ∙ ap (total (λ f. literalsOf (bases (sum (lits a) (lits b)) f))) (sym e) in
-      leads-taken n (sum (lits a) (lits b)) k h _ (λ i. record { divisor = sum (lits a) (lits b); weight = pos (y i + x i * (z i - 1)) -ℤ pos (z i); uses = x i }) g;
+      let y : l ≡ total (λ f. literalsOf (bases (sum (lits a) (lits b)) f)) (nodes n) = c .literals
+      ∙ ap (total (λ f. literalsOf (bases (sum (lits a) (lits b)) f))) (sym e) in
+      leads-taken n (sum (lits a) (lits b)) k h _ (λ i. record
+      { divisor = sum (lits a) (lits b); weight = pos (y i + x i * (z i - 1)) -ℤ pos (z i); uses = x i }) g;
 }
 
 -- a sum that has a use among cubes is one of theirs
@@ -70,9 +73,11 @@ sum-known a b w f h k =
     (Memᴰ·cast (sym (ap₂ sum p q)) (o .0)) (Memᴰ·cast (sym (ap₂ sum p q)) (o .1))
 
 -- and need not be judged again
-pub sum-again : (p : Net → Type 0) (ws a b : List ℕ) (s : Step) → Parts a b → any (useOf a b (cubesOf ws)) (cubesOf ws) ≡ true → Adds p (sumsIn (cubesOf ws)) (sum a b ∷ []) s s
+pub sum-again : (p : Net → Type 0) (ws a b : List ℕ) (s : Step) → Parts a b → any (useOf a b (cubesOf ws)) (cubesOf ws) ≡ true
+    → Adds p (sumsIn (cubesOf ws)) (sum a b ∷ []) s s
 sum-again p ws a b s w h = record {
-  leads = λ n c l k g. leads-known n (sum a b ∷ []) l s (λ e m. k e (Memᴰ·cast (List·Memᴰ·eq-of-singleton m) (sum-known a b w (cubesOf ws) (all-words asc (literals-asc 64) ws) h))) g;
+  leads = λ n c l k g. leads-known n (sum a b ∷ []) l s (λ e m. k e
+      (Memᴰ·cast (List·Memᴰ·eq-of-singleton m) (sum-known a b w (cubesOf ws) (all-words asc (literals-asc 64) ws) h))) g;
 }
 
 -- ---- the sum of two cubes
@@ -90,7 +95,17 @@ module _ (c d : List ℕ) where
     module _ (k : small (without d c) ≡ true) (hc : asc c ≡ true) (hd : asc d ≡ true) where
       pub left-first : before (without c d) (without d c) ≡ true → (sumOf c d ≡ sum (without c d) (without d c) ∷ []) × Parts (without c d) (without d c)
       unfolding sumOf smallerFirst
-      left-first o = (rw (h, k, o), record { asc-a = without-asc c d hc; asc-b = without-asc d c hd; disjoint = parts-apart c d; small-a = h; small-b = k; ordered = o })
+      left-first o = (
+        rw (h, k, o),
+        record {
+          asc-a = without-asc c d hc;
+          asc-b = without-asc d c hd;
+          disjoint = parts-apart c d;
+          small-a = h;
+          small-b = k;
+          ordered = o;
+        },
+      )
 
       pub right-first : before (without c d) (without d c) ≡ false → (sumOf c d ≡ sum (without d c) (without c d) ∷ []) × Parts (without d c) (without c d)
       unfolding sumOf smallerFirst
@@ -162,7 +177,8 @@ module _ (n : Net) (a b : List ℕ) (h : Alone (nodes n) a) where
   lone-low = not-above _ (length a + length b) (omega (arith, lone-bases, mul-le-mul-right ((length a + length b) - 1) lone-uses))
 
 -- two cubes that share no literal, the first one alone
-pub lone-judged : (fs : List (List (List ℕ))) (known : List Divisor) (c d : List ℕ) (s : Step) → Alone fs c → before c d ≡ true → apart c d ≡ true → Adds (Nodes fs) known (sumOf c d) s s
+pub lone-judged : (fs : List (List (List ℕ))) (known : List Divisor) (c d : List ℕ) (s : Step) → Alone fs c → before c d ≡ true → apart c d ≡ true
+    → Adds (Nodes fs) known (sumOf c d) s s
 unfolding without apart
 lone-judged fs known c d s h o e = record {
   leads = λ n q l k g. leads-low n (sumOf c d) l s (λ x m. low n (subst (λ z. Alone z c) (sym q) h) x (sum-of-out c d x m)) g;
@@ -176,7 +192,8 @@ lone-judged fs known c d s h o e = record {
 
     low : (n : Net) → Alone (nodes n) c → (x : Divisor)
         → (small (without c d) ≡ true) × (small (without d c) ≡ true)
-        × (((x ≡ sum (without c d) (without d c)) × (before (without c d) (without d c) ≡ true)) ⊎ ((x ≡ sum (without d c) (without c d)) × (before (without c d) (without d c) ≡ false)))
+        × (((x ≡ sum (without c d) (without d c)) × (before (without c d) (without d c) ≡ true))
+        ⊎ ((x ≡ sum (without d c) (without c d)) × (before (without c d) (without d c) ≡ false)))
         → ltZ (pos 0) (weight n x) ≡ false
     low n w x (i, j, inl (p, t)) = ap (λ z. ltZ (pos 0) (weight n z)) (p ∙ ap₂ sum left right) ∙ lone-low n c d w
     low n w x (i, j, inr (p, t)) = clash o (ap₂ before (sym left) (sym right) ∙ t)
@@ -190,7 +207,8 @@ module _ {A : Type 0} (l : List A) (i : ℕ) (d : A) (h : 0 < i) (k : i ≤ leng
   pub gather-down : {B : Type 0} (g : A → List B) → gather g (drop (i - 1) l) ≡ g (getD l (i - 1) d) ++ gather g (drop i l)
   gather-down g = ap (gather g) drop-down
 
-pub sums-down : (f : List (List ℕ)) (i : ℕ) → 0 < i → i ≤ length f → sumsIn (drop (i - 1) f) ≡ gather (sumOf (getD f (i - 1) [])) (drop i f) ++ sumsIn (drop i f)
+pub sums-down : (f : List (List ℕ)) (i : ℕ) → 0 < i → i ≤ length f
+    → sumsIn (drop (i - 1) f) ≡ gather (sumOf (getD f (i - 1) [])) (drop i f) ++ sumsIn (drop i f)
 unfolding sumsIn
 sums-down f i h k = ap sumsIn (drop-down f i [] h k)
 

@@ -36,7 +36,8 @@ pub data Wins (n : Net) (l : List extraction.Divisor) (s : Step) : Type 0 where
 
 -- where s leads some divisors, the known ones among them, r leads those and the new ones, in each network that passes the test
 pub record Adds (p : Net → Type 0) (known new : List extraction.Divisor) (s r : Step) : Type 0 where
-  pub leads : (n : Net) → p n → (l : List extraction.Divisor) → ((d : extraction.Divisor) → List·Memᴰ d known → List·Memᴰ d l) → Wins n l s → Wins n (new ++ l) r
+  pub leads : (n : Net) → p n → (l : List extraction.Divisor) → ((d : extraction.Divisor) → List·Memᴰ d known → List·Memᴰ d l) → Wins n l s
+      → Wins n (new ++ l) r
 
 -- ---- what words and counts hold
 

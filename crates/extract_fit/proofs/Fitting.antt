@@ -49,7 +49,8 @@ module _ (v : ℕ) (d : Divisor) where
 
   fitting-in : Taking v d → fitting v d ≡ true
   unfolding fitting
-  fitting-in t = rw (t .whole, t .formed) (both (reach v (own d)) true (reach-in v (own d ∷ []) (λ f m x r. t .known x (subst (λ g. Reads g x) (List·Memᴰ·eq-of-singleton m) r))) .0)
+  fitting-in t = rw (t .whole, t .formed) (both (reach v (own d)) true
+      (reach-in v (own d ∷ []) (λ f m x r. t .known x (subst (λ g. Reads g x) (List·Memᴰ·eq-of-singleton m) r))) .0)
 
 -- what more variables are there for
 pub fitting-more : (v w : ℕ) (d : Divisor) → v ≤ w → fitting v d ≡ true → fitting w d ≡ true
@@ -78,12 +79,19 @@ module _ (v p q : ℕ) where
 
   pub pair-both-ways : oppositeOf p ≡ q → false ≡ fitting v (pair p q)
   pair-both-ways e = sym (refuted (λ h. clash (mem-of (there (here refl)))
-      (subst (λ x. mem x (p ∷ q ∷ []) ≡ false) e (proper-out (p ∷ q ∷ []) p (cube-proper (own (pair p q)) (fitting-out v (pair p q) h .formed) (here refl)) (mem-of (here refl))))))
+      (subst (λ x. mem x (p ∷ q ∷ []) ≡ false) e (proper-out (p ∷ q ∷ []) p (cube-proper (own (pair p q)) (fitting-out v (pair p q) h .formed) (here refl))
+      (mem-of (here refl))))))
 
   module _ (l : p < q) (k : oppositeOf p ≡ q → ⊥) where
     pair-proper : proper (p ∷ q ∷ []) ≡ true
     unfolding proper mem
-    pair-proper = rw (ne-eqb (oppositeOf p) p (λ e. omega arith), ne-eqb (oppositeOf p) q k, ne-eqb (oppositeOf q) p (λ e. k (omega arith)), ne-eqb (oppositeOf q) q (λ e. omega arith))
+    pair-proper = rw (
+      ne-eqb (oppositeOf p) p (λ e. omega arith),
+      ne-eqb (oppositeOf p) q k,
+      ne-eqb (oppositeOf q) p (λ e. k (omega arith)),
+      ne-eqb
+          (oppositeOf q) q (λ e. omega arith),
+    )
 
     pub pair-fits : ltb (q / 2) v ≡ fitting v (pair p q)
     unfolding fitting
@@ -161,7 +169,8 @@ sum-fits v a b sa sb = iff into back
     into h =
         let t = fitting-out v (sum a b) h in
         let w = sum-parts a b (t .whole) in
-        let known : (c : List ℕ) → c ∈ own (sum a b) → allBelow v c ≡ true = λ c m. all-in (λ l. ltb (l / 2) v) c (λ l i. lt-ltb (l / 2) v (t .known (l / 2) (c, m, (l, i, refl)))) in
+        let known : (c : List ℕ) → c ∈ own (sum a b) → allBelow v c ≡ true = λ c m. all-in (λ l. ltb (l / 2) v) c
+        (λ l i. lt-ltb (l / 2) v (t .known (l / 2) (c, m, (l, i, refl)))) in
         rw (
           w .small-a,
           cube-proper (own (sum a b)) (t .formed) (here refl),

@@ -42,7 +42,8 @@ module _ (n : Net) where
 
   -- a sum over the nodes that hangs on no order of cubes
   pub in-order-total : (g : List (List ℕ) → ℕ) → ((f : List (List ℕ)) → g (sort f) ≡ g f) → total g (nodes (inOrder n)) ≡ total g (nodes n)
-  in-order-total g h = ap (total g) in-order-nodes ∙ total-map g sort (nodes n) ∙ omega (arith, total-const (λ f. g (sort f)) g 0 (nodes n) (λ f m. omega (arith, h f)))
+  in-order-total g h = ap (total g) in-order-nodes ∙ total-map g sort (nodes n)
+      ∙ omega (arith, total-const (λ f. g (sort f)) g 0 (nodes n) (λ f m. omega (arith, h f)))
 
   -- literals, cubes, inputs, outputs and divisors are as many as before
   pub in-order-literals : literalCount (inOrder n) ≡ literalCount n
@@ -68,7 +69,8 @@ module _ (n : Net) where
 
   in-order-turn : InTurn n → InTurn (inOrder n)
   unfolding inOrder
-  in-order-turn t = ap (map (onNode sort)) t ∙ numbered-map sort (n .inputs) (cubes (n .divisors)) ∙ ap (numbered (n .inputs)) (sym (cubes-map sort (n .divisors)))
+  in-order-turn t = ap (map (onNode sort)) t ∙ numbered-map sort (n .inputs) (cubes (n .divisors))
+      ∙ ap (numbered (n .inputs)) (sym (cubes-map sort (n .divisors)))
 
   in-order-same : Reordered n (inOrder n)
   unfolding inOrder

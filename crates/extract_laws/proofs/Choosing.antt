@@ -64,7 +64,8 @@ sooner-order = record { irrefl = irr; trans = tr; linear = li }
     li (pair p q) (pair r s) h k = let e = before-order .linear (p ∷ q ∷ []) (r ∷ s ∷ []) h k in cc
     li (pair p q) (sum c d) h k = clash refl h
     li (sum a b) (pair r s) h k = clash refl k
-    li (sum a b) (sum c d) h k = let q = lex-linear before before-order a c (before b d) (before d b) h k in ap₂ sum (q .0) (before-order .linear b d (q .1) (q .2))
+    li (sum a b) (sum c d) h k = let q = lex-linear before before-order a c (before b d) (before d b) h k in
+        ap₂ sum (q .0) (before-order .linear b d (q .1) (q .2))
 
 -- a greater weight, or on a tie the sooner one
 pub better-order : (n : Net) → Strict (better n)
@@ -140,7 +141,8 @@ module _ (n : Net) where
   best-iff d = go (candidates n) refl
     where
       found : (e : Divisor) (l : List Divisor) → candidates n ≡ e ∷ l → Best n (top (better n) e l)
-      found e l p = best-in (top (better n) e l) (rw p (top-in (better n) (better-order n) e l)) (λ g m. top-first (better n) (better-order n) e l (subst (g ∈_) p m))
+      found e l p = best-in (top (better n) e l) (rw p (top-in (better n) (better-order n) e l))
+          (λ g m. top-first (better n) (better-order n) e l (subst (g ∈_) p m))
 
       go : (l : List Divisor) → candidates n ≡ l → (bestOf n l ≡ some d) ↔ Best n d
       go [] p = (λ h. absurd (Option·none-ne-some d h), λ b. absurd (List·Memᴰ·not-nil (subst (d ∈_) p (b .chosen))))

@@ -50,4 +50,5 @@ module _ (n p : Network) (shape : Shaped n) (k : ℕ) (r : rules n ≡ true) (h 
   -- and gives the same outputs for every setting
   pub run-evaluated : (s : ℕ) → evaluated p s ≡ evaluated n s
   unfolding evaluated
-  run-evaluated s = rw (run-rules, r) (ap Is (ap (λ (z : Net). evaluate z s) (holds-net p (run k (netOf n) .network) h (left .inTurn)) ∙ run-evaluate k (netOf n) good s))
+  run-evaluated s = rw (run-rules, r)
+      (ap Is (ap (λ (z : Net). evaluate z s) (holds-net p (run k (netOf n) .network) h (left .inTurn)) ∙ run-evaluate k (netOf n) good s))

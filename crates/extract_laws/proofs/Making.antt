@@ -38,10 +38,12 @@ module _ (h : List (List ℕ) → List (List ℕ)) where
   numbered-map v [] = refl
   numbered-map v (f ∷ fs) = ap (record { number = v; cubes = h f } ∷_) (numbered-map (suc v) fs)
 
-numbered-snoc : (v : ℕ) (fs : List (List (List ℕ))) (f : List (List ℕ)) → numbered v (fs ++ (f ∷ [])) ≡ numbered v fs ++ (record { number = v + length fs; cubes = f } ∷ [])
+numbered-snoc : (v : ℕ) (fs : List (List (List ℕ))) (f : List (List ℕ))
+    → numbered v (fs ++ (f ∷ [])) ≡ numbered v fs ++ (record { number = v + length fs; cubes = f } ∷ [])
 unfolding numbered
 numbered-snoc v [] f = let e : v + 0 ≡ v = omega arith in rw e
-numbered-snoc v (g ∷ fs) f = let e : v + suc (length fs) ≡ suc v + length fs = omega arith in rw e (ap (record { number = v; cubes = g } ∷_) (numbered-snoc (suc v) fs f))
+numbered-snoc v (g ∷ fs) f = let e : v + suc (length fs) ≡ suc v + length fs = omega arith in
+    rw e (ap (record { number = v; cubes = g } ∷_) (numbered-snoc (suc v) fs f))
 
 -- ---- a step
 
@@ -58,7 +60,8 @@ module _ (n : Net) (d : Divisor) where
   -- each node is rewritten, and the last is the divisor's own
   pub step-nodes : nodes (step n d) ≡ map (rewrite (2 * nextFree n) d) (nodes n) ++ (own d ∷ [])
   step-nodes =
-      ap (map (rewrite (2 * nextFree n) d) (n .outputs) ++_) (map-append (λ (e : Node). e .cubes) (map (redo (2 * nextFree n) d) (n .divisors)) (record { number = nextFree n; cubes = own d } ∷ []))
+      ap (map (rewrite (2 * nextFree n) d) (n .outputs) ++_)
+      (map-append (λ (e : Node). e .cubes) (map (redo (2 * nextFree n) d) (n .divisors)) (record { number = nextFree n; cubes = own d } ∷ []))
       ∙ sym (append-assoc (map (rewrite (2 * nextFree n) d) (n .outputs)) (cubes (map (redo (2 * nextFree n) d) (n .divisors))) (own d ∷ []))
       ∙ ap (_++ (own d ∷ [])) (nodes-map (rewrite (2 * nextFree n) d) (n .outputs) (n .divisors))
 
@@ -79,22 +82,30 @@ module _ (n : Net) (d : Divisor) where
   )
 
   -- a divisor of the step's network is an old one, rewritten, or the new one
-  pub step-divisor : (e : Node) → e ∈ step n d .divisors → ((c : Node) × (c ∈ n .divisors) × (e ≡ redo (2 * nextFree n) d c)) ⊎ (e ≡ record { number = nextFree n; cubes = own d })
+  pub step-divisor : (e : Node) → e ∈ step n d .divisors → ((c : Node) × (c ∈ n .divisors) × (e ≡ redo (2 * nextFree n) d c))
+      ⊎ (e ≡ record { number = nextFree n; cubes = own d })
   step-divisor e m = elim (List·Memᴰ·append-cases (map (redo (2 * nextFree n) d) (n .divisors)) m)
       [ inl j ↦ inl (map-out (redo (2 * nextFree n) d) (n .divisors) j) | inr j ↦ inr (List·Memᴰ·eq-of-singleton j) ]
 
   -- one variable more
   pub step-variables : variables (step n d) ≡ suc (variables n)
-  step-variables = omega (arith, length-append (map (redo (2 * nextFree n) d) (n .divisors)) (record { number = nextFree n; cubes = own d } ∷ []), length-map (n .divisors) (redo (2 * nextFree n) d))
+  step-variables = omega (
+    arith,
+    length-append (map (redo (2 * nextFree n) d) (n .divisors))
+        (record { number = nextFree n; cubes = own d } ∷ []),
+    length-map (n .divisors) (redo (2 * nextFree n) d),
+  )
 
   -- the next free number is next in turn
   pub step-turn : InTurn n → InTurn (step n d)
   unfolding nextFree
   step-turn t =
-      ap (_++ (record { number = nextFree n; cubes = own d } ∷ [])) (ap (map (redo (2 * nextFree n) d)) t ∙ numbered-map (rewrite (2 * nextFree n) d) (n .inputs) (cubes (n .divisors)))
+      ap (_++ (record { number = nextFree n; cubes = own d } ∷ []))
+      (ap (map (redo (2 * nextFree n) d)) t ∙ numbered-map (rewrite (2 * nextFree n) d) (n .inputs) (cubes (n .divisors)))
       ∙ ap (λ k. numbered (n .inputs) fs ++ (record { number = n .inputs + k; cubes = own d } ∷ [])) same
       ∙ sym (numbered-snoc (n .inputs) fs (own d))
-      ∙ ap (numbered (n .inputs)) (sym (map-append (λ (e : Node). e .cubes) (map (redo (2 * nextFree n) d) (n .divisors)) (record { number = nextFree n; cubes = own d } ∷ []) ∙ ap (_++ (own d ∷ [])) (cubes-map (rewrite (2 * nextFree n) d) (n .divisors))))
+      ∙ ap (numbered (n .inputs)) (sym (map-append (λ (e : Node). e .cubes) (map (redo (2 * nextFree n) d) (n .divisors))
+      (record { number = nextFree n; cubes = own d } ∷ []) ∙ ap (_++ (own d ∷ [])) (cubes-map (rewrite (2 * nextFree n) d) (n .divisors))))
     where
       fs : List (List (List ℕ))
       fs = map (rewrite (2 * nextFree n) d) (cubes (n .divisors))

@@ -38,7 +38,8 @@ module _ (n : Net) where
       fits d w false c p q = noNumber w (ltb-false _ _ p)
 
       weigh : (d : Divisor) → Best n d → (b : Bool) → ltZ (pos 0) (weight n d) ≡ b
-          → Allows n (cond b (cond (ltb (variables n) mostVariables) (cond (ltb mostCubes (cubeCount (step n d))) (stuck rows) (makes d)) (stuck numbers)) finished)
+          → Allows n (cond b (cond (ltb (variables n) mostVariables) (cond (ltb mostCubes (cubeCount (step n d))) (stuck rows) (makes d)) (stuck numbers))
+          finished)
       weigh d t true p = fits d (record { best = t; above = p }) (ltb (variables n) mostVariables) (ltb mostCubes (cubeCount (step n d))) refl refl
       weigh d t false p = nothing (λ e m. not-after (λ u v. ltZ v u) heavier-order (weight n e) (weight n d) (pos 0) (t .heaviest e m) p)
 

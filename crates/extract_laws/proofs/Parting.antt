@@ -19,7 +19,8 @@ table false q = refl
 
 -- a cube less the common literals is what it has and the other has not
 pub less-left : (c e : List ℕ) → asc c ≡ true → without c (meet c e) ≡ without c e
-less-left c e hc = ext (without c (meet c e)) (without c e) (without-asc c (meet c e) hc) (without-asc c e hc) (λ z. simp (without-mem, meet-mem) (table (mem z c) (mem z e)))
+less-left c e hc = ext (without c (meet c e)) (without c e) (without-asc c (meet c e) hc) (without-asc c e hc)
+    (λ z. simp (without-mem, meet-mem) (table (mem z c) (mem z e)))
 
 pub less-right : (c e : List ℕ) → asc e ≡ true → without e (meet c e) ≡ without e c
 less-right c e he = ext (without e (meet c e)) (without e c) (without-asc e (meet c e) he) (without-asc e c he)
@@ -48,7 +49,8 @@ and-no false = refl
 pub parts-use : (c e : List ℕ) → asc e ≡ true → (f : List (List ℕ)) → e ∈ f → useOf (without c e) (without e c) f c ≡ true
 parts-use c e he f m = use-in (without c e) (without e c) f c (record {
   inside = without-sub c e;
-  free = apart-in (without c (without c e)) (without e c) (λ z k. rw (without-mem, (both (mem z c) _ (sym (without-mem z c (without c e)) ∙ k)) .0) (and-no (mem z e)));
+  free = apart-in (without c (without c e)) (without e c) (λ z k. rw (without-mem, (both (mem z c) _ (sym (without-mem z c (without c e)) ∙ k)) .0)
+      (and-no (mem z e)));
   partner = rw (ext (other (without c e) (without e c) c) e (union-asc (without c (without c e)) (without e c) (without-asc e c he)) he
       (λ z. simp (union-mem, without-mem) (both-ways (mem z c) (mem z e)))) m;
 })

@@ -1,4 +1,5 @@
--- What divisors read after a step: what they read before, or the new one, which reads no more than those that it stands in; so none reads itself through others. Assumes nothing.
+-- What divisors read after a step: what they read before, or the new one, which reads no more than those that it stands in; so none reads
+-- itself through others. Assumes nothing.
 use Prim.Native.Nat.{ℕ, _*_, _/_, _<_}
 use mathlib.Core.Path.{_≡_, refl, sym, ap, _∙_, subst}
 use mathlib.Core.Logic.{_⊎_, inl, inr, _↔_}
@@ -24,7 +25,13 @@ module _ (n : Net) (g : Good n) (d : Divisor) (fit : Fit n d) where
   old-below : {c : Node} → c ∈ n .divisors → c .number < nextFree n
   old-below {c} m =
       let fs = map (λ (e : Node). e .cubes) (n .divisors) in
-      omega (arith, next-free n, (numbered-range (n .inputs) fs c (subst (λ (l : List Node). c ∈ l) (g .inTurn) m)) .1, length-map (n .divisors) (λ (e : Node). e .cubes))
+      omega (
+        arith,
+        next-free n,
+        (numbered-range (n .inputs) fs c (subst (λ (l : List Node). c ∈ l) (g .inTurn) m)) .1,
+        length-map (n .divisors)
+            (λ (e : Node). e .cubes),
+      )
 
   half : 2 * nextFree n / 2 ≡ nextFree n
   half = omega arith
@@ -82,7 +89,8 @@ module _ (n : Net) (g : Good n) (d : Divisor) (fit : Fit n d) where
   ]
   lead {v = v} (others {e = e} {g = h} m i r t) l = go (edge e m (h .number) r) (lead t l)
     where
-      go : From (e .number) (h .number) ⊎ ((h .number ≡ nextFree n) × ((c : Node) × (c ∈ n .divisors) × (e .number ≡ c .number) × Hit c)) → Lead (h .number) v → Lead (e .number) v
+      go : From (e .number) (h .number) ⊎ ((h .number ≡ nextFree n) × ((c : Node) × (c ∈ n .divisors) × (e .number ≡ c .number) × Hit c))
+          → Lead (h .number) v → Lead (e .number) v
       go (inl f) k = compose f k
       go (inr (q, (c, j, p, b))) (w, inl (a, x, y, z), o) = absurd (omega (arith, old-below x))
       go (inr (q, (c, j, p, b))) (w, inr (y, z), o) = (w, inl (c, j, p, own-reads d (c .cubes) (b .0) (b .1) (b .2) w z), o)
@@ -103,7 +111,11 @@ module _ (n : Net) (g : Good n) (d : Divisor) (fit : Fit n d) where
       go (inr (z, (c, j, p, b))) k = (c, j, b, inl p)
 
   which : (e : Node) → e ∈ step n d .divisors → (e .number < nextFree n) ⊎ (e .number ≡ nextFree n)
-  which e m = elim (step-divisor n d e m) [ inl (c, i, p) ↦ inl (rw (ap (λ (z : Node). z .number) p) (old-below i)) | inr p ↦ inr (ap (λ (z : Node). z .number) p) ]
+  which e m = elim (step-divisor n d e m) [
+    | inl (c, i, p) ↦ inl (rw (ap (λ (z : Node). z .number) p) (old-below i))
+    | inr p ↦ inr
+        (ap (λ (z : Node). z .number) p)
+  ]
 
   starts : {u v : ℕ} → Through (step n d) u v → (u < nextFree n) ⊎ (u ≡ nextFree n)
   starts (itself {e = e} m i r) = which e m

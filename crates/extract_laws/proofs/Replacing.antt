@@ -1,9 +1,11 @@
--- A divisor replaced by a literal in every use: the value is kept where the literal has the divisor's, and the cubes are an expression again, in cube order. Assumes nothing.
+-- A divisor replaced by a literal in every use: the value is kept where the literal has the divisor's, and the cubes are an expression
+-- again, in cube order. Assumes nothing.
 use Prim.Native.Nat.{ℕ, _*_, _/_, _<_}
 use mathlib.Core.Path.{_≡_, refl, sym, ap, _∙_, subst}
 use mathlib.Core.Logic.{_⊎_, inl, inr, _↔_}
 use mathlib.Core.Bool.{Bool, true, false, not, _||_, or-false, or-true}
-use mathlib.Core.List.{List, [], _∷_, _++_, map, List·Memᴰ·head as here, List·Memᴰ·tail as there, Memᴰ·append-left, Memᴰ·append-right, List·Memᴰ·append-cases, List·Memᴰ·eq-of-singleton}
+use mathlib.Core.List.{List, [], _∷_, _++_, map, List·Memᴰ·head as here, List·Memᴰ·tail as there, Memᴰ·append-left, Memᴰ·append-right}
+use mathlib.Core.List.{List·Memᴰ·append-cases, List·Memᴰ·eq-of-singleton}
 use native.Mathlib.Omega.{arith}
 use lib.Dec.{eqb}
 use borrow.Author.Tests.{not-true, eqb-true, eq-eqb}
@@ -11,8 +13,10 @@ use Rattle.sets.specs.Lists.{all, keep, pairwise}
 use Rattle.sets.specs.Literal.{oppositeOf}
 use Rattle.sets.specs.Sets.{mem, sub, insert, without, same}
 use Rattle.sets.proofs.Truth.{iff, both, together, either, decided, clash, refuted}
-use Rattle.sets.proofs.Lists.{_∈_, any-in, any-out, all-in, keep-in, keep-out, map-in, map-out, pairwise-keep, pairwise-out, pairwise-imp, pairwise-append, pairwise-map}
-use Rattle.sets.proofs.Sets.{mem-of, of-mem, sub-in, sub-out, insert-mem, union-mem, without-mem, insert-asc, without-asc, insert-all, union-all, all-rejoin, proper-in, proper-out}
+use Rattle.sets.proofs.Lists.{_∈_, any-in, any-out, all-in, keep-in, keep-out, map-in, map-out, pairwise-keep, pairwise-out, pairwise-imp}
+use Rattle.sets.proofs.Lists.{pairwise-append, pairwise-map}
+use Rattle.sets.proofs.Sets.{mem-of, of-mem, sub-in, sub-out, insert-mem, union-mem, without-mem, insert-asc, without-asc, insert-all, union-all}
+use Rattle.sets.proofs.Sets.{all-rejoin, proper-in, proper-out}
 use Rattle.expression.specs.Expression.{isCube, loose, expression, ordered}
 use Rattle.expression.specs.Value.{value}
 use Rattle.expression.proofs.Sorting.{sort-in, sort-out, pairwise-sort, sort-ordered, loose-flip, loose-differ}
@@ -42,7 +46,8 @@ module _ (x : ℕ) (d : Divisor) (f : List (List ℕ)) where
   rewrite-rest m g = sort-in (Memᴰ·append-right (map (swap x (part d)) (found d f)) (keep-in (λ z. not (gone d f z)) m (ap not g)))
 
   -- exactly: the bases of the uses, each with the literal, and the cubes that are in no use
-  pub rewrite-iff : sound d ≡ true → expression f ≡ true → (c : List ℕ) → (c ∈ rewrite x d f) ↔ (((z : List ℕ) × (z ∈ bases d f) × (c ≡ insert x z)) ⊎ ((c ∈ f) × (InUse d f c → ⊥)))
+  pub rewrite-iff : sound d ≡ true → expression f ≡ true → (c : List ℕ) → (c ∈ rewrite x d f)
+      ↔ (((z : List ℕ) × (z ∈ bases d f) × (c ≡ insert x z)) ⊎ ((c ∈ f) × (InUse d f c → ⊥)))
   unfolding swap
   rewrite-iff s e c = (
     λ m. elim (rewrite-in c m) [
@@ -50,7 +55,8 @@ module _ (x : ℕ) (d : Divisor) (f : List (List ℕ)) where
       | inr (i, g) ↦ inr (i, λ u. clash ((gone-iff d s f e i) .1 u) g)
     ],
     λ k. elim k [
-      | inl (z, m, p) ↦ let q = map-out (λ y. without y (part d)) (found d f) m in let k = keep-out (hit d f) f (q .1) in rw (p, q .2) (rewrite-new (k .0) (k .1))
+      | inl (z, m, p) ↦ let q = map-out (λ y. without y (part d)) (found d f) m in let k = keep-out (hit d f) f (q .1) in
+          rw (p, q .2) (rewrite-new (k .0) (k .1))
       | inr (m, n) ↦ rewrite-rest m (refuted (λ g. n ((gone-iff d s f e m) .0 g)))
     ],
   )
@@ -59,7 +65,8 @@ module _ (x : ℕ) (d : Divisor) (f : List (List ℕ)) where
 
 module _ (v : ℕ → Bool) (f : List (List ℕ)) (e : expression f ≡ true) where
   -- a use whose base is true makes the expression true where the divisor is true
-  hit-value : (d : Divisor) → sound d ≡ true → {c : List ℕ} → c ∈ f → hit d f c ≡ true → all v (without c (part d)) ≡ true → value v (own d) ≡ true → value v f ≡ true
+  hit-value : (d : Divisor) → sound d ≡ true → {c : List ℕ} → c ∈ f → hit d f c ≡ true → all v (without c (part d)) ≡ true → value v (own d) ≡ true
+      → value v f ≡ true
   hit-value (pair p q) s {c} m h b o =
       any-in (all v) m (all-rejoin c (p ∷ q ∷ []) (cube-asc f e m) (part-asc (pair p q) s) h v ∙ rw b (sym (or-false _) ∙ o))
   hit-value (sum x y) s {c} m h b o =
@@ -97,7 +104,8 @@ module _ (v : ℕ → Bool) (f : List (List ℕ)) (e : expression f ≡ true) wh
       into h =
           let r = any-out (all v) (rewrite x d f) h in
           elim (rewrite-in x d f (r .0) (r .1)) [
-            | inl (b, i, k, p) ↦ let w = both _ _ (sym (insert-all v x (without b (part d))) ∙ sym (ap (all v) p) ∙ r .2) in hit-value d s i k (w .1) (sym t ∙ w .0)
+            | inl (b, i, k, p) ↦ let w = both _ _ (sym (insert-all v x (without b (part d))) ∙ sym (ap (all v) p) ∙ r .2) in
+                hit-value d s i k (w .1) (sym t ∙ w .0)
             | inr (i, g) ↦ any-in (all v) i (r .2)
           ]
 
@@ -211,7 +219,8 @@ own-reads (sum a b) f c m h v (g, there i, (l, j, e)) =
     rw e (read ((use-out a b f c h) .partner) l (rw (union-mem, mem-of (subst (l ∈_) (List·Memᴰ·eq-of-singleton i) j), or-true)))
 
 -- a rewriting reads the new variable, where there is a use, and what was read before
-pub rewrite-reads : (x : ℕ) (d : Divisor) (f : List (List ℕ)) (v : ℕ) → Reads (rewrite x d f) v → ((v ≡ x / 2) × ((c : List ℕ) × (c ∈ f) × (hit d f c ≡ true))) ⊎ Reads f v
+pub rewrite-reads : (x : ℕ) (d : Divisor) (f : List (List ℕ)) (v : ℕ) → Reads (rewrite x d f) v
+    → ((v ≡ x / 2) × ((c : List ℕ) × (c ∈ f) × (hit d f c ≡ true))) ⊎ Reads f v
 rewrite-reads x d f v (c, m, (l, j, e)) = elim (rewrite-in x d f c m) [
   | inl (b, i, h, p) ↦ elim (swap-out x (part d) b l (mem-of (subst (l ∈_) p j))) [ inl w ↦ inl (e ∙ ap (_/ 2) w, (b, i, h)) | inr w ↦ inr (rw e (read i l w)) ]
   | inr (i, g) ↦ inr (c, i, (l, j, e))

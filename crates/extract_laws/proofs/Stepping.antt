@@ -33,7 +33,11 @@ module _ (n : Net) (g : Good n) (d : Divisor) (fit : Fit n d) where
   -- a step keeps the rules on networks
   pub step-good : Good (step n d)
   step-good = record {
-    expressions = λ f i. elim (step-node n d f i) [ inl p ↦ rw p (fit .formed) | inr (h, k, p) ↦ rw p (rewrite-expression (nextFree n) d h (g .expressions h k) (below-free n g h k)) ];
+    expressions = λ f i. elim (step-node n d f i) [
+      | inl p ↦ rw p (fit .formed)
+      | inr (h, k, p) ↦ rw p
+          (rewrite-expression (nextFree n) d h (g .expressions h k) (below-free n g h k))
+    ];
     known = λ f i v r. elim (step-node n d f i) [
       | inl p ↦ omega (arith, step-variables n d, fit .known v (subst (λ z. Reads z v) p r))
       | inr (h, k, p) ↦ elim (rewrite-reads (2 * nextFree n) d h v (subst (λ z. Reads z v) p r))
@@ -56,7 +60,8 @@ module _ (n : Net) (g : Good n) (d : Divisor) (fit : Fit n d) where
     -- a rewritten expression has its value, since the new variable has the divisor's
     kept : (f : List (List ℕ)) → f ∈ nodes n → value (lit a) (rewrite (2 * nextFree n) d f) ≡ value (lit a) f
     kept f i = rewrite-value (lit a) f (g .expressions f i) (2 * nextFree n) d (fit .whole)
-        (lit-plain a (nextFree n) ∙ c .divisors (record { number = nextFree n; cubes = own d }) (Memᴰ·append-right (map (redo (2 * nextFree n) d) (n .divisors)) (here refl)))
+        (lit-plain a (nextFree n) ∙ c .divisors (record { number = nextFree n; cubes = own d })
+        (Memᴰ·append-right (map (redo (2 * nextFree n) d) (n .divisors)) (here refl)))
 
     -- what fits the step's network fits the network before
     pub step-consistent : Consistent n s a

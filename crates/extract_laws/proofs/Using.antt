@@ -9,7 +9,8 @@ use Rattle.sets.specs.Lists.{all, pairwise}
 use Rattle.sets.specs.Sets.{mem, sub, apart, asc, proper, union, without, same, before}
 use Rattle.sets.proofs.Truth.{both, either, decided, clash, refuted}
 use Rattle.sets.proofs.Lists.{_∈_, all-out, keep-in, keep-out, map-in, map-out, pairwise-imp, pairwise-keep, pairwise-map}
-use Rattle.sets.proofs.Sets.{mem-of, sub-out, apart-in, apart-out, union-mem, union-right, without-mem, without-asc, without-apart, rejoin, unjoin, same-eq, eq-same}
+use Rattle.sets.proofs.Sets.{mem-of, sub-out, apart-in, apart-out, union-mem, union-right, without-mem, without-asc, without-apart, rejoin, unjoin}
+use Rattle.sets.proofs.Sets.{same-eq, eq-same}
 use Rattle.expression.specs.Expression.{isCube, loose, expression, has}
 use Rattle.expression.proofs.Members.{has-in, has-out}
 use Rattle.expression.proofs.Sorting.{loose-differ}
@@ -93,7 +94,11 @@ unfolding sub
 pair-hit p q c = (λ h. let w = both (mem p c) (mem q c && true) h in (w .0, (both (mem q c) true (w .1)) .0), λ (i, j). rw (i, j))
 
 pub pair-uses : (p q : ℕ) (f : List (List ℕ)) (c : List ℕ) → (c ∈ found (pair p q) f) ↔ ((c ∈ f) × (mem p c ≡ true) × (mem q c ≡ true))
-pair-uses p q f c = (λ m. let k = keep-out (hit (pair p q) f) f m in let w = (pair-hit p q c) .0 (k .1) in (k .0, w .0, w .1), λ (m, i, j). keep-in (hit (pair p q) f) m ((pair-hit p q c) .1 (i, j)))
+pair-uses p q f c = (
+  λ m. let k = keep-out (hit (pair p q) f) f m in
+      let w = (pair-hit p q c) .0 (k .1) in (k .0, w .0, w .1),
+  λ (m, i, j). keep-in (hit (pair p q) f) m ((pair-hit p q c) .1 (i, j)),
+)
 
 module _ (a b : List ℕ) (ha : asc a ≡ true) (hb : asc b ≡ true) (f : List (List ℕ)) (e : expression f ≡ true) where
   -- the other cube of a use, which has the same base
@@ -152,7 +157,8 @@ module _ (a b : List ℕ) (w : Parts a b) (f : List (List ℕ)) (e : expression 
     λ m. let q = map-out (λ z. without z a) (found (sum a b) f) m in
         let k = keep-out (useOf a b f) f (q .1) in
         subst (Base a b f) (sym (q .2)) ((use-base a b (w .asc-a) f e (k .0) (k .1)) .0),
-    λ r. Memᴰ·cast (sym (unjoin c a (r .ascending) (w .asc-a) (r .off-a))) (map-in (λ z. without z a) (keep-in (useOf a b f) (r .with-a) (base-use a b (w .asc-a) f r))),
+    λ r. Memᴰ·cast (sym (unjoin c a (r .ascending) (w .asc-a) (r .off-a)))
+        (map-in (λ z. without z a) (keep-in (useOf a b f) (r .with-a) (base-use a b (w .asc-a) f r))),
   )
 
   -- each of them once

@@ -13,7 +13,8 @@ use borrow.Author.Tests.{ltb-true}
 use Rattle.sets.specs.Lists.{keep, total}
 use Rattle.sets.specs.Sets.{mem, without, same}
 use Rattle.sets.proofs.Truth.{both, clash}
-use Rattle.sets.proofs.Lists.{_∈_, keep-in, keep-out, map-in, map-out, total-append, total-map, total-const, total-sum, total-times, total-split, total-or, total-same, pairwise-keep, pairwise-map}
+use Rattle.sets.proofs.Lists.{_∈_, keep-in, keep-out, map-in, map-out, total-append, total-map, total-const, total-sum, total-times, total-split}
+use Rattle.sets.proofs.Lists.{total-or, total-same, pairwise-keep, pairwise-map}
 use Rattle.sets.proofs.Sets.{without-mem, without-asc, insert-length, union-length, length-rejoin, same-self}
 use Rattle.expression.specs.Expression.{expression, literalsOf}
 use Rattle.expression.proofs.Sorting.{total-sort}
@@ -36,7 +37,8 @@ total-one (c ∷ l) = omega (arith, total-one l)
 module _ (x : ℕ) (d : Divisor) (f : List (List ℕ)) (g : List ℕ → ℕ) where
   rewrite-total : total g (rewrite x d f) ≡ total (λ c. g (swap x (part d) c)) (found d f) + total g (keep (λ c. not (gone d f c)) f)
   unfolding rewrite
-  rewrite-total = total-sort g _ ∙ total-append g (map (swap x (part d)) (found d f)) _ ∙ ap (_+ total g (keep (λ c. not (gone d f c)) f)) (total-map g (swap x (part d)) (found d f))
+  rewrite-total = total-sort g _ ∙ total-append g (map (swap x (part d)) (found d f)) _
+      ∙ ap (_+ total g (keep (λ c. not (gone d f c)) f)) (total-map g (swap x (part d)) (found d f))
 
 -- the cubes of a sum's uses, base ∪ b counted beside base ∪ a
 module _ (a b : List ℕ) (w : Parts a b) (f : List (List ℕ)) (e : expression f ≡ true) (g : List ℕ → ℕ) where
@@ -55,14 +57,17 @@ module _ (a b : List ℕ) (w : Parts a b) (f : List (List ℕ)) (e : expression 
       (λ c d m n h. differ-in (other a b c) (other a b d) (λ p. differ-out c d h (sym ((forth m) .back) ∙ ap (other b a) p ∙ (forth n) .back)))
       (pairwise-keep (λ c d. not (same c d)) (useOf a b f) f (cubes-differ f e)))
       (λ c m. Memᴰ·cast (sym ((back m) .back)) (map-in (other a b) (keep-in (useOf a b f) ((back m) .inside) ((back m) .turned))))
-      (λ c m. let q = map-out (other a b) (keep (useOf a b f) f) m in Memᴰ·cast (q .2) (keep-in (useOf b a f) ((forth (q .1)) .inside) ((forth (q .1)) .turned)))
+      (λ c m. let q = map-out (other a b) (keep (useOf a b f) f) m in
+      Memᴰ·cast (q .2) (keep-in (useOf b a f) ((forth (q .1)) .inside) ((forth (q .1)) .turned)))
       ∙ total-map g (other a b) (keep (useOf a b f) f)
 
   -- all cubes: those of the uses, and the rest
-  sum-total : total g f ≡ (total g (keep (useOf a b f) f) + total (λ c. g (other a b c)) (keep (useOf a b f) f)) + total g (keep (λ c. not (gone (sum a b) f c)) f)
+  sum-total : total g f ≡ (total g (keep (useOf a b f) f) + total (λ c. g (other a b c)) (keep (useOf a b f) f)) + total g
+      (keep (λ c. not (gone (sum a b) f c)) f)
   sum-total =
       total-split g (gone (sum a b) f) f
-      ∙ ap (_+ total g (keep (λ c. not (gone (sum a b) f c)) f)) (total-or g (useOf a b f) (useOf b a f) f (λ c m. use-one-way a b w f c) ∙ ap (total g (keep (useOf a b f) f) +_) partners)
+      ∙ ap (_+ total g (keep (λ c. not (gone (sum a b) f c)) f))
+      (total-or g (useOf a b f) (useOf b a f) f (λ c m. use-one-way a b w f c) ∙ ap (total g (keep (useOf a b f) f) +_) partners)
 
 -- ---- what a divisor saves in one expression
 
@@ -86,9 +91,17 @@ module _ (k : ℕ) (d : Divisor) (s : sound d ≡ true) (f : List (List ℕ)) (e
 pub pair-saves : (k p q : ℕ) → sound (pair p q) ≡ true → (f : List (List ℕ)) → expression f ≡ true → ((v : ℕ) → Reads f v → v < k)
     → literalsOf f ≡ literalsOf (rewrite (2 * k) (pair p q) f) + uses (pair p q) f
 pair-saves k p q s f e u =
-    omega (arith, rewrite-total (2 * k) (pair p q) f length, new-cubes k (pair p q) s f e u, old-cubes k (pair p q) s f e u, total-split length (hit (pair p q) f) f)
+    omega (
+      arith,
+      rewrite-total (2 * k) (pair p q) f length,
+      new-cubes k (pair p q) s f e u,
+      old-cubes k (pair p q) s f e u,
+      total-split length
+          (hit (pair p q) f) f,
+    )
 
-saved : (u la lb k B rest new ab ba whole : ℕ) → la + lb ≡ suc k → ab ≡ B + u * la → ba ≡ B + u * lb → new ≡ (B + u) + rest → whole ≡ (ab + ba) + rest → whole ≡ new + (B + u * k)
+saved : (u la lb k B rest new ab ba whole : ℕ) → la + lb ≡ suc k → ab ≡ B + u * la → ba ≡ B + u * lb → new ≡ (B + u) + rest → whole ≡ (ab + ba) + rest
+    → whole ≡ new + (B + u * k)
 saved u la lb k B rest new ab ba whole e h1 h2 h3 h4 = omega (arith, ap (u *_) e)
 
 -- a sum saves its bases, and the literals of its parts but one in each use
@@ -113,7 +126,8 @@ abbrev gain : Divisor → List (List ℕ) → ℕ
 gain (pair p q) f = uses (pair p q) f
 gain (sum a b) f = literalsOf (bases (sum a b) f) + uses (sum a b) f * ((length a + length b) - 1)
 
-saves : (k : ℕ) (d : Divisor) → sound d ≡ true → (f : List (List ℕ)) → expression f ≡ true → ((v : ℕ) → Reads f v → v < k) → literalsOf f ≡ literalsOf (rewrite (2 * k) d f) + gain d f
+saves : (k : ℕ) (d : Divisor) → sound d ≡ true → (f : List (List ℕ)) → expression f ≡ true → ((v : ℕ) → Reads f v → v < k)
+    → literalsOf f ≡ literalsOf (rewrite (2 * k) d f) + gain d f
 saves k (pair p q) s f e u = pair-saves k p q s f e u
 saves k (sum a b) s f e u = sum-saves k a b s f e u
 
@@ -141,7 +155,8 @@ minus t g l s e = sym (
 
 module _ (n : Net) (g : Good n) (d : Divisor) (s : sound d ≡ true) where
   total-saved : literalCount n ≡ total (λ f. literalsOf (rewrite (2 * nextFree n) d f)) (nodes n) + total (gain d) (nodes n)
-  total-saved = total-sum literalsOf (λ f. literalsOf (rewrite (2 * nextFree n) d f)) (gain d) (nodes n) (λ f m. saves (nextFree n) d s f (g .expressions f m) (below-free n g f m))
+  total-saved = total-sum literalsOf (λ f. literalsOf (rewrite (2 * nextFree n) d f)) (gain d) (nodes n)
+      (λ f m. saves (nextFree n) d s f (g .expressions f m) (below-free n g f m))
 
   -- a step takes exactly the weight off the literal count
   pub step-literals : pos (literalCount (step n d)) ≡ pos (literalCount n) -ℤ weight n d

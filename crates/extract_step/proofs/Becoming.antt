@@ -61,7 +61,8 @@ module _ (x : ℕ) (d : Divisor) (f : List (List ℕ)) where
       rest = keep (λ c. not (gone d f c)) l
 
       go : (h g : Bool) → (h ≡ true → g ≡ true) → sort (become (fate x d f) l) ≡ sort (map (swap x (part d)) uses ++ rest)
-          → sort (push (cond h (some (swap x (part d) c)) (cond g none (some c))) (become (fate x d f) l)) ≡ sort (map (swap x (part d)) (cond h (c ∷ uses) uses) ++ cond (not g) (c ∷ rest) rest)
+          → sort (push (cond h (some (swap x (part d) c)) (cond g none (some c))) (become (fate x d f) l)) ≡ sort
+          (map (swap x (part d)) (cond h (c ∷ uses) uses) ++ cond (not g) (c ∷ rest) rest)
       go true true k e = ap (place (swap x (part d) c)) e
       go true false k e = clash (k refl) refl
       go false true k e = e

@@ -33,7 +33,13 @@ pub pair-part : (p q : ℕ) → fitting width (pair p q) ≡ true → joined q (
 unfolding insert
 pair-part p q h =
     let w = pair-below width p q h in
-    rw (lt-ltb q (2 * width) (omega (arith, w .1)), lt-ltb p (2 * width) (omega (arith, w)), le-ltb q p (omega (arith, w .0)), ne-eqb q p (λ e. omega (arith, w .0)))
+    rw (
+      lt-ltb q (2 * width) (omega (arith, w .1)),
+      lt-ltb p (2 * width) (omega (arith, w)),
+      le-ltb q p (omega (arith, w .0)),
+      ne-eqb q p
+          (λ e. omega (arith, w .0)),
+    )
 
 -- ---- what becomes of a cube
 

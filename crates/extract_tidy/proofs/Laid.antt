@@ -103,7 +103,8 @@ module _ (op : List (List ℕ) → List (List ℕ)) (fewer : (f : List (List ℕ
 
 -- a node copied and put in cube order
 pub sorted-copy : {ws mid next : List ℕ} {at n : ℕ} (f : List (List ℕ)) → n ≡ length f → at + length f ≤ length (cubesOf ws)
-    → Placed ws mid at (fitting ws at (take (n - 0) (drop 0 f))) → Placed mid next at (sort (take (at + n - at) (drop at (cubesOf mid)))) → Placed ws next at (sort f)
+    → Placed ws mid at (fitting ws at (take (n - 0) (drop 0 f))) → Placed mid next at (sort (take (at + n - at) (drop at (cubesOf mid))))
+    → Placed ws next at (sort f)
 sorted-copy {ws} {at = at} {n} f k h c s =
     placed-sort (placed-fitting f h (placed-as (ap (fitting ws at) (take-all (n - 0) f (omega arith))) c)) (omega arith) (omega arith) s
 

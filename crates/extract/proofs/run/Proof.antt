@@ -16,8 +16,10 @@ shape : (s : tie.Start) → Shaped (s .args .n)
 shape s = shape-of _ (search needs) (search needs)
 
 -- what is held where the network is accepted
-kept : (c : tie.After-enum-told) → let i = c .before .before .before in let n = i .before .args .n in (rules n ≡ true) × Holds (i .in-order .result .network) (inOrder (netOf n))
-kept c = let i = c .before .before .before in told-accepted (i .before .args .n) (inOrder (netOf (i .before .args .n))) (i .in-order .result) (i .in-order .ensures) (c .enum-told .given .1)
+kept : (c : tie.After-enum-told) → let i = c .before .before .before in let n = i .before .args .n in (rules n ≡ true)
+    × Holds (i .in-order .result .network) (inOrder (netOf n))
+kept c = let i = c .before .before .before in told-accepted (i .before .args .n) (inOrder (netOf (i .before .args .n))) (i .in-order .result)
+    (i .in-order .ensures) (c .enum-told .given .1)
 
 in-order-requires : tie.Need-in-order-requires
 in-order-requires c κs = search needs

@@ -39,10 +39,12 @@ slice-aggregate-choose-2 : tie.Need-slice-aggregate-choose-2
 slice-aggregate-choose-2 c = search needs
 
 add-choose : tie.Need-add-choose
-add-choose c = let s = begin (c .before .before .before .before .before) in omega (arith, arranged-few (s .args .n) (kept (c .before .before .before .before .before)) (shape s))
+add-choose c = let s = begin (c .before .before .before .before .before) in
+    omega (arith, arranged-few (s .args .n) (kept (c .before .before .before .before .before)) (shape s))
 
 choose-requires : tie.Need-choose-requires
-choose-requires c κs = let s = begin (c .before .before .before .before .before) in arranged-orderly (s .args .n) (kept (c .before .before .before .before .before)) (shape s)
+choose-requires c κs = let s = begin (c .before .before .before .before .before) in
+    arranged-orderly (s .args .n) (kept (c .before .before .before .before .before)) (shape s)
 
 returns-2 : tie.Need-returns-2
 returns-2 c =

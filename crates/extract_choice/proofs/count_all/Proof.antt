@@ -12,7 +12,8 @@ use Rattle.network.specs.Held.{mostCubes}
 use Rattle.network.specs.Parts.{nodesOf}
 use Rattle.network.proofs.Parts.{nodes-length}
 use Rattle.network_nodes.proofs.Starting.{start-next}
-use Rattle.extract_choice.proofs.Counting.{total-take-le, node-part, node-few, node-ordered, uses-few, literals-few, CountingAll, all-none, all-more, all-counted}
+use Rattle.extract_choice.proofs.Counting.{total-take-le, node-part, node-few, node-ordered, uses-few, literals-few, CountingAll, all-none}
+use Rattle.extract_choice.proofs.Counting.{all-more, all-counted}
 use Rattle.extract_choice.proofs.count_all.Statement.{statement}
 use Rattle.extract_choice.proofs.count_all.Tie as tie
 
@@ -34,22 +35,34 @@ many : (l : tie.At-loop Inv-loop μ-loop) → length (held l) ≡ start l .args 
 many l = nodes-length (start l .args .counts .now) (start l .args .words .now) (start l .args .e) (start l .pre .counted)
 
 -- where the next node begins
-next-at : (c : tie.In-loop Inv-loop μ-loop) → c .before .loop .at + getD (start (c .before) .args .counts .now) (c .before .loop .i) 0 ≡ total (λ n. n) (take (c .before .loop .i + 1) (start (c .before) .args .counts .now))
+next-at : (c : tie.In-loop Inv-loop μ-loop) → c .before .loop .at + getD (start (c .before) .args .counts .now) (c .before .loop .i) 0 ≡ total (λ n. n)
+    (take (c .before .loop .i + 1) (start (c .before) .args .counts .now))
 next-at c = let l = c .before in start-next (start l .args .counts .now) (l .loop .i) (l .loop .at) (omega (arith, start l .pre .counted)) (l .loop .inv .1)
 
 next-few : (c : tie.In-loop Inv-loop μ-loop) → c .before .loop .at + getD (start (c .before) .args .counts .now) (c .before .loop .i) 0 ≤ mostCubes
 next-few c =
     let l = c .before in
-    omega (arith, next-at c, total-take-le (λ n. n) (start l .args .counts .now) (l .loop .i + 1) (start l .args .e) (omega arith), start l .pre .enough, start l .pre .few)
+    omega (
+      arith,
+      next-at c,
+      total-take-le (λ n. n) (start l .args .counts .now) (l .loop .i + 1) (start l .args .e)
+          (omega arith),
+      start l .pre .enough,
+      start l .pre .few,
+    )
 
 -- the part is node i
 node : (c : tie.After-part Inv-loop μ-loop) → cubesOf (c .part .result .now) ≡ getD (held (c .before .before .before)) (c .before .before .before .loop .i) []
-node c = let l = c .before .before .before in c .part .ensures .0 ∙ node-part (start l .args .counts .now) (start l .args .words .now) (start l .args .e) (l .loop .i) (l .loop .at) _ (omega arith) (l .loop .inv .1) refl
+node c = let l = c .before .before .before in c .part .ensures .0
+    ∙ node-part (start l .args .counts .now) (start l .args .words .now) (start l .args .e) (l .loop .i) (l .loop .at) _ (omega arith) (l .loop .inv .1) refl
 
-more : (c : tie.After-count-in Inv-loop μ-loop) → CountingAll (lits (start (c .before .before .before .before) .args .a)) (lits (start (c .before .before .before .before) .args .b)) (held (c .before .before .before .before)) (c .before .before .before .before .loop .i + 1) (c .before .before .before .before .loop .uses + c .count-in .result .uses) (c .before .before .before .before .loop .literals + c .count-in .result .literals)
+more : (c : tie.After-count-in Inv-loop μ-loop) → CountingAll (lits (start (c .before .before .before .before) .args .a))
+    (lits (start (c .before .before .before .before) .args .b)) (held (c .before .before .before .before)) (c .before .before .before .before .loop .i + 1)
+    (c .before .before .before .before .loop .uses + c .count-in .result .uses) (c .before .before .before .before .loop .literals + c .count-in .result .literals)
 more c =
     let l = c .before .before .before .before in
-    all-more _ _ (held l) (l .loop .i) (l .loop .uses) (l .loop .literals) (l .loop .inv .2) (omega (arith, many l)) _ _ (rw (node (c .before)) at (c .count-in .ensures))
+    all-more _ _ (held l) (l .loop .i) (l .loop .uses) (l .loop .literals) (l .loop .inv .2) (omega (arith, many l)) _ _
+    (rw (node (c .before)) at (c .count-in .ensures))
 
 loop-holds : tie.Need-loop-holds Inv-loop μ-loop
 loop-holds c = (omega arith, refl, all-none _ _ _)
@@ -72,10 +85,20 @@ count-in-requires c κs =
     (rw (node c) (node-few _ _ _ (start l .pre) (l .loop .i)), rw (node c) (node-ordered _ _ _ (start l .pre) (l .loop .i) (omega arith)))
 
 add-uses : tie.Need-add-uses Inv-loop μ-loop
-add-uses c = omega (arith, more (c .before), uses-few _ _ _ (start (c .before .before .before .before .before) .pre) (lits (start (c .before .before .before .before .before) .args .a)) (lits (start (c .before .before .before .before .before) .args .b)))
+add-uses c = omega (
+  arith,
+  more (c .before),
+  uses-few _ _ _ (start (c .before .before .before .before .before) .pre)
+      (lits (start (c .before .before .before .before .before) .args .a)) (lits (start (c .before .before .before .before .before) .args .b)),
+)
 
 add-literals : tie.Need-add-literals Inv-loop μ-loop
-add-literals c = omega (arith, more (c .before .before), literals-few _ _ _ (start (c .before .before .before .before .before .before) .pre) (lits (start (c .before .before .before .before .before .before) .args .a)) (lits (start (c .before .before .before .before .before .before) .args .b)))
+add-literals c = omega (
+  arith,
+  more (c .before .before),
+  literals-few _ _ _ (start (c .before .before .before .before .before .before) .pre)
+      (lits (start (c .before .before .before .before .before .before) .args .a)) (lits (start (c .before .before .before .before .before .before) .args .b)),
+)
 
 add-i : tie.Need-add-i Inv-loop μ-loop
 add-i c = search needs
@@ -84,7 +107,8 @@ loop-less : tie.Need-loop-less Inv-loop μ-loop
 loop-less c = search needs
 
 loop-again : tie.Need-loop-again Inv-loop μ-loop
-loop-again c = let l = c .before .before .before .before .before .before in (omega arith, next-at (c .before .before .before .before .before), more (c .before .before))
+loop-again c = let l = c .before .before .before .before .before .before in
+    (omega arith, next-at (c .before .before .before .before .before), more (c .before .before))
 
 returns : tie.Need-returns Inv-loop μ-loop
 returns c = let l = c .before in all-counted _ _ _ _ _ _ (l .loop .inv .2) (omega (arith, many l))

@@ -24,8 +24,11 @@ abbrev μ-loop : tie.MeasureT-loop
 
 -- what the test says of the cube at place i
 tested : (c : tie.After-is-use Inv-loop μ-loop)
-    → useOf (lits (c .before .before .before .before .before .before .args .a)) (lits (c .before .before .before .before .before .before .args .b)) (cubesOf (c .before .before .before .before .before .before .args .s .now)) (getD (cubesOf (c .before .before .before .before .before .before .args .s .now)) (c .before .before .before .before .loop .i) []) ≡ c .is-use .result
-tested c = sym (c .is-use .ensures ∙ found-use _ _ _ _ (c .before .before .before .before .before .before .pre .1) ∙ ap (useOf _ _ _) (c .before .cube-at .ensures))
+    → useOf (lits (c .before .before .before .before .before .before .args .a)) (lits (c .before .before .before .before .before .before .args .b))
+    (cubesOf (c .before .before .before .before .before .before .args .s .now))
+    (getD (cubesOf (c .before .before .before .before .before .before .args .s .now)) (c .before .before .before .before .loop .i) []) ≡ c .is-use .result
+tested c = sym (c .is-use .ensures ∙ found-use _ _ _ _ (c .before .before .before .before .before .before .pre .1)
+    ∙ ap (useOf _ _ _) (c .before .cube-at .ensures))
 
 -- no cube has more than 128 literals
 at-most : (c : tie.After-without Inv-loop μ-loop) → length (lits (c .without .result)) ≤ 128
@@ -53,7 +56,14 @@ count-requires : tie.Need-count-requires Inv-loop μ-loop
 count-requires c κs = search needs
 
 add-literals : tie.Need-add-literals Inv-loop μ-loop
-add-literals c = omega (arith, c .before .before .before .before .before .before .before .loop .inv .short, c .before .before .before .before .before .before .before .loop .inv .inside, c .before .before .before .before .before .before .before .before .before .pre .0, at-most (c .before))
+add-literals c = omega (
+  arith,
+  c .before .before .before .before .before .before .before .loop .inv .short,
+  c .before .before .before .before .before
+      .before .before .loop .inv .inside,
+  c .before .before .before .before .before .before .before .before .before .pre .0,
+  at-most (c .before),
+)
 
 add-i : tie.Need-add-i Inv-loop μ-loop
 add-i c = search needs
@@ -68,7 +78,8 @@ loop-again c =
     elim (c .if2 .came) [
       | inl (w, x, y, e, g) ↦
           rw (e, g) (counting-on _ _ _ _ _ _ (l .loop .inv) inside (tested (c .before) ∙ w .taken) (y .result)
-          (y .ensures ∙ ap length (x .ensures ∙ ap (λ z. without z (lits (l .before .before .args .a))) (c .before .before .cube-at .ensures))) (rw (y .ensures) (literals-at-most 64 _ _)))
+          (y .ensures ∙ ap length (x .ensures ∙ ap (λ z. without z (lits (l .before .before .args .a))) (c .before .before .cube-at .ensures)))
+          (rw (y .ensures) (literals-at-most 64 _ _)))
       | inr (w, e, g) ↦ rw (e, g) (counting-off _ _ _ _ _ _ (l .loop .inv) inside (tested (c .before) ∙ w .left))
     ]
 

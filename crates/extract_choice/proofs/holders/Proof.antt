@@ -22,7 +22,8 @@ abbrev μ-loop : tie.MeasureT-loop
 
 -- what the test says of the cube at place i
 tested : (c : tie.After-contains Inv-loop μ-loop)
-    → sub (lits (c .before .before .before .before .before .before .args .k)) (getD (cubesOf (c .before .before .before .before .before .before .args .s .now)) (c .before .before .before .before .loop .i) []) ≡ c .contains .result
+    → sub (lits (c .before .before .before .before .before .before .args .k))
+    (getD (cubesOf (c .before .before .before .before .before .before .args .s .now)) (c .before .before .before .before .loop .i) []) ≡ c .contains .result
 tested c = ap (sub (lits (c .before .before .before .before .before .before .args .k))) (sym (c .before .cube-at .ensures)) ∙ sym (c .contains .ensures)
 
 loop-holds : tie.Need-loop-holds Inv-loop μ-loop
@@ -59,7 +60,11 @@ loop-again c =
 returns : tie.Need-returns Inv-loop μ-loop
 returns c =
     let l = c .before .before in
-    omega (arith, rw (kept-done (sub (lits (l .before .before .args .k))) (cubesOf (l .before .before .args .s .now)) (l .loop .i) (omega arith)) at (l .loop .inv .2))
+    omega (
+      arith,
+      rw (kept-done (sub (lits (l .before .before .args .k))) (cubesOf (l .before .before .args .s .now)) (l .loop .i) (omega arith)) at
+          (l .loop .inv .2),
+    )
 
 pub holders-spec : {M : Type 1} → statement M
 holders-spec =

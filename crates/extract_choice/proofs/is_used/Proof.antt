@@ -16,7 +16,8 @@ use Rattle.extract_choice.proofs.is_used.Statement.{statement}
 use Rattle.extract_choice.proofs.is_used.Tie as tie
 
 abbrev Inv-loop : tie.InvT-loop
-Inv-loop s a b i₀ i = (i ≤ length (cubesOf s)) × (any (useOf (lits a) (lits b) (cubesOf s)) (drop i (cubesOf s)) ≡ any (useOf (lits a) (lits b) (cubesOf s)) (cubesOf s))
+Inv-loop s a b i₀ i = (i ≤ length (cubesOf s)) × (any (useOf (lits a) (lits b) (cubesOf s)) (drop i (cubesOf s)) ≡ any
+    (useOf (lits a) (lits b) (cubesOf s)) (cubesOf s))
 
 abbrev μ-loop : tie.MeasureT-loop
 μ-loop s a b i₀ i = length (cubesOf s) - i
@@ -26,8 +27,11 @@ cubes l = cubesOf (l .before .before .args .s .now)
 
 -- what the test says of the cube at place i
 tested : (c : tie.After-is-use Inv-loop μ-loop)
-    → useOf (lits (c .before .before .before .before .before .before .args .a)) (lits (c .before .before .before .before .before .before .args .b)) (cubes (c .before .before .before .before)) (getD (cubes (c .before .before .before .before)) (c .before .before .before .before .loop .i) []) ≡ c .is-use .result
-tested c = sym (c .is-use .ensures ∙ found-use _ _ _ _ (c .before .before .before .before .before .before .pre) ∙ ap (useOf _ _ _) (c .before .cube-at .ensures))
+    → useOf (lits (c .before .before .before .before .before .before .args .a)) (lits (c .before .before .before .before .before .before .args .b))
+    (cubes (c .before .before .before .before)) (getD (cubes (c .before .before .before .before)) (c .before .before .before .before .loop .i) [])
+    ≡ c .is-use .result
+tested c = sym (c .is-use .ensures ∙ found-use _ _ _ _ (c .before .before .before .before .before .before .pre)
+    ∙ ap (useOf _ _ _) (c .before .cube-at .ensures))
 
 loop-holds : tie.Need-loop-holds Inv-loop μ-loop
 loop-holds c = search needs

@@ -29,7 +29,16 @@ holders-requires : tie.Need-holders-requires
 holders-requires c κs = search needs
 
 step-of-requires : tie.Need-step-of-requires
-step-of-requires c κs = (omega (arith, c .holders .ensures, kept-le (sub (lits (c .before .with2 .result))) (cubesOf (c .before .before .before .before .before .args .s .now)), c .before .before .before .before .before .pre .0), omega arith)
+step-of-requires c κs = (
+  omega (
+    arith,
+    c .holders .ensures,
+    kept-le (sub (lits (c .before .with2 .result)))
+        (cubesOf (c .before .before .before .before .before .args .s .now)),
+    c .before .before .before .before .before .pre .0,
+  ),
+  omega arith,
+)
 
 better-of-requires : tie.Need-better-of-requires
 better-of-requires c κs = search needs
@@ -38,8 +47,11 @@ returns : tie.Need-returns
 returns c =
     let s = c .before .before .before .before .before .before .before in
     let k : lits (c .before .before .before .with2 .result) ≡ s .args .p ∷ s .args .q ∷ [] =
-    c .before .before .before .with2 .ensures ∙ ap (joined (s .args .q)) (c .before .before .before .before .with .ensures ∙ ap (joined (s .args .p)) (c .before .before .before .before .before .empty .ensures)) ∙ two-literals _ _ (s .pre .1) (s .pre .2) in
-    subst (Adds (Cubes (cubesOf (s .args .s .now))) [] (pair (s .args .p) (s .args .q) ∷ []) (s .args .held)) (sym (c .better-of .ensures ∙ ap (taken (s .args .held)) (c .before .step-of .ensures)))
+    c .before .before .before .with2 .ensures ∙ ap (joined (s .args .q))
+    (c .before .before .before .before .with .ensures ∙ ap (joined (s .args .p)) (c .before .before .before .before .before .empty .ensures))
+    ∙ two-literals _ _ (s .pre .1) (s .pre .2) in
+    subst (Adds (Cubes (cubesOf (s .args .s .now))) [] (pair (s .args .p) (s .args .q) ∷ []) (s .args .held))
+    (sym (c .better-of .ensures ∙ ap (taken (s .args .held)) (c .before .step-of .ensures)))
     (pair-judged (cubesOf (s .args .s .now)) (s .args .p) (s .args .q) (c .before .before .holders .result) (s .args .held)
     (c .before .before .holders .ensures ∙ ap (λ x. length (keep (sub x) (cubesOf (s .args .s .now)))) k))
 

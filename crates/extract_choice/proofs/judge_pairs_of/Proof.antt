@@ -37,8 +37,10 @@ holders-requires c κs = search needs
 returns : tie.Need-returns Inv-loop μ-loop
 returns c =
     let s = c .before .before .before .before .before in
-    let k : lits (c .before .before .with .result) ≡ s .args .p ∷ [] = c .before .before .with .ensures ∙ ap (joined (s .args .p)) (c .before .before .before .empty .ensures) ∙ one-literal _ (s .pre .1) in
-    pairs-low (cubesOf (s .args .s .now)) (s .args .p) (from (s .args .p + 1) (127 - s .args .p)) (s .args .held) (omega (arith, c .before .holders .ensures, ap (λ x. length (keep (sub x) (cubesOf (s .args .s .now)))) k))
+    let k : lits (c .before .before .with .result) ≡ s .args .p ∷ [] = c .before .before .with .ensures
+    ∙ ap (joined (s .args .p)) (c .before .before .before .empty .ensures) ∙ one-literal _ (s .pre .1) in
+    pairs-low (cubesOf (s .args .s .now)) (s .args .p) (from (s .args .p + 1) (127 - s .args .p)) (s .args .held)
+    (omega (arith, c .before .holders .ensures, ap (λ x. length (keep (sub x) (cubesOf (s .args .s .now)))) k))
 
 loop-holds : tie.Need-loop-holds Inv-loop μ-loop
 unfolding from

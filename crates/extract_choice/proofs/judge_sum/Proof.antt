@@ -64,9 +64,11 @@ returns : tie.Need-returns
 returns c =
     let s = c .before .before .before .before .before .before .before .before in
     let d = c .before .before .before in
-    subst (Adds (Nodes (nodesOf (s .args .e) (s .args .counts .now) (s .args .words .now))) [] (sum (lits (s .args .a)) (lits (s .args .b)) ∷ []) (s .args .held))
+    subst (Adds (Nodes (nodesOf (s .args .e) (s .args .counts .now) (s .args .words .now))) [] (sum (lits (s .args .a)) (lits (s .args .b)) ∷ [])
+    (s .args .held))
     (sym (c .better-of .ensures ∙ ap (taken (s .args .held)) (c .before .step-of .ensures)))
-    (sum-judged _ (s .args .a) (s .args .b) _ _ _ (s .args .held) (d .before .before .count-all .ensures) (ap₂ _+_ (d .before .count .ensures) (d .count2 .ensures)))
+    (sum-judged _ (s .args .a) (s .args .b) _ _ _ (s .args .held) (d .before .before .count-all .ensures)
+    (ap₂ _+_ (d .before .count .ensures) (d .count2 .ensures)))
 
 pub judge-sum-spec : {M : Type 1} → statement M
 judge-sum-spec =

@@ -38,27 +38,32 @@ many s = nodes-length (s .args .counts .now) (s .args .words .now) (s .args .e) 
 
 -- the cubes before node k, and its own, end where the next begin
 below : (c : tie.In-loop Inv-loop μ-loop)
-    → total (λ n. n) (take (c .before .loop .k - 1) (start (c .before) .args .counts .now)) + getD (start (c .before) .args .counts .now) (c .before .loop .k - 1) 0 ≡ c .before .loop .end
+    → total (λ n. n) (take (c .before .loop .k - 1) (start (c .before) .args .counts .now)) + getD (start (c .before) .args .counts .now)
+    (c .before .loop .k - 1) 0 ≡ c .before .loop .end
 below c =
     let l = c .before in
     let s = start l in
     let e : (l .loop .k - 1) + 1 ≡ l .loop .k = omega arith in
-    start-next (s .args .counts .now) (l .loop .k - 1) _ (omega (arith, s .pre .0 .counted)) refl ∙ ap (λ j. total (λ n. n) (take j (s .args .counts .now))) e ∙ sym (l .loop .inv .1)
+    start-next (s .args .counts .now) (l .loop .k - 1) _ (omega (arith, s .pre .0 .counted)) refl
+    ∙ ap (λ j. total (λ n. n) (take j (s .args .counts .now))) e ∙ sym (l .loop .inv .1)
 
 -- the part is node k
-node : (c : tie.After-part Inv-loop μ-loop) → cubesOf (c .part .result .now) ≡ getD (held (start (c .before .before .before))) (c .before .before .before .loop .k - 1) []
+node : (c : tie.After-part Inv-loop μ-loop) → cubesOf (c .part .result .now) ≡ getD (held (start (c .before .before .before)))
+    (c .before .before .before .loop .k - 1) []
 node c =
     let l = c .before .before .before in
     let s = start l in
     let b = below (c .before .before) in
-    c .part .ensures .0 ∙ node-part (s .args .counts .now) (s .args .words .now) (s .args .e) (l .loop .k - 1) _ (l .loop .end) (omega arith) (omega arith) (omega arith)
+    c .part .ensures .0 ∙ node-part (s .args .counts .now) (s .args .words .now) (s .args .e) (l .loop .k - 1) _ (l .loop .end) (omega arith) (omega arith)
+    (omega arith)
 
 loop-holds : tie.Need-loop-holds Inv-loop μ-loop
 loop-holds c =
     let s = c .before .before in (
       omega arith,
       s .pre .1,
-      subst (λ x. Adds (Nodes (held s)) [] (gather sumsIn x) (s .args .held) (s .args .held)) (sym (drop-of-length-le (held s) {i = s .args .e} (omega (arith, many s)))) (adds-none [] (s .args .held)),
+      subst (λ x. Adds (Nodes (held s)) [] (gather sumsIn x) (s .args .held) (s .args .held))
+          (sym (drop-of-length-le (held s) {i = s .args .e} (omega (arith, many s)))) (adds-none [] (s .args .held)),
     )
 
 sub-k : tie.Need-sub-k Inv-loop μ-loop
@@ -79,8 +84,13 @@ part-requires c κs = search needs
 judge-sums-in-requires : tie.Need-judge-sums-in-requires Inv-loop μ-loop
 judge-sums-in-requires c κs =
     let l = c .before .before .before in
-    let s = start l in
-    (s .pre .0, s .pre .1, rw (node c) (node-ordered _ _ _ (s .pre .0) (l .loop .k - 1) (omega arith)), rw (node c) (λ x m. flat-in (at-in (held s) (l .loop .k - 1) [] (omega (arith, many s))) m))
+    let s = start l in (
+      s .pre .0,
+      s .pre .1,
+      rw (node c) (node-ordered _ _ _ (s .pre .0) (l .loop .k - 1) (omega arith)),
+      rw (node c)
+          (λ x m. flat-in (at-in (held s) (l .loop .k - 1) [] (omega (arith, many s))) m),
+    )
 
 loop-less : tie.Need-loop-less Inv-loop μ-loop
 loop-less c = search needs
@@ -91,7 +101,8 @@ loop-again c =
     let s = start l in (
       omega arith,
       omega (arith, below (c .before .before .before)),
-      subst (λ x. Adds (Nodes (held s)) [] x (s .args .held) (c .judge-sums-in .result)) (sym (gather-down (held s) (l .loop .k) [] (omega arith) (omega (arith, many s)) sumsIn))
+      subst (λ x. Adds (Nodes (held s)) [] x (s .args .held) (c .judge-sums-in .result))
+          (sym (gather-down (held s) (l .loop .k) [] (omega arith) (omega (arith, many s)) sumsIn))
           (adds-more (l .loop .inv .2) (rw (node (c .before)) at (c .judge-sums-in .ensures))),
     )
 

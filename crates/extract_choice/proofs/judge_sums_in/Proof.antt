@@ -38,15 +38,18 @@ abbrev held : tie.Start Inv-loop μ-loop → List (List (List ℕ))
 held s = nodesOf (s .args .e) (s .args .counts .now) (s .args .words .now)
 
 -- the part is the cubes from i on
-rest : (c : tie.After-part Inv-loop μ-loop) → cubesOf (c .part .result .now) ≡ drop (c .before .before .loop .i) (cubesOf (start (c .before .before) .args .s .now))
+rest : (c : tie.After-part Inv-loop μ-loop) → cubesOf (c .part .result .now) ≡ drop (c .before .before .loop .i)
+    (cubesOf (start (c .before .before) .args .s .now))
 rest c =
     let l = c .before .before in
     let f = cubesOf (start l .args .s .now) in
-    c .part .ensures .0 ∙ take-all (l .before .number .result - l .loop .i) (drop (l .loop .i) f) (omega (arith, length-drop (l .loop .i) f, l .before .number .ensures))
+    c .part .ensures .0 ∙ take-all (l .before .number .result - l .loop .i) (drop (l .loop .i) f)
+    (omega (arith, length-drop (l .loop .i) f, l .before .number .ensures))
 
 -- the other part is the cubes in use
 used : (c : tie.After-part2 Inv-loop μ-loop) → cubesOf (c .part2 .result .now) ≡ flat (held (start (c .before .before .before .before)))
-used c = let s = start (c .before .before .before .before) in front-flat (s .args .counts .now) (s .args .words .now) (s .args .e) (s .args .t) _ (s .pre .1) (c .part2 .ensures .0)
+used c = let s = start (c .before .before .before .before) in
+    front-flat (s .args .counts .now) (s .args .words .now) (s .args .e) (s .args .t) _ (s .pre .1) (c .part2 .ensures .0)
 
 number-requires : tie.Need-number-requires Inv-loop μ-loop
 number-requires c κs = search needs
@@ -56,7 +59,8 @@ unfolding sumsIn
 loop-holds c =
     let s = c .before .before .before .before in (
       omega (arith, c .number .ensures),
-      subst (λ x. Adds (Nodes (held s)) [] (sumsIn x) (s .args .held) (s .args .held)) (sym (drop-of-length-le (cubesOf (s .args .s .now)) {i = c .number .result} (omega (arith, c .number .ensures)))) (adds-none [] (s .args .held)),
+      subst (λ x. Adds (Nodes (held s)) [] (sumsIn x) (s .args .held) (s .args .held))
+          (sym (drop-of-length-le (cubesOf (s .args .s .now)) {i = c .number .result} (omega (arith, c .number .ensures)))) (adds-none [] (s .args .held)),
     )
 
 part-requires : tie.Need-part-requires Inv-loop μ-loop
@@ -72,7 +76,8 @@ part-requires-2 : tie.Need-part-requires-2 Inv-loop μ-loop
 part-requires-2 c κs = search needs
 
 holders-requires : tie.Need-holders-requires Inv-loop μ-loop
-holders-requires c κs = let s = start (c .before .before .before .before) in omega (arith, ap length (used c), flat-few (s .args .words .now) (s .args .counts .now) (s .args .e) (s .pre .0))
+holders-requires c κs = let s = start (c .before .before .before .before) in
+    omega (arith, ap length (used c), flat-few (s .args .words .now) (s .args .counts .now) (s .args .e) (s .pre .0))
 
 judge-sums-of-requires : tie.Need-judge-sums-of-requires Inv-loop μ-loop
 judge-sums-of-requires c κs =
@@ -84,7 +89,12 @@ judge-sums-of-requires c κs =
       s .pre .0,
       subst (λ x. ordered x ≡ true) (sym whole) (pairwise-drop before (l .loop .i - 1) f (s .pre .2)),
       λ h. rw (c .before .before .cube-at .ensures) (alone-in (held s) (getD f (l .loop .i - 1) []) (s .pre .3 _ (at-in f (l .loop .i - 1) [] (omega arith)))
-          (omega (arith, leb-true (c .holders .result) _ h, c .holders .ensures ∙ ap₂ (λ x y. length (keep (sub x) y)) (c .before .before .cube-at .ensures) (used (c .before))))),
+          (omega (
+            arith,
+            leb-true (c .holders .result) _ h,
+            c .holders .ensures
+                ∙ ap₂ (λ x y. length (keep (sub x) y)) (c .before .before .cube-at .ensures) (used (c .before)),
+          ))),
     )
 
 loop-less : tie.Need-loop-less Inv-loop μ-loop
@@ -97,7 +107,8 @@ loop-again c =
     let f = cubesOf (s .args .s .now) in (
       omega arith,
       subst (λ x. Adds (Nodes (held s)) [] x (s .args .held) (c .judge-sums-of .result)) (sym (sums-down f (l .loop .i) (omega arith) (l .loop .inv .0)))
-          (adds-then (l .loop .inv .1) (rw (rest (c .before .before .before .before), c .before .before .before .cube-at .ensures) at (c .judge-sums-of .ensures))),
+          (adds-then (l .loop .inv .1) (rw (rest (c .before .before .before .before), c .before .before .before .cube-at .ensures) at
+          (c .judge-sums-of .ensures))),
     )
 
 returns : tie.Need-returns Inv-loop μ-loop

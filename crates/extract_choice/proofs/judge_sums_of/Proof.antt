@@ -40,7 +40,8 @@ loop-holds : tie.Need-loop-holds Inv-loop μ-loop
 loop-holds c =
     let s = c .before .before .before .before in (
       omega (arith, c .number .ensures),
-      subst (λ x. Adds (Nodes (held s)) (known s) (gather (sumOf (lits (s .args .c))) x) (s .args .held) (s .args .held)) (sym (drop-of-length-le (cubesOf (s .args .s .now)) {i = c .number .result} (omega (arith, c .number .ensures)))) (adds-none (known s) (s .args .held)),
+      subst (λ x. Adds (Nodes (held s)) (known s) (gather (sumOf (lits (s .args .c))) x) (s .args .held) (s .args .held))
+          (sym (drop-of-length-le (cubesOf (s .args .s .now)) {i = c .number .result} (omega (arith, c .number .ensures)))) (adds-none (known s) (s .args .held)),
     )
 
 sub-j : tie.Need-sub-j Inv-loop μ-loop
@@ -68,7 +69,8 @@ loop-again c =
     let g = sumOf (lits (s .args .c)) in (
       omega arith,
       subst (λ x. Adds (Nodes (held s)) (known s) x (s .args .held) (c .judge-after .result))
-          (ap (λ x. g x ++ gather g (drop (l .loop .j) f)) (c .before .cube-at .ensures) ∙ sym (gather-down f (l .loop .j) [] (omega arith) (l .loop .inv .0) g))
+          (ap (λ x. g x ++ gather g (drop (l .loop .j) f)) (c .before .cube-at .ensures)
+          ∙ sym (gather-down f (l .loop .j) [] (omega arith) (l .loop .inv .0) g))
           (adds-more (l .loop .inv .1) (c .judge-after .ensures)),
     )
 
@@ -77,7 +79,8 @@ returns c =
     let l = c .before in
     let s = l .before .before .before .before .before in
     let e : l .loop .j ≡ 0 = omega arith in
-    subst (λ (x : ℕ). Adds (Nodes (held s)) (known s) (gather (sumOf (lits (s .args .c))) (drop x (cubesOf (s .args .s .now)))) (s .args .held) (l .loop .held)) e (l .loop .inv .1)
+    subst (λ (x : ℕ). Adds (Nodes (held s)) (known s) (gather (sumOf (lits (s .args .c))) (drop x (cubesOf (s .args .s .now)))) (s .args .held)
+    (l .loop .held)) e (l .loop .inv .1)
 
 pub judge-sums-of-spec : {M : Type 1} → statement M
 judge-sums-of-spec =

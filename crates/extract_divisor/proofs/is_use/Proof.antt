@@ -23,11 +23,13 @@ inside c = sym (c .before .contains .ensures) ∙ not-false _ (c .if1 .left)
 
 -- what the test of the base says
 free : (c : tie.After-is-empty) → apart (without (lits (start c .args .c)) (lits (start c .args .a))) (lits (start c .args .b)) ≡ c .is-empty .result
-free c = sym (c .is-empty .ensures ∙ ap isNil (c .before .common .ensures) ∙ meet-none _ _ ∙ ap (λ z. apart z (lits (start c .args .b))) (c .before .before .without .ensures))
+free c = sym (c .is-empty .ensures ∙ ap isNil (c .before .common .ensures) ∙ meet-none _ _
+    ∙ ap (λ z. apart z (lits (start c .args .b))) (c .before .before .without .ensures))
 
 -- what the search says
 searched : (c : tie.After-find)
-    → let s = start (c .before .before .before) .args in isSome (placeOf (c .find .result)) ≡ foundUse (lits (s .a)) (lits (s .b)) (cubesOf (s .s .now)) (lits (s .c))
+    → let s = start (c .before .before .before) .args in isSome (placeOf (c .find .result)) ≡ foundUse (lits (s .a)) (lits (s .b)) (cubesOf (s .s .now))
+    (lits (s .c))
 unfolding foundUse
 searched c =
     let t = c .before .before .before in

@@ -28,7 +28,8 @@ returns-3 c =
     let e = x .before in
     let o = e .before .before .before in
     let s = o .before .before .before .before in
-    ap (λ (y : ℕ). ltb y (s .args .v)) (x .variable-of .ensures) ∙ pair-fits (s .args .v) _ _ (o .before .if1 .left) (λ k. e .if2 .left (o .opposite .ensures ∙ k))
+    ap (λ (y : ℕ). ltb y (s .args .v)) (x .variable-of .ensures)
+    ∙ pair-fits (s .args .v) _ _ (o .before .if1 .left) (λ k. e .if2 .left (o .opposite .ensures ∙ k))
 
 pub is-pair-spec : {M : Type 1} → statement M
 is-pair-spec =

@@ -19,7 +19,8 @@ abbrev start : tie.After-is-empty → tie.Start
 start c = c .before .before .before .before .before .before
 
 -- the tests that are left
-tests : (s : tie.Start) → let a = s .args in fitting (a .v) (sum (lits (a .a)) (lits (a .b))) ≡ (fitPart (a .v) (lits (a .a)) && (fitPart (a .v) (lits (a .b)) && (apart (lits (a .a)) (lits (a .b)) && before (lits (a .a)) (lits (a .b)))))
+tests : (s : tie.Start) → let a = s .args in fitting (a .v) (sum (lits (a .a)) (lits (a .b))) ≡
+    (fitPart (a .v) (lits (a .a)) && (fitPart (a .v) (lits (a .b)) && (apart (lits (a .a)) (lits (a .b)) && before (lits (a .a)) (lits (a .b)))))
 tests s = sum-fits (s .args .v) (lits (s .args .a)) (lits (s .args .b)) (literals-asc width _ _) (literals-asc width _ _)
 
 first : (c : tie.Else1) → fitPart (c .before .before .args .v) (lits (c .before .before .args .a)) ≡ true
@@ -31,11 +32,13 @@ second c = sym (c .before .is-part2 .ensures) ∙ not-false _ (c .if2 .left)
 shared : (c : tie.After-is-empty) → apart (lits (start c .args .a)) (lits (start c .args .b)) ≡ c .is-empty .result
 shared c = sym (c .is-empty .ensures ∙ ap isNil (c .before .common .ensures) ∙ meet-none _ _)
 
-last : (c : tie.After-compare) → isFirst (c .compare .result) ≡ fitting (start (c .before .before) .args .v) (sum (lits (start (c .before .before) .args .a)) (lits (start (c .before .before) .args .b)))
+last : (c : tie.After-compare) → isFirst (c .compare .result) ≡ fitting (start (c .before .before) .args .v)
+    (sum (lits (start (c .before .before) .args .a)) (lits (start (c .before .before) .args .b)))
 last c =
     let m = c .before .before in
     let t = m .before .before in
-    ap isFirst (c .compare .ensures) ∙ first-before _ _ ∙ sym (tests (start m) ∙ rw (first (t .before .before), second t, shared m ∙ not-false _ (c .before .if3 .left)))
+    ap isFirst (c .compare .ensures) ∙ first-before _ _ ∙ sym
+    (tests (start m) ∙ rw (first (t .before .before), second t, shared m ∙ not-false _ (c .before .if3 .left)))
 
 is-part-requires : tie.Need-is-part-requires
 is-part-requires c κs = search needs

@@ -24,7 +24,8 @@ decided : (c : tie.After-is-better) → let s = start c in cond (c .is-better .r
 unfolding taken
 decided c =
     let s = start c .args in
-    ap (λ b. cond b (s .s) (s .held)) (c .is-better .ensures ∙ (λ i. outweighs (read-new c i) (read-held c i) (c .before .before .before .is-sooner .ensures i)))
+    ap (λ b. cond b (s .s) (s .held)) (c .is-better .ensures
+    ∙ (λ i. outweighs (read-new c i) (read-held c i) (c .before .before .before .is-sooner .ensures i)))
 
 is-sooner-requires : tie.Need-is-sooner-requires
 is-sooner-requires c κs = search needs

@@ -18,7 +18,11 @@ is-use-requires : tie.Need-is-use-requires
 is-use-requires c κs = search needs
 
 returns : tie.Need-returns
-returns c = rw (c .before .before .before .d2 .given .1, sym (c .before .is-use .ensures ∙ found-use _ _ _ _ (c .before .before .before .before .before .before .pre)) ∙ c .if1 .taken)
+returns c = rw (
+  c .before .before .before .d2 .given .1,
+  sym
+      (c .before .is-use .ensures ∙ found-use _ _ _ _ (c .before .before .before .before .before .before .pre)) ∙ c .if1 .taken,
+)
 
 is-use-requires-2 : tie.Need-is-use-requires-2
 is-use-requires-2 c κs = search needs
@@ -29,7 +33,8 @@ returns-2 c = rw (c .before .before .d .given .1) (c .has-pair .ensures)
 returns-3 : tie.Need-returns-3
 returns-3 c =
     let o = c .before .before .before .before .before .before .before .pre in
-    rw (c .before .before .before .before .d2 .given .1, sym (c .before .before .is-use .ensures ∙ found-use _ _ _ _ o) ∙ c .before .if1 .left) (c .is-use2 .ensures ∙ found-use _ _ _ _ o)
+    rw (c .before .before .before .before .d2 .given .1, sym (c .before .before .is-use .ensures ∙ found-use _ _ _ _ o) ∙ c .before .if1 .left)
+    (c .is-use2 .ensures ∙ found-use _ _ _ _ o)
 
 pub is-gone-spec : {M : Type 1} → statement M
 is-gone-spec =

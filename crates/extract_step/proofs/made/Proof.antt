@@ -15,7 +15,8 @@ use Rattle.extract_laws.specs.Divisor.{rewrite}
 use Rattle.extract_laws.specs.Extract.{step}
 use Rattle.extract_divisor.specs.Divisor.{divisorOf}
 use Rattle.extract_step.specs.Replace.{allowed}
-use Rattle.extract_step.proofs.Answering.{laid-nodes, laid-count, laid-literals, step-laid, step-held, next, room-rows, room-literals, room-over, room-made, stepped-as}
+use Rattle.extract_step.proofs.Answering.{laid-nodes, laid-count, laid-literals, step-laid, step-held, next, room-rows, room-literals}
+use Rattle.extract_step.proofs.Answering.{room-over, room-made, stepped-as}
 use borrow.Author.Needs.{needs}
 use Rattle.extract_step.proofs.made.Statement.{statement}
 use Rattle.extract_step.proofs.made.Tie as tie
@@ -28,18 +29,25 @@ literal : (c : tie.After-plain) → c .plain .result .0 ≡ 2 * (start c .args .
 literal c = omega (arith, c .plain .ensures, start c .pre .1)
 
 laid : (c : tie.After-put-nodes) → let a = start (c .before .before .before) .args in
-    LaidNodes (c .put-nodes .last .1 .1 .1 .1 .1 .0) (c .put-nodes .last .1 .1 .1 .1 .1 .1 .0) (c .put-nodes .result) (map (rewrite (2 * (a .n + a .k)) (divisorOf (a .d))) (nodesOf (a .m + a .k) (a .counts .now) (a .words .now)))
+    LaidNodes (c .put-nodes .last .1 .1 .1 .1 .1 .0) (c .put-nodes .last .1 .1 .1 .1 .1 .1 .0) (c .put-nodes .result)
+    (map (rewrite (2 * (a .n + a .k)) (divisorOf (a .d))) (nodesOf (a .m + a .k) (a .counts .now) (a .words .now)))
 laid c =
     let p = c .before .before .before in
     let a = start p .args in
-    subst (λ (x : ℕ). LaidNodes (c .put-nodes .last .1 .1 .1 .1 .1 .0) (c .put-nodes .last .1 .1 .1 .1 .1 .1 .0) (c .put-nodes .result) (map (rewrite x (divisorOf (a .d))) (nodesOf (a .m + a .k) (a .counts .now) (a .words .now)))) (literal p) (c .put-nodes .ensures)
+    subst (λ (x : ℕ). LaidNodes (c .put-nodes .last .1 .1 .1 .1 .1 .0) (c .put-nodes .last .1 .1 .1 .1 .1 .1 .0) (c .put-nodes .result)
+    (map (rewrite x (divisorOf (a .d))) (nodesOf (a .m + a .k) (a .counts .now) (a .words .now)))) (literal p) (c .put-nodes .ensures)
 
 -- no more cubes than there are places
 below : (c : tie.After-put-nodes) → c .put-nodes .result ≤ cubeSlots
 below c =
     let s = start (c .before .before .before) in
     let a = s .args in
-    omega (arith, laid c .place, nodes-few (rewrite (2 * (a .n + a .k)) (divisorOf (a .d))) (rewrite-length (2 * (a .n + a .k)) (divisorOf (a .d))) (s .pre .0 .room))
+    omega (
+      arith,
+      laid c .place,
+      nodes-few (rewrite (2 * (a .n + a .k)) (divisorOf (a .d))) (rewrite-length (2 * (a .n + a .k)) (divisorOf (a .d)))
+          (s .pre .0 .room),
+    )
 
 add-v : tie.Need-add-v
 add-v c = search needs
@@ -80,7 +88,8 @@ returns c =
     let s = start (p .before .before .before) in
     let a = s .args in
     stepped-as _ _ (ap (allowed _) (room-rows (a .n) (a .m) (a .k) (a .words .now) (a .counts .now) (s .pre .0) (divisorOf (a .d)) (s .pre .1)
-    (omega (arith, laid-count (a .n) (a .m) (a .k) (a .words .now) (a .counts .now) (s .pre .0) (divisorOf (a .d)) (laid p), o .own-size .ensures)))) (c .refused .ensures)
+    (omega (arith, laid-count (a .n) (a .m) (a .k) (a .words .now) (a .counts .now) (s .pre .0) (divisorOf (a .d)) (laid p), o .own-size .ensures))))
+    (c .refused .ensures)
 
 -- the divisor's own node stands after the others
 abbrev first : tie.After-put-own → tie.After-put-nodes
@@ -90,23 +99,34 @@ abbrev begun : tie.After-put-own → tie.Start
 begun w = start (first w .before .before .before)
 
 whole : (w : tie.After-put-own) → let a = begun w .args in
-    LaidNodes (w .put-own .last .1 .0) (set (first w .put-nodes .last .1 .1 .1 .1 .1 .1 .0) (a .m + a .k) (w .put-own .result - first w .put-nodes .result)) (w .put-own .result) (nodes (step (netAt (a .n) (a .m) (a .k) (a .counts .now) (a .words .now)) (divisorOf (a .d))))
+    LaidNodes (w .put-own .last .1 .0) (set (first w .put-nodes .last .1 .1 .1 .1 .1 .1 .0) (a .m + a .k)
+    (w .put-own .result - first w .put-nodes .result)) (w .put-own .result)
+    (nodes (step (netAt (a .n) (a .m) (a .k) (a .counts .now) (a .words .now)) (divisorOf (a .d))))
 whole w =
     let s = begun w in
     let a = s .args in
     step-laid (a .n) (a .m) (a .k) (a .words .now) (a .counts .now) (s .pre .0) (divisorOf (a .d)) (laid (first w)) (w .put-own .ensures)
 
-rows : (w : tie.After-put-own) → let a = begun w .args in cubeCount (step (netAt (a .n) (a .m) (a .k) (a .counts .now) (a .words .now)) (divisorOf (a .d))) ≤ mostCubes
+rows : (w : tie.After-put-own) → let a = begun w .args in cubeCount
+    (step (netAt (a .n) (a .m) (a .k) (a .counts .now) (a .words .now)) (divisorOf (a .d))) ≤ mostCubes
 rows w =
     let s = begun w in
     let a = s .args in
-    omega (arith, laid-count (a .n) (a .m) (a .k) (a .words .now) (a .counts .now) (s .pre .0) (divisorOf (a .d)) (laid (first w)), w .before .before .before .own-size .ensures, below (first w))
+    omega (
+      arith,
+      laid-count (a .n) (a .m) (a .k) (a .words .now) (a .counts .now) (s .pre .0) (divisorOf (a .d))
+          (laid (first w)),
+      w .before .before .before .own-size .ensures,
+      below (first w),
+    )
 
-counted : (c : tie.After-literals) → let a = begun (c .before .before .before .before) .args in c .literals .result ≡ capped (literalCount (step (netAt (a .n) (a .m) (a .k) (a .counts .now) (a .words .now)) (divisorOf (a .d))))
+counted : (c : tie.After-literals) → let a = begun (c .before .before .before .before) .args in
+    c .literals .result ≡ capped (literalCount (step (netAt (a .n) (a .m) (a .k) (a .counts .now) (a .words .now)) (divisorOf (a .d))))
 counted c =
     let w = c .before .before .before .before in
     let a = begun w .args in
-    c .literals .ensures ∙ ap capped (laid-literals (a .n) (a .m) (a .k) (a .words .now) (a .counts .now) (begun w .pre .0) (divisorOf (a .d)) (whole w) (c .before .part .ensures .0))
+    c .literals .ensures ∙ ap capped (laid-literals (a .n) (a .m) (a .k) (a .words .now) (a .counts .now) (begun w .pre .0) (divisorOf (a .d)) (whole w)
+    (c .before .part .ensures .0))
 
 slice-aggregate-put-own : tie.Need-slice-aggregate-put-own
 slice-aggregate-put-own c = search needs
@@ -135,7 +155,8 @@ returns-2 c =
     let w = l .before .before .before .before in
     let s = begun w in
     let a = s .args in
-    stepped-as _ _ (room-over (a .n) (a .m) (a .k) (a .words .now) (a .counts .now) (s .pre .0) (divisorOf (a .d)) (s .pre .1) (rows w) _ (counted l) (c .before .if2 .taken)) (c .refused2 .ensures)
+    stepped-as _ _ (room-over (a .n) (a .m) (a .k) (a .words .now) (a .counts .now) (s .pre .0) (divisorOf (a .d)) (s .pre .1) (rows w) _ (counted l)
+    (c .before .if2 .taken)) (c .refused2 .ensures)
 
 sub-sizes : tie.Need-sub-sizes
 sub-sizes c = search needs
@@ -158,12 +179,14 @@ returns-3 c =
     let w = l .before .before .before .before in
     let s = begun w in
     let a = s .args in
-    stepped-as _ _ (room-made (a .n) (a .m) (a .k) (a .words .now) (a .counts .now) (s .pre .0) (divisorOf (a .d)) (s .pre .1) (rows w) _ (counted l) (c .if2 .left)) (
+    stepped-as _ _ (room-made (a .n) (a .m) (a .k) (a .words .now) (a .counts .now) (s .pre .0) (divisorOf (a .d)) (s .pre .1) (rows w) _ (counted l)
+    (c .if2 .left)) (
       refl,
       record {
         held = step-held (a .n) (a .m) (a .k) (a .words .now) (a .counts .now) (s .pre .0) (divisorOf (a .d)) (whole w);
         number = omega (arith, next (a .n) (a .m) (a .k) (a .words .now) (a .counts .now) (s .pre .0), s .pre .1);
-        literals = room-literals (a .n) (a .m) (a .k) (a .words .now) (a .counts .now) (s .pre .0) (divisorOf (a .d)) (s .pre .1) (rows w) _ (counted l) (c .if2 .left);
+        literals = room-literals (a .n) (a .m) (a .k) (a .words .now) (a .counts .now) (s .pre .0) (divisorOf (a .d)) (s .pre .1) (rows w) _ (counted l)
+            (c .if2 .left);
       },
     )
 

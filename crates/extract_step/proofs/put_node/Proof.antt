@@ -32,7 +32,8 @@ returns : tie.Need-returns
 returns c =
     let t = c .before .before in
     let w = t .before .before .before .before in
-    appends-as (become-rewrite _ _ _) (appends-sort (w .write-node .ensures) (omega (arith, w .write-node .ensures .next, become-length (fates (begun w)) (cubesOf (begun w .args .f .now)))) (t .sort-part .ensures))
+    appends-as (become-rewrite _ _ _) (appends-sort (w .write-node .ensures)
+    (omega (arith, w .write-node .ensures .next, become-length (fates (begun w)) (cubesOf (begun w .args .f .now)))) (t .sort-part .ensures))
 
 pub put-node-spec : {M : Type 1} → statement M
 put-node-spec = tie.close (tie.spec write-node-requires sort-part-requires same-length returns)

@@ -69,7 +69,8 @@ node-ordered c =
     let l = head c in
     let a = start l .args in
     rw (c .node .ensures .0, sym (nodes-at (a .counts .now) (a .words .now) (a .e) (l .loop .i) (omega arith)))
-    (all-out ordered (at-in (nodesOf (a .e) (a .counts .now) (a .words .now)) (l .loop .i) [] (omega (arith, nodes-length (a .counts .now) (a .words .now) (a .e) (source l .room .counted)))) (source l .order))
+    (all-out ordered (at-in (nodesOf (a .e) (a .counts .now) (a .words .now)) (l .loop .i) []
+    (omega (arith, nodes-length (a .counts .now) (a .words .now) (a .e) (source l .room .counted)))) (source l .order))
 
 loop-holds : tie.Need-loop-holds Inv-loop μ-loop
 loop-holds c =

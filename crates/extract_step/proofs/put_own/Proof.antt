@@ -27,7 +27,8 @@ put-cube-requires : tie.Need-put-cube-requires
 put-cube-requires c κs = search needs
 
 add-next : tie.Need-add-next
-add-next c = let s = c .before .before .before .before .before .before in record { fits = omega (arith, s .pre .1, own-some (s .args .d), cubes-few (s .args .out .now)) }
+add-next c = let s = c .before .before .before .before .before .before in
+    record { fits = omega (arith, s .pre .1, own-some (s .args .d), cubes-few (s .args .out .now)) }
 
 enum-told : tie.Need-enum-told
 enum-told c = search needs

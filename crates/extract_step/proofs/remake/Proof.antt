@@ -31,10 +31,12 @@ is-gone-requires : tie.Need-is-gone-requires
 is-gone-requires c κs = search needs
 
 returns-2 : tie.Need-returns-2
-returns-2 c = fate-gone _ _ _ _ (sym (c .before .before .before .is-hit .ensures) ∙ c .before .before .if1 .left) (sym (c .before .is-gone .ensures) ∙ c .if2 .taken)
+returns-2 c = fate-gone _ _ _ _ (sym (c .before .before .before .is-hit .ensures) ∙ c .before .before .if1 .left)
+    (sym (c .before .is-gone .ensures) ∙ c .if2 .taken)
 
 returns-3 : tie.Need-returns-3
-returns-3 c = fate-stays _ _ _ _ (sym (c .before .before .before .is-hit .ensures) ∙ c .before .before .if1 .left) (sym (c .before .is-gone .ensures) ∙ c .if2 .left)
+returns-3 c = fate-stays _ _ _ _ (sym (c .before .before .before .is-hit .ensures) ∙ c .before .before .if1 .left)
+    (sym (c .before .is-gone .ensures) ∙ c .if2 .left)
 
 pub remake-spec : {M : Type 1} → statement M
 remake-spec =

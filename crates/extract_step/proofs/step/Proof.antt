@@ -70,7 +70,8 @@ refused-requires-3 : tie.Need-refused-requires-3
 refused-requires-3 c κs = search needs
 
 -- the room decides
-fits : (c : tie.Else2) → let s = start (c .before .before .before) in outcome (s .args .n) (s .args .d) ≡ allowed (netOf (s .args .n)) (roomFor (netOf (s .args .n)) (divisorOf (s .args .d)))
+fits : (c : tie.Else2) → let s = start (c .before .before .before) in
+    outcome (s .args .n) (s .args .d) ≡ allowed (netOf (s .args .n)) (roomFor (netOf (s .args .n)) (divisorOf (s .args .d)))
 fits c = outcome-room _ _ (tidy (c .before .before .before)) (tested (c .before) ∙ not-false _ (c .if2 .left))
 
 returns-3 : tie.Need-returns-3
@@ -91,8 +92,12 @@ made-requires c κs =
     let h = c .before .before .before .before in
     let e = h .before in
     let t = e .before .before .before in
-    let s = start t in
-    (arranged-source (s .args .n) (shape s) (tidy t) (h .if3 .left), h .if3 .left, fitting-more _ 64 _ (few t) (sym (e .before .is-fit .ensures) ∙ not-false _ (e .if2 .left)))
+    let s = start t in (
+      arranged-source (s .args .n) (shape s) (tidy t) (h .if3 .left),
+      h .if3 .left,
+      fitting-more _ 64 _ (few t)
+          (sym (e .before .is-fit .ensures) ∙ not-false _ (e .if2 .left)),
+    )
 
 returns-4 : tie.Need-returns-4
 returns-4 c = stepped-as _ _ (fits (c .before .before .before .before .before .before)) (c .made .ensures)

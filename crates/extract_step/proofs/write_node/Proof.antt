@@ -18,7 +18,8 @@ use Rattle.extract_step.proofs.write_node.Tie as tie
 
 abbrev Inv-loop : tie.InvT-loop
 Inv-loop f d x out₀ at n to₀ i₀ out to i =
-    (n ≡ length (cubesOf f)) × (i ≤ n) × Appends out₀ out at (become (fate (x .0) (divisorOf d) (cubesOf f)) (take i (cubesOf f))) to × (length out ≡ length out₀)
+    (n ≡ length (cubesOf f)) × (i ≤ n) × Appends out₀ out at (become (fate (x .0) (divisorOf d) (cubesOf f)) (take i (cubesOf f))) to
+    × (length out ≡ length out₀)
 
 abbrev μ-loop : tie.MeasureT-loop
 μ-loop f d x out₀ at n to₀ i₀ out to i = n - i
@@ -67,8 +68,13 @@ loop-less c = search needs
 loop-again : tie.Need-loop-again Inv-loop μ-loop
 loop-again c =
     let r = c .before .before in
-    let l = r .before .before .before in
-    (l .loop .inv .0, omega arith, appends-as (sym (become-none (fates l) (cubes l) (l .loop .i) [] (omega arith) (told r ∙ ap fateOf (c .enum-told .given .1)))) (l .loop .inv .2), l .loop .inv .3)
+    let l = r .before .before .before in (
+      l .loop .inv .0,
+      omega arith,
+      appends-as
+          (sym (become-none (fates l) (cubes l) (l .loop .i) [] (omega arith) (told r ∙ ap fateOf (c .enum-told .given .1)))) (l .loop .inv .2),
+      l .loop .inv .3,
+    )
 
 put-cube-requires : tie.Need-put-cube-requires Inv-loop μ-loop
 put-cube-requires c κs = search needs
@@ -89,7 +95,8 @@ loop-again-2 c =
     let l = r .before .before .before in (
       l .loop .inv .0,
       omega arith,
-      appends-as (sym (become-one (fates l) (cubes l) (l .loop .i) [] (omega arith) _ (told r ∙ ap fateOf (t .t .given .1)))) (appends-put (l .loop .inv .2) (omega (arith, below l)) (p .put-cube .ensures)),
+      appends-as (sym (become-one (fates l) (cubes l) (l .loop .i) [] (omega arith) _ (told r ∙ ap fateOf (t .t .given .1))))
+          (appends-put (l .loop .inv .2) (omega (arith, below l)) (p .put-cube .ensures)),
       p .put-cube .kept .0 ∙ l .loop .inv .3,
     )
 
