@@ -1,6 +1,6 @@
 -- Blanks at the front: they are what is trimmed, and what no blank stands in is left. Assumes nothing.
 use Prim.Native.Nat.{ℕ, suc, _<_}
-use mathlib.Core.Path.{_≡_, refl, ap}
+use mathlib.Core.Path.{_≡_, refl, ap, _∙_}
 use mathlib.Core.Bool.{Bool, true, false, cond, false≢true}
 use mathlib.Core.List.{List, [], _∷_, _++_}
 use native.Mathlib.Omega.{arith}
@@ -41,6 +41,12 @@ pub gap-out : (r : List ℕ) → startsBlank r ≡ true → (b : List ℕ) × Bl
 gap-out r h = let t = trimmed r in
     (t .0, record { one = omega (arith, shorter-blank r h, ap length (t .2), length-append (t .0) (trimFront r)); each = t .1 }, t .2)
 
+-- they are trimmed before anything
+pub front-blanks : (b r : List ℕ) → all isBlank b ≡ true → trimFront (b ++ r) ≡ trimFront r
+unfolding trimFront
+front-blanks [] r h = refl
+front-blanks (x ∷ b) r h = rw (both (isBlank x) (all isBlank b) h .0) (front-blanks b r (both (isBlank x) (all isBlank b) h .1))
+
 -- and bytes that are no blanks are left after them
 module _ (p : ℕ → Bool) (solid : (x : ℕ) → p x ≡ true → isBlank x ≡ false) where
   front-solid : (o : List ℕ) → all p o ≡ true → trimFront o ≡ o
@@ -48,14 +54,9 @@ module _ (p : ℕ → Bool) (solid : (x : ℕ) → p x ≡ true → isBlank x �
   front-solid [] h = refl
   front-solid (x ∷ o) h = rw (solid x (both (p x) (all p o) h .0))
 
-  front-gap : (b o : List ℕ) → all isBlank b ≡ true → all p o ≡ true → trimFront (b ++ o) ≡ o
-  unfolding trimFront
-  front-gap [] o h k = front-solid o k
-  front-gap (x ∷ b) o h k = rw (both (isBlank x) (all isBlank b) h .0) (front-gap b o (both (isBlank x) (all isBlank b) h .1) k)
-
   starts-gap : (b o : List ℕ) → Blanks b → startsBlank (b ++ o) ≡ true
   starts-gap [] o h = absurd (omega (arith, h .one))
   starts-gap (x ∷ b) o h = both (isBlank x) (all isBlank b) (h .each) .0
 
   pub gap-in : (b o : List ℕ) → Blanks b → all p o ≡ true → (startsBlank (b ++ o) ≡ true) × (trimFront (b ++ o) ≡ o)
-  gap-in b o h k = (starts-gap b o h, front-gap b o (h .each) k)
+  gap-in b o h k = (starts-gap b o h, front-blanks b o (h .each) ∙ front-solid o k)

@@ -36,7 +36,7 @@ uncommented-le : (l : List ℕ) → length (uncommented l) ≤ length l
 uncommented-le l = rw (uncommented-upto l) (upto-le 35 l)
 
 -- a comment, where there is one, follows
-commented : (l : List ℕ) → l ≡ uncommented l ++ drop (length (uncommented l)) l
+pub commented : (l : List ℕ) → l ≡ uncommented l ++ drop (length (uncommented l)) l
 commented l =
     let f : take (length (uncommented l)) l ≡ uncommented l = rw (uncommented-upto l) (upto-take 35 l) in
     sym (take-append-drop (length (uncommented l)) l) ∙ ap (_++ drop (length (uncommented l)) l) f
