@@ -16,16 +16,17 @@ use Rattle.network.proofs.Numbering.{numbered-length}
 use Rattle.network.proofs.Parts.{divisors-length, nodes-at}
 use Rattle.network.proofs.Holding.{nodes-held}
 use Rattle.network_nodes.proofs.Cutting.{cut-length}
-use Rattle.network_hangs.specs.Hangs.{readsOf, reached, hangsOn, hangsAt, Marks}
+use Rattle.network_reads.specs.Reading.{readsOf, Marks}
+use Rattle.network_reads.proofs.Marking.{marks-none}
+use Rattle.network_hangs.specs.Hangs.{reached, hangsOn, hangsAt}
 use Rattle.network_hangs.specs.Parts.{Makes}
-use Rattle.network_hangs.proofs.Marking.{marks-none}
 use Rattle.network_hangs.proofs.Reading.{reached-none}
 
 found-all : (n m k : ℕ) (words counts : List ℕ) → InLimits n m k words counts → length ((netAt n m k counts words) .divisors) ≡ k
 found-all n m k words counts z = numbered-length n (divisorsOf m k counts words) ∙ divisors-length counts words m k (z .counted)
 
 -- the divisors among what is reached from the variables that a node reads
-pub found-marks : {n m k : ℕ} {words counts : List ℕ} {i direct all r : ℕ} {f : List (List ℕ)} → InLimits n m k words counts → i < m + k → f ≡ getD (cut counts (cubesOf words)) i []
+pub found-marks : {n m k : ℕ} {words counts : List ℕ} {i : ℕ} {direct all r : List ℕ} {f : List (List ℕ)} → InLimits n m k words counts → i < m + k → f ≡ getD (cut counts (cubesOf words)) i []
     → Marks direct (readsOf f) → Makes direct all (reached k (netAt n m k counts words)) → Makes all r (keep (λ v. leb n v))
     → Marks r (hangsOn (netAt n m k counts words) (getD (nodesOf (m + k) counts words) i []))
 unfolding hangsOn
@@ -35,17 +36,17 @@ found-marks {n} {m} {k} {words} {counts} {i} {direct} {all} {r} {f} z h e p q t 
 -- ---- the answer
 
 module _ (n : Network) (i : ℕ) where
-  pub hangs-refused : rules n ≡ false → Marks 0 (hangsAt n i)
+  pub hangs-refused : {r : List ℕ} → rules n ≡ false → r ≡ [] → Marks r (hangsAt n i)
   unfolding hangsAt
-  hangs-refused h = rw h marks-none
+  hangs-refused h e = rw h (marks-none e)
 
   -- past the last node
-  pub hangs-past : rules n ≡ true → n .outputs + n .divisors ≤ i → Marks 0 (hangsAt n i)
+  pub hangs-past : {r : List ℕ} → rules n ≡ true → n .outputs + n .divisors ≤ i → r ≡ [] → Marks r (hangsAt n i)
   unfolding hangsAt hangsOn readsOf
-  hangs-past h k =
+  hangs-past h k e =
       let short : length (cut (used n) (cubesOf (n .words))) ≤ i = omega (arith, cut-length (used n) (cubesOf (n .words)), length-take (n .outputs + n .divisors) (n .counts)) in
-      rw (h, nodes-held n, List·getD-eq-default (cut (used n) (cubesOf (n .words))) [] short, reached-none (netOf n) (length ((netOf n) .divisors))) marks-none
+      rw (h, nodes-held n, List·getD-eq-default (cut (used n) (cubesOf (n .words))) [] short, reached-none (netOf n) (length ((netOf n) .divisors))) (marks-none e)
 
-  pub hangs-found : {r : ℕ} → rules n ≡ true → Marks r (hangsOn (netOf n) (getD (cut (used n) (cubesOf (n .words))) i [])) → Marks r (hangsAt n i)
+  pub hangs-found : {r : List ℕ} → rules n ≡ true → Marks r (hangsOn (netOf n) (getD (cut (used n) (cubesOf (n .words))) i [])) → Marks r (hangsAt n i)
   unfolding hangsAt
   hangs-found h p = rw (h, nodes-held n) p

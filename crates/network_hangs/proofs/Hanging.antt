@@ -24,8 +24,10 @@ use Rattle.network.proofs.Places.{split-in}
 use Rattle.network.proofs.Numbering.{cubes-at}
 use Rattle.network.proofs.Listings.{listing-in, listing-reads, through-then}
 use Rattle.network.proofs.Evaluating.{value-agree, evaluate-settled, evaluate-bit}
-use Rattle.network_hangs.specs.Hangs.{readsOf, readBy, reached, hangsOn, Fits}
-use Rattle.network_hangs.proofs.Reading.{reads-in, reads-out, by-in, by-out, reads-divisor}
+use Rattle.network_reads.specs.Reading.{readsOf}
+use Rattle.network_hangs.specs.Hangs.{readBy, reached, hangsOn, Fits}
+use Rattle.network_reads.proofs.Reading.{reads-in, reads-out}
+use Rattle.network_hangs.proofs.Reading.{by-in, by-out, reads-divisor}
 
 -- v is the number of a divisor
 abbrev pub IsDivisor : Net → ℕ → Type 0

@@ -1,5 +1,5 @@
--- What expressions read, and what is reached from a list of variables by reading so many times over. Assumes nothing.
-use Prim.Native.Nat.{ℕ, zero, suc, _+_, _<_, _≤_}
+-- What the divisors of a list read, and what is reached from a list of variables by reading so many times over. Assumes nothing.
+use Prim.Native.Nat.{ℕ, zero, suc, _+_, _/_, _%_, _<_, _≤_}
 use mathlib.Core.Path.{_≡_, refl, sym, ap, ap₂, _∙_, subst}
 use mathlib.Core.Logic.{inl, inr}
 use mathlib.Core.Bool.{Bool, true, false, cond, _&&_, _||_}
@@ -23,35 +23,11 @@ use Rattle.network_nodes.specs.Nodes.{cut}
 use Rattle.network.specs.declared.Network.{Network}
 use Rattle.network.proofs.Numbering.{cubes-at}
 use Rattle.network.proofs.Holding.{held-distinct}
-use Rattle.network_hangs.specs.Hangs.{variablesOf, readsOf, readBy, reached, Marks}
+use Rattle.network_reads.specs.Reading.{readsOf, Marks}
+use Rattle.network_reads.proofs.Marking.{Gathers}
+use Rattle.network_reads.proofs.Reading.{reads-in, reads-out}
+use Rattle.network_hangs.specs.Hangs.{readBy, reached}
 use Rattle.network_hangs.specs.Parts.{Makes}
-use Rattle.network_hangs.proofs.Marking.{variables-in, variables-out, Gathers}
-
--- ---- the variables that an expression reads
-
-pub reads-in : (f : List (List ℕ)) (v : ℕ) → Reads f v → mem v (readsOf f) ≡ true
-unfolding readsOf
-reads-in f v (c, here {x = d} {xs = g} e, (l, j, p)) =
-    union-mem v (variablesOf d) (readsOf g) ∙ or-left _ _ (ap₂ (λ (x : ℕ) (y : List ℕ). mem x (variablesOf y)) p (sym e) ∙ variables-in j)
-reads-in f v (c, there {x = d} {xs = g} m, (l, j, p)) = union-mem v (variablesOf d) (readsOf g) ∙ or-right (mem v (variablesOf d)) _ (reads-in g v (c, m, (l, j, p)))
-
-pub reads-out : (f : List (List ℕ)) (v : ℕ) → mem v (readsOf f) ≡ true → Reads f v
-unfolding readsOf mem
-reads-out [] v h = clash h refl
-reads-out (c ∷ f) v h = elim (either (mem v (variablesOf c)) (mem v (readsOf f)) (sym (union-mem v (variablesOf c) (readsOf f)) ∙ h)) [
-  | inl t ↦ (c, here refl, variables-out v c t)
-  | inr t ↦ let r = reads-out f v t in (r .0, there (r .1), r .2)
-]
-
--- those of the cubes from place i on
-module _ (f : List (List ℕ)) (i : ℕ) (v : ℕ) where
-  pub reads-next : i < length f → mem v (readsOf (drop i f)) ≡ (mem v (variablesOf (getD f i [])) || mem v (readsOf (drop (i + 1) f)))
-  unfolding readsOf
-  reads-next h = rw (drop-next f i [] h, union-mem)
-
-  pub reads-done : length f ≤ i → mem v (readsOf (drop i f)) ≡ false
-  unfolding readsOf mem
-  reads-done h = rw (drop-of-length-le f h)
 
 -- ---- what the divisors among a list's variables read
 
@@ -106,11 +82,22 @@ by-divisors n d l v = iff into back
         by-in n v (of-mem (e .number) l (q .0)) (rw (cubes-at n d (r .1)) (reads-out (e .cubes) v (q .1)))
 
 -- those of a network by value: of the first divisors, and of those from the divisor i on
-pub asks-first : (n : Network) (mask : ℕ) (l : List ℕ) → Marks mask l
-    → Gathers mask (λ v. any (asks l v) (numbered (n .inputs + 0) (drop 0 (drop (n .outputs) (cut (used n) (cubesOf (n .words))))))) (λ v. mem v (union l (readBy (netOf n) l)))
-asks-first n mask l p =
+pub asks-first : (n : Network) {set : List ℕ} (l : List ℕ) → Marks set l
+    → Gathers set (λ v. any (asks l v) (numbered (n .inputs + 0) (drop 0 (drop (n .outputs) (cut (used n) (cubesOf (n .words))))))) (λ v. mem v (union l (readBy (netOf n) l)))
+asks-first n {set} l p =
     let e : n .inputs + 0 ≡ n .inputs = omega arith in
-    record { each = λ v. ap₂ _||_ (p .each v) (ap (λ x. any (asks l v) (numbered x (drop (n .outputs) (cut (used n) (cubesOf (n .words)))))) e ∙ sym (by-divisors (netOf n) (held-distinct n) l v)) ∙ sym (union-mem v l (readBy (netOf n) l)) }
+    let read : (v : ℕ) → any (asks l v) (numbered (n .inputs + 0) (drop (n .outputs) (cut (used n) (cubesOf (n .words))))) ≡ mem v (readBy (netOf n) l) =
+    λ v. ap (λ x. any (asks l v) (numbered x (drop (n .outputs) (cut (used n) (cubesOf (n .words)))))) e ∙ sym (by-divisors (netOf n) (held-distinct n) l v) in
+    record {
+      each = λ x.
+          ap₂ (λ (a b : Bool). a || (eqb (x % 2) 0 && b)) (p .each x) (read (x / 2))
+          ∙ turn (eqb (x % 2) 0) (mem (x / 2) l) (mem (x / 2) (readBy (netOf n) l))
+          ∙ ap (eqb (x % 2) 0 &&_) (sym (union-mem (x / 2) l (readBy (netOf n) l)));
+    }
+  where
+    turn : (b a c : Bool) → ((b && a) || (b && c)) ≡ (b && (a || c))
+    turn true a c = refl
+    turn false a c = refl
 
 module _ (l : List ℕ) (v n : ℕ) (ds : List (List (List ℕ))) (i : ℕ) where
   pub asks-next : i < length ds → any (asks l v) (numbered (n + i) (drop i ds)) ≡ (mem v (cond (mem (n + i) l) (readsOf (getD ds i [])) []) || any (asks l v) (numbered (n + (i + 1)) (drop (i + 1) ds)))
@@ -139,12 +126,12 @@ module _ (n : Net) where
   reached-none zero = refl
   reached-none (suc k) = reached-none k
 
--- the masks of what is reached, turn by turn
-pub makes-first : (n : Net) (mask : ℕ) → Makes mask mask (reached 0 n)
+-- the sets of what is reached, turn by turn
+pub makes-first : (n : Net) (set : List ℕ) → Makes set set (reached 0 n)
 unfolding reached
-makes-first n mask = record { each = λ l p. p }
+makes-first n set = record { each = λ l p. p }
 
-pub makes-more : (n : Net) (mask all r i : ℕ) → Makes mask all (reached i n) → Makes all r (λ l. union l (readBy n l)) → Makes mask r (reached (i + 1) n)
-makes-more n mask all r i p q = record {
+pub makes-more : (n : Net) {set all r : List ℕ} (i : ℕ) → Makes set all (reached i n) → Makes all r (λ l. union l (readBy n l)) → Makes set r (reached (i + 1) n)
+makes-more n i p q = record {
   each = λ l t. rw (add-one i, reached-last n i l) (q .each (reached i n l) (p .each l t));
 }

@@ -1,27 +1,17 @@
 -- The divisors that an expression of a network hangs on, directly and through others.
-use Prim.Native.Nat.{ℕ, zero, suc, _/_, _<_}
+use Prim.Native.Nat.{ℕ, zero, suc, _<_}
 use mathlib.Core.Path.{_≡_}
 use mathlib.Core.Bool.{Bool, cond}
 use mathlib.Core.List.{List, [], _∷_, List·Memᴰ}
 use lib.Dec.{leb}
 use lib.ListN.{length, getD}
 use Rattle.sets.specs.Lists.{keep}
-use Rattle.sets.specs.Sets.{mem, insert, union}
-use Rattle.sets.specs.Masks.{bit}
+use Rattle.sets.specs.Sets.{union}
 use Rattle.expression.specs.Value.{lit, value}
 use Rattle.network.specs.Net.{Net, nodes, cubesAt}
 use Rattle.network.specs.Held.{netOf, rules}
 use Rattle.network.specs.declared.Network.{Network}
-
--- the variables of a cube's literals, ascending
-unfoldable pub variablesOf : List ℕ → List ℕ
-variablesOf [] = []
-variablesOf (l ∷ c) = insert (l / 2) (variablesOf c)
-
--- the variables that an expression reads
-unfoldable pub readsOf : List (List ℕ) → List ℕ
-readsOf [] = []
-readsOf (c ∷ f) = union (variablesOf c) (readsOf f)
+use Rattle.network_reads.specs.Reading.{readsOf}
 
 -- what the divisors among the variables read
 unfoldable pub readBy : Net → List ℕ → List ℕ
@@ -45,7 +35,3 @@ hangsAt n i = cond (rules n) (hangsOn (netOf n) (getD (nodes (netOf n)) i [])) [
 pub record Fits (n : Net) (s : ℕ → Bool) (l : List ℕ) (a : ℕ → Bool) : Type 0 where
   pub inputs : (i : ℕ) → i < n .inputs → a i ≡ s i
   pub divisors : (v : ℕ) → List·Memᴰ v l → a v ≡ value (lit a) (cubesAt v (n .divisors))
-
--- a mask has bit v exactly for the numbers v of a list
-pub record Marks (m : ℕ) (l : List ℕ) : Type 0 where
-  pub each : (v : ℕ) → bit m v ≡ mem v l

@@ -4,7 +4,8 @@ use mathlib.Core.Path.{_≡_}
 use mathlib.Core.Bool.{Bool, false}
 use mathlib.Core.List.{List}
 use lib.ListN.{length, getD}
-use Rattle.sets.specs.Masks.{bit}
+use Rattle.sets.specs.Literal.{plainOf}
+use Rattle.sets.specs.Sets.{mem}
 use Rattle.network.specs.Held.{mostOutputs, mostVariables}
 
 -- there is a row j
@@ -12,8 +13,8 @@ pub record HasRow (cells : List Bool) (j : ℕ) : Type 0 where
   pub size : length cells ≡ mostOutputs * mostVariables
   pub inside : j < mostOutputs
 
--- row j of the cells is the mask, and the rows before it are as they were
-pub record RowSet (old new : List Bool) (j mask : ℕ) : Type 0 where
+-- row j of the cells is the set, and the rows before it are as they were
+pub record RowSet (old new : List Bool) (j : ℕ) (set : List ℕ) : Type 0 where
   pub size : length new ≡ length old
-  pub row : (v : ℕ) → v < mostVariables → getD new (j * mostVariables + v) false ≡ bit mask v
+  pub row : (v : ℕ) → v < mostVariables → getD new (j * mostVariables + v) false ≡ mem (plainOf v) set
   pub before : (i : ℕ) → i < j * mostVariables → getD new i false ≡ getD old i false

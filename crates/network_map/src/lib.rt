@@ -1,13 +1,18 @@
 // Which output of a network hangs on which variable: the dispatcher's map as a table of cells.
+use cube::Cube;
+use cube::Variable;
 use network::Network;
 use network::OUTPUTS;
 use network::VARIABLES;
 ghost use mathlib.Core.Path.{_≡_};
 ghost use Prim.Native.Nat.{_<_};
-ghost use Rattle.sets.specs.Masks.{bit};
+ghost use Rattle.sets.specs.Literal.{plainOf};
+ghost use Rattle.sets.specs.Sets.{mem};
+ghost use Rattle.cube.specs.Cube.{lits};
+ghost use Rattle.network.specs.Held.{mostVariables};
 ghost use Rattle.network_map.specs.Cells.{rowOf, Crossed};
 ghost use Rattle.network_map.specs.Parts.{HasRow, RowSet};
-ghost use Rattle.network_hangs.specs.Hangs.{Marks};
+ghost use Rattle.network_reads.specs.Reading.{Marks};
 
 // A row of cells for each output, a cell in it for each variable.
 pub const CELLS: usize = OUTPUTS * VARIABLES;
@@ -16,32 +21,32 @@ fn none() -> [bool; CELLS] {
     [false; CELLS]
 }
 
-// Whether the mask has the variable v.
-fn has(mask: u64, v: usize) -> bool
-    requires { ⌜ v < 64 ⌝ }
-    ensures { λ r. ⌜ r ≡ bit mask v ⌝ }
+// Whether the set has the variable v.
+fn has(set: Cube, v: usize) -> bool
+    requires { ⌜ v < mostVariables ⌝ }
+    ensures { λ r. ⌜ r ≡ mem (plainOf v) (lits set) ⌝ }
 {
-    (mask >> v) & 1 == 1
+    cube::has(set, cube::plain(Variable(v as u32)))
 }
 
 // The variables of row j; none past the last output.
-fn row(n: Network, j: usize) -> u64
-    ensures { λ r. ⌜ Marks r (rowOf n j) ⌝ }
+fn row(n: Network, j: usize) -> Cube
+    ensures { λ r. ⌜ Marks (lits r) (rowOf n j) ⌝ }
 {
     if j < n.outputs {
         return network_hangs::hangs(n, j);
     }
-    0
+    cube::empty()
 }
 
-// Row j of the cells becomes the mask.
-fn set_row(cells: &mut [bool; CELLS], j: usize, mask: u64)
+// Row j of the cells becomes the set.
+fn set_row(cells: &mut [bool; CELLS], j: usize, set: Cube)
     requires { ⌜ HasRow (now cells) j ⌝ }
-    ensures { λ r. ⌜ RowSet (now (cells .entry)) (now (cells .exit)) j mask ⌝ }
+    ensures { λ r. ⌜ RowSet (now (cells .entry)) (now (cells .exit)) j (lits set) ⌝ }
 {
     let mut v = 0;
     while v < VARIABLES {
-        cells[j * VARIABLES + v] = has(mask, v);
+        cells[j * VARIABLES + v] = has(set, v);
         v += 1;
     }
 }

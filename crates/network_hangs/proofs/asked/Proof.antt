@@ -1,17 +1,38 @@
--- `network_hangs::asked` meets its contract: the bit of the divisor decides. Assumes nothing.
+-- `network_hangs::asked` meets its contract: the plain literal of the divisor decides. Assumes nothing.
 use Prim.Native.Nat.{_+_}
-use mathlib.Core.Path.{subst}
+use mathlib.Core.Path.{_≡_, sym, ap, _∙_, subst}
+use native.Mathlib.Omega.{arith}
 use borrow.Author.Needs.{needs}
-use Rattle.network_hangs.specs.Hangs.{readsOf, Marks}
+use Rattle.sets.specs.Literal.{plainOf}
+use Rattle.sets.specs.Sets.{mem}
+use Rattle.cube.specs.Cube.{lits}
+use Rattle.network_reads.specs.Reading.{readsOf, Marks}
 use Rattle.network_hangs.proofs.Marking.{asked-yes, asked-no}
 use Rattle.network_hangs.proofs.asked.Statement.{statement}
 use Rattle.network_hangs.proofs.asked.Tie as tie
 
-add-v : tie.Need-add-v
-add-v c = search needs
+-- whether the set has the divisor
+abbrev start : tie.After-plain → tie.Start
+start p = p .before .before .before
 
-shr-if1 : tie.Need-shr-if1
-shr-if1 c = search needs
+tested : (c : tie.After-has) → mem (plainOf (start (c .before) .args .n + start (c .before) .args .i)) (lits (start (c .before) .args .set)) ≡ c .has .result
+tested c =
+    let p = c .before in
+    let s = start p in
+    let q : plainOf (s .args .n + s .args .i) ≡ p .plain .result .0 = omega (arith, p .plain .ensures, s .pre .1) in
+    ap (λ x. mem x (lits (s .args .set))) q ∙ sym (c .has .ensures)
+
+add-t9 : tie.Need-add-t9
+add-t9 c = search needs
+
+cast-t10 : tie.Need-cast-t10
+cast-t10 c = search needs
+
+plain-requires : tie.Need-plain-requires
+plain-requires c κs = search needs
+
+has-requires : tie.Need-has-requires
+has-requires c κs = search needs
 
 add-node : tie.Need-add-node
 add-node c = search needs
@@ -25,14 +46,19 @@ reads-requires c κs = search needs
 returns : tie.Need-returns
 returns c =
     let t = c .before .before in
-    let a = t .before .before .before .args in
-    asked-yes (a .mask) (a .n + a .i) _ _ (t .if1 .taken) (subst (λ f. Marks (c .reads .result) (readsOf f)) (c .before .node .ensures .0) (c .reads .ensures))
+    let a = start (t .before .before) .args in
+    asked-yes (a .n + a .i) _ (tested (t .before) ∙ t .if1 .taken) (subst (λ f. Marks (lits (c .reads .result)) (readsOf f)) (c .before .node .ensures .0) (c .reads .ensures))
+
+empty-requires : tie.Need-empty-requires
+empty-requires c κs = search needs
 
 returns-2 : tie.Need-returns-2
 returns-2 c =
-    let a = c .before .before .before .args in
-    asked-no (a .mask) (a .n + a .i) _ (c .if1 .left)
+    let t = c .before in
+    let a = start (t .before .before) .args in
+    asked-no (a .n + a .i) _ (tested (t .before) ∙ t .if1 .left) (c .empty .ensures)
 
 pub asked-spec : {M : Type 1} → statement M
 asked-spec =
-    tie.close (tie.spec add-v shr-if1 add-node node-requires reads-requires returns returns-2)
+    tie.close
+    (tie.spec add-t9 cast-t10 plain-requires has-requires add-node node-requires reads-requires returns empty-requires returns-2)

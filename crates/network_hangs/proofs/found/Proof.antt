@@ -1,4 +1,5 @@
 -- `network_hangs::found` meets its contract: what the node reads, what is reached from it, and of that the divisors. Assumes nothing.
+use native.Mathlib.Omega.{arith}
 use borrow.Author.Needs.{needs}
 use Rattle.network_hangs.proofs.Finding.{found-marks}
 use Rattle.network_hangs.proofs.found.Statement.{statement}
@@ -14,12 +15,12 @@ often-requires : tie.Need-often-requires
 often-requires c κs = search needs
 
 above-requires : tie.Need-above-requires
-above-requires c κs = search needs
+above-requires c κs = omega (arith, c .before .before .before .before .before .pre .0 .variables)
 
 returns : tie.Need-returns
 returns c =
     let s = c .before .before .before .before .before .before in
-    found-marks (s .pre .0) (s .pre .2) (c .before .before .before .node .ensures .0) (c .before .before .reads .ensures) (c .before .often .ensures) (c .above .ensures)
+    found-marks (s .pre .0) (s .pre .1) (c .before .before .before .node .ensures .0) (c .before .before .reads .ensures) (c .before .often .ensures) (c .above .ensures)
 
 pub found-spec : {M : Type 1} → statement M
 found-spec =

@@ -6,7 +6,6 @@ use borrow.Author.Needs.{needs}
 use Rattle.network.specs.Held.{rules}
 use Rattle.network.specs.Parts.{Limited}
 use Rattle.network.proofs.Limits.{rules-sized}
-use Rattle.network.proofs.Holding.{rules-iff}
 use Rattle.network.proofs.Ruling.{accepted-rules, refused-rules}
 use Rattle.network.specs.Handed.{Shaped}
 use Rattle.network.proofs.Handing.{shape-of}
@@ -32,18 +31,26 @@ enum-told c = search needs
 enum-told-2 : tie.Need-enum-told-2
 enum-told-2 c = search needs
 
+empty-requires : tie.Need-empty-requires
+empty-requires c κs = search needs
+
 returns : tie.Need-returns
 returns c =
-    let s = c .before .before .before in
-    hangs-refused (s .args .n) (s .args .i) (refused-rules _ _ (sym (c .before .before .judge .ensures) ∙ c .enum-told2 .given .1))
+    let t = c .before in
+    let s = t .before .before .before in
+    hangs-refused (s .args .n) (s .args .i) (refused-rules _ _ (sym (t .before .before .judge .ensures) ∙ t .enum-told2 .given .1)) (c .empty .ensures)
+
+empty-requires-2 : tie.Need-empty-requires-2
+empty-requires-2 c κs = search needs
 
 add-if1 : tie.Need-add-if1
 add-if1 c = omega (arith, limited c .narrow, limited c .variables)
 
 returns-2 : tie.Need-returns-2
 returns-2 c =
-    let s = c .before .before .before .before .before in
-    hangs-past (s .args .n) (s .args .i) (kept (c .before)) (omega arith)
+    let t = c .before in
+    let s = t .before .before .before .before .before in
+    hangs-past (s .args .n) (s .args .i) (kept (t .before)) (t .if1 .taken) (c .empty2 .ensures)
 
 slice-aggregate-found : tie.Need-slice-aggregate-found
 slice-aggregate-found c = search needs
@@ -54,8 +61,7 @@ slice-aggregate-found-2 c = search needs
 found-requires : tie.Need-found-requires
 found-requires c κs =
     let k = c .before .before .before .before .before in
-    let n = k .before .before .before .before .args .n in
-    (limited k, omega (arith, (rules-iff n (shape k)) .0 (kept k) .lawful .inputs .1), omega arith)
+    (limited k, omega arith)
 
 returns-3 : tie.Need-returns-3
 returns-3 c =
@@ -70,8 +76,10 @@ hangs-spec =
     judge-requires
     enum-told
     enum-told-2
+    empty-requires
     returns
     add-if1
+    empty-requires-2
     returns-2
     slice-aggregate-found
     slice-aggregate-found-2

@@ -1,7 +1,8 @@
--- `network_hangs::often` meets its contract. The loop's invariant: the mask marks what is reached after so many turns. Assumes nothing.
+-- `network_hangs::often` meets its contract. The loop's invariant: the set is what is reached after so many turns. Assumes nothing.
 use Prim.Native.Nat.{_-_, _≤_}
 use mathlib.Core.Path.{subst}
 use native.Mathlib.Omega.{arith}
+use Rattle.cube.specs.Cube.{lits}
 use Rattle.network.specs.Parts.{netAt}
 use Rattle.network_hangs.specs.Hangs.{reached}
 use Rattle.network_hangs.specs.Parts.{Makes}
@@ -10,10 +11,10 @@ use Rattle.network_hangs.proofs.often.Statement.{statement}
 use Rattle.network_hangs.proofs.often.Tie as tie
 
 abbrev Inv-loop : tie.InvT-loop
-Inv-loop words counts n m k mask all₀ turns₀ all turns = (turns ≤ k) × Makes mask all (reached turns (netAt n m k counts words))
+Inv-loop words counts n m k all₀ turns₀ all turns = (turns ≤ k) × Makes (lits all₀) (lits all) (reached turns (netAt n m k counts words))
 
 abbrev μ-loop : tie.MeasureT-loop
-μ-loop words counts n m k mask all₀ turns₀ all turns = k - turns
+μ-loop words counts n m k all₀ turns₀ all turns = k - turns
 
 loop-holds : tie.Need-loop-holds Inv-loop μ-loop
 loop-holds c = (omega arith, makes-first _ _)
@@ -28,13 +29,13 @@ loop-less : tie.Need-loop-less Inv-loop μ-loop
 loop-less c = omega arith
 
 loop-again : tie.Need-loop-again Inv-loop μ-loop
-loop-again c = let l = c .before .before in (omega arith, makes-more _ _ _ _ (l .loop .turns) (l .loop .inv .1) (c .once .ensures))
+loop-again c = let l = c .before .before in (omega arith, makes-more _ (l .loop .turns) (l .loop .inv .1) (c .once .ensures))
 
 returns : tie.Need-returns Inv-loop μ-loop
 returns c =
     let l = c .before in
     let a = l .before .before .before .args in
-    subst (λ x. Makes (a .mask) (l .loop .all) (reached x (netAt (a .n) (a .m) (a .k) (a .counts .now) (a .words .now)))) (omega arith) (l .loop .inv .1)
+    subst (λ x. Makes (lits (a .set)) (lits (l .loop .all)) (reached x (netAt (a .n) (a .m) (a .k) (a .counts .now) (a .words .now)))) (omega arith) (l .loop .inv .1)
 
 pub often-spec : {M : Type 1} → statement M
 often-spec =

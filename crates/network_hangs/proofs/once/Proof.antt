@@ -1,27 +1,30 @@
--- `network_hangs::once` meets its contract. The loop's invariant: the mask, with what the divisors from i on read, is the variables and what all divisors among them read. Assumes nothing.
+-- `network_hangs::once` meets its contract. The loop's invariant: the set, with what the divisors from i on read, is the variables and what all divisors among them read. Assumes nothing.
 use Prim.Native.Nat.{ℕ, _+_, _-_, _≤_}
 use mathlib.Core.Path.{_≡_, sym, subst}
 use mathlib.Core.Bool.{cond}
 use mathlib.Core.List.{List, []}
 use native.Mathlib.Omega.{arith}
+use borrow.Author.Needs.{needs}
 use lib.ListN.{length, drop, getD}
 use Rattle.sets.specs.Lists.{any}
 use Rattle.sets.specs.Sets.{mem, union}
+use Rattle.cube.specs.Cube.{lits}
 use Rattle.network.specs.Held.{numbered}
 use Rattle.network.specs.Parts.{divisorsOf, heldIn, netAt}
 use Rattle.network.proofs.Parts.{divisors-length, divisors-at}
-use Rattle.network_hangs.specs.Hangs.{readsOf, readBy, Marks}
-use Rattle.network_hangs.proofs.Marking.{Gathers, gather-more, gather-done}
+use Rattle.network_reads.specs.Reading.{readsOf, Marks}
+use Rattle.network_reads.proofs.Marking.{Gathers, gather-more, gather-done}
+use Rattle.network_hangs.specs.Hangs.{readBy}
 use Rattle.network_hangs.proofs.Reading.{asks, asks-first, asks-next, asks-done}
 use Rattle.network_hangs.proofs.once.Statement.{statement}
 use Rattle.network_hangs.proofs.once.Tie as tie
 
 abbrev Inv-loop : tie.InvT-loop
-Inv-loop words counts n m k mask all₀ i₀ all i =
-    (i ≤ k) × ((l : List ℕ) → Marks mask l → Gathers all (λ v. any (asks l v) (numbered (n + i) (drop i (divisorsOf m k counts words)))) (λ v. mem v (union l (readBy (netAt n m k counts words) l))))
+Inv-loop words counts n m k set all₀ i₀ all i =
+    (i ≤ k) × ((l : List ℕ) → Marks (lits set) l → Gathers (lits all) (λ v. any (asks l v) (numbered (n + i) (drop i (divisorsOf m k counts words)))) (λ v. mem v (union l (readBy (netAt n m k counts words) l))))
 
 abbrev μ-loop : tie.MeasureT-loop
-μ-loop words counts n m k mask all₀ i₀ all i = k - i
+μ-loop words counts n m k set all₀ i₀ all i = k - i
 
 abbrev start : tie.At-loop Inv-loop μ-loop → tie.Start Inv-loop μ-loop
 start l = l .before .before .before
@@ -36,12 +39,15 @@ many l = let a = start l .args in divisors-length (a .counts .now) (a .words .no
 loop-holds : tie.Need-loop-holds Inv-loop μ-loop
 loop-holds c =
     let a = c .before .before .args in
-    (omega arith, asks-first (heldIn (a .n) (a .m) (a .k) (a .counts .now) (a .words .now)) (a .mask))
+    (omega arith, asks-first (heldIn (a .n) (a .m) (a .k) (a .counts .now) (a .words .now)))
 
 asked-requires : tie.Need-asked-requires Inv-loop μ-loop
 asked-requires c κs =
     let s = start (c .before) in
     (omega (arith, s .pre .counted), omega (arith, s .pre .variables))
+
+union-requires : tie.Need-union-requires Inv-loop μ-loop
+union-requires c κs = search needs
 
 add-i : tie.Need-add-i Inv-loop μ-loop
 add-i c = omega arith
@@ -51,14 +57,16 @@ loop-less c = omega arith
 
 loop-again : tie.Need-loop-again Inv-loop μ-loop
 loop-again c =
-    let l = c .before .before in
+    let w = c .before in
+    let l = w .before .before in
     let a = start l .args in
     let i = l .loop .i in (
       omega arith,
       λ t p.
-          gather-more (l .loop .all) (c .asked .result) (cond (mem (a .n + i) t) (readsOf (getD (held l) i [])) []) _ _ _
+          gather-more (cond (mem (a .n + i) t) (readsOf (getD (held l) i [])) []) _ _ _
           (λ v. asks-next t v (a .n) (held l) i (omega (arith, many l)))
-          (subst (λ f. Marks (c .asked .result) (cond (mem (a .n + i) t) (readsOf f) [])) (sym (divisors-at (a .counts .now) (a .words .now) (a .m) (a .k) i (omega arith))) (c .asked .ensures .each t p))
+          (c .union .ensures)
+          (subst (λ f. Marks (lits (w .asked .result)) (cond (mem (a .n + i) t) (readsOf f) [])) (sym (divisors-at (a .counts .now) (a .words .now) (a .m) (a .k) i (omega arith))) (w .asked .ensures .each t p))
           (l .loop .inv .1 t p),
     )
 
@@ -66,9 +74,9 @@ returns : tie.Need-returns Inv-loop μ-loop
 returns c =
     let l = c .before in
     let a = start l .args in
-    record { each = λ t p. gather-done (l .loop .all) _ _ (λ v. asks-done t v (a .n) (held l) (l .loop .i) (omega (arith, many l))) (l .loop .inv .1 t p) }
+    record { each = λ t p. gather-done _ _ (λ v. asks-done t v (a .n) (held l) (l .loop .i) (omega (arith, many l))) (l .loop .inv .1 t p) }
 
 pub once-spec : {M : Type 1} → statement M
 once-spec =
     tie.close
-    (tie.spec Inv-loop μ-loop loop-holds asked-requires add-i loop-less loop-again returns)
+    (tie.spec Inv-loop μ-loop loop-holds asked-requires union-requires add-i loop-less loop-again returns)

@@ -9,7 +9,8 @@ use Rattle.sets.specs.Sets.{mem}
 use Rattle.sets.proofs.Truth.{Stand, below, equal, beyond, stand}
 use Rattle.network.specs.Held.{mostOutputs, mostVariables}
 use Rattle.network.specs.declared.Network.{Network}
-use Rattle.network_hangs.specs.Hangs.{Marks}
+use Rattle.network_reads.specs.Reading.{Marks}
+use Rattle.network_reads.proofs.Marking.{marks-plain}
 use Rattle.network_map.specs.Cells.{rowOf}
 use Rattle.network_map.specs.Parts.{RowSet}
 use borrow.Author.Needs.{needs}
@@ -21,12 +22,12 @@ abbrev Rows : Network → List Bool → ℕ → Type 0
 Rows n l j = (k v : ℕ) → k < j → v < mostVariables → getD l (k * mostVariables + v) false ≡ mem v (rowOf n k)
 
 -- a row more
-next : (n : Network) (l m : List Bool) (j mask : ℕ) → Marks mask (rowOf n j) → RowSet l m j mask → Rows n l j → Rows n m (j + 1)
-next n l m j mask p r old k v h b = go (stand k j)
+next : (n : Network) (l m : List Bool) (j : ℕ) (set : List ℕ) → Marks set (rowOf n j) → RowSet l m j set → Rows n l j → Rows n m (j + 1)
+next n l m j set p r old k v h b = go (stand k j)
   where
     go : Stand k j → getD m (k * mostVariables + v) false ≡ mem v (rowOf n k)
     go (below i _ _) = r .before (k * mostVariables + v) (omega arith) ∙ old k v i b
-    go (equal i _ _) = rw i (r .row v b ∙ p .each v)
+    go (equal i _ _) = rw i (r .row v b ∙ marks-plain p v)
     go (beyond i _ _) = absurd (omega arith)
 
 abbrev Inv-loop : tie.InvT-loop
@@ -41,7 +42,7 @@ loop-holds c = (search needs, search needs, λ k v h b. absurd (omega arith))
 loop-again : tie.Need-loop-again Inv-loop μ-loop
 loop-again c =
     let h = c .before .before .before .before in
-    (search needs, c .set-row .ensures .size ∙ h .loop .inv .1, next _ _ _ _ (c .before .row .result) (c .before .row .ensures) (c .set-row .ensures) (h .loop .inv .2))
+    (search needs, c .set-row .ensures .size ∙ h .loop .inv .1, next _ _ _ _ _ (c .before .row .ensures) (c .set-row .ensures) (h .loop .inv .2))
 
 returns : tie.Need-returns Inv-loop μ-loop
 returns c = record { each = λ j v h b. c .before .loop .inv .2 j v (omega arith) b }
