@@ -1,10 +1,12 @@
--- Evaluation: along a whole listing the divisors settle to the one consistent assignment, from which the answer is read; it hangs on no bit past the inputs and on no order of cubes. Assumes nothing.
+-- Evaluation: along a whole listing the divisors settle to the one consistent assignment, from which the answer is read; it hangs on no
+-- bit past the inputs and on no order of cubes. Assumes nothing.
 use Prim.Native.Nat.{ℕ, zero, suc, _/_, _^_, _<_, _≤_}
 use mathlib.Core.Path.{_≡_, refl, sym, ap, ap₂, _∙_, subst}
 use mathlib.Core.Logic.{inl, inr}
 use mathlib.Core.Bool.{Bool, true, false, cond, _||_}
 use mathlib.Core.Option.{Option, none, some}
-use mathlib.Core.List.{List, [], _∷_, _++_, map, append-nil, append-assoc, List·Memᴰ·head as here, List·Memᴰ·tail as there, List·Memᴰ·not-nil, List·Memᴰ·append-cases, List·Memᴰ·eq-of-singleton, Memᴰ·append-right}
+use mathlib.Core.List.{List, [], _∷_, _++_, map, append-nil, append-assoc, List·Memᴰ·head as here, List·Memᴰ·tail as there, List·Memᴰ·not-nil}
+use mathlib.Core.List.{List·Memᴰ·append-cases, List·Memᴰ·eq-of-singleton, Memᴰ·append-right}
 use native.Mathlib.Omega.{arith}
 use lib.Dec.{eqb, ltb}
 use lib.ListN.{length, getD, length-map, List·getD-map}
@@ -64,7 +66,8 @@ module _ (n : Net) (d : Distinct n) (w : length (listing n) ≡ length (n .divis
       go p b q =
           let once : pairwise differ (p ++ (e .number ∷ b)) ≡ true = rw q at (listing-once n) in
           let tail : e .number ∈ b → ⊥ = λ i. once-apart (p ++ (e .number ∷ [])) b (rw append-assoc once) (Memᴰ·append-right p (here refl)) i in
-          let whole : settle n (listing n) a ≡ settle n (e .number ∷ b) (settle n p a) = ap (λ (l : List ℕ). settle n l a) q ∙ settle-append n p (e .number ∷ b) a in
+          let whole : settle n (listing n) a ≡ settle n (e .number ∷ b) (settle n p a) = ap (λ (l : List ℕ). settle n l a) q
+          ∙ settle-append n p (e .number ∷ b) a in
           let stays : (u : ℕ) → (u ∈ (e .number ∷ b) → ⊥) → settle n p a u ≡ settle n (listing n) a u =
           λ u h. sym (ap (λ (f : ℕ → Bool). f u) whole ∙ settle-other n (e .number ∷ b) (settle n p a) u h) in
           ap (λ (f : ℕ → Bool). f (e .number)) whole
@@ -95,7 +98,8 @@ module _ (n : Net) (w : length (listing n) ≡ length (n .divisors)) (s a b : �
       next = let x = next-some (n .inputs) p (n .divisors) v (listing-next n p r v q) in
           rw (x .number)
           (ca .divisors (x .node) (x .inside)
-          ∙ value-agree a b (x .node .cubes) (λ u t. elim (ready-out (n .inputs) p (x .node .cubes) (x .allowed) u t) [ inl h ↦ input-agree u h | inr i ↦ k u i ])
+          ∙ value-agree a b (x .node .cubes) (λ u t. elim (ready-out (n .inputs) p (x .node .cubes) (x .allowed) u t)
+          [ inl h ↦ input-agree u h | inr i ↦ k u i ])
           ∙ sym (cb .divisors (x .node) (x .inside)))
 
   -- two assignments that fit one setting agree on inputs and divisors
@@ -168,7 +172,8 @@ cubes-same : (v : ℕ) {ds es : List Node} → Along SameNode ds es → SameCube
 unfolding cubesAt
 cubes-same v end = record { into = λ c m. m; back = λ c m. m }
 cubes-same v (on {x = x} {y = y} {l = l} {m = m} (p, e) t) =
-    rw p (elim (eqb v (y .number)) as (λ b. SameCubes (cond b (x .cubes) (cubesAt v l)) (cond b (y .cubes) (cubesAt v m))) [ true ↦ e | false ↦ cubes-same v t ])
+    rw p (elim (eqb v (y .number)) as (λ b. SameCubes (cond b (x .cubes) (cubesAt v l)) (cond b (y .cubes) (cubesAt v m)))
+    [ true ↦ e | false ↦ cubes-same v t ])
 
 outputs-same : (v : ℕ → Bool) {fs gs : List (List (List ℕ))} → Along SameCubes fs gs → map (value v) fs ≡ map (value v) gs
 outputs-same v end = refl
@@ -183,7 +188,8 @@ module _ (n m : Net) (r : Reordered n m) where
   more-alike zero l = refl
   more-alike (suc k) l = go (nextReady (n .inputs) l (n .divisors)) refl (more-alike k)
     where
-      go : (o : Option ℕ) → nextReady (n .inputs) l (n .divisors) ≡ o → ((p : List ℕ) → listMore k n p ≡ listMore k m p) → listMore (suc k) n l ≡ listMore (suc k) m l
+      go : (o : Option ℕ) → nextReady (n .inputs) l (n .divisors) ≡ o → ((p : List ℕ) → listMore k n p ≡ listMore k m p)
+          → listMore (suc k) n l ≡ listMore (suc k) m l
       go none e h = more-none k n l e ∙ sym (more-none k m l (sym (next-alike l) ∙ e))
       go (some v) e h = more-some k n l v e ∙ h (l ++ (v ∷ [])) ∙ sym (more-some k m l v (sym (next-alike l) ∙ e))
 
@@ -196,7 +202,8 @@ module _ (n m : Net) (r : Reordered n m) where
   unfolding settle
   settle-alike [] a = refl
   settle-alike (v ∷ l) a =
-      ap (λ (x : Bool). settle n l (assign a v x)) (value-same (cubes-same v (r .divisors)) (lit a)) ∙ settle-alike l (assign a v (value (lit a) (cubesAt v (m .divisors))))
+      ap (λ (x : Bool). settle n l (assign a v x)) (value-same (cubes-same v (r .divisors)) (lit a))
+      ∙ settle-alike l (assign a v (value (lit a) (cubesAt v (m .divisors))))
 
   -- and answer alike
   pub evaluate-order : (s : ℕ) → evaluate n s ≡ evaluate m s

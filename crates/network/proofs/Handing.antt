@@ -20,7 +20,8 @@ use Rattle.network.specs.declared.Network.{Network}
 pub cut-flat : (fs : List (List (List ℕ))) (rest : List (List ℕ)) → cut (map length fs) (flat fs ++ rest) ≡ fs
 unfolding cut
 cut-flat [] rest = refl
-cut-flat (f ∷ fs) rest = rw (append-assoc f (flat fs) rest, take-append-seam f (flat fs ++ rest), drop-append-seam f (flat fs ++ rest)) (ap (f ∷_) (cut-flat fs rest))
+cut-flat (f ∷ fs) rest = rw (append-assoc f (flat fs) rest, take-append-seam f (flat fs ++ rest), drop-append-seam f (flat fs ++ rest))
+    (ap (f ∷_) (cut-flat fs rest))
 
 pub flat-length : {A : Type 0} (fs : List (List A)) → length (flat fs) ≡ total length fs
 flat-length [] = refl
@@ -39,7 +40,14 @@ module _ (n : Network) (m : Net) (h : Holds n m) where
   used-held = ap₂ take slots (h .laid .counts) ∙ take-at (map length (nodes m)) _ (length (nodes m)) (length-map (nodes m) length)
     where
       slots : n .outputs + n .divisors ≡ length (nodes m)
-      slots = omega (arith, h .outputs, h .divisors, length-append (m .outputs) (map (λ (e : Node). e .cubes) (m .divisors)), length-map (m .divisors) (λ (e : Node). e .cubes))
+      slots = omega (
+        arith,
+        h .outputs,
+        h .divisors,
+        length-append (m .outputs) (map (λ (e : Node). e .cubes) (m .divisors)),
+        length-map (m .divisors)
+            (λ (e : Node). e .cubes),
+      )
 
   nodes-cut : cut (used n) (cubesOf (n .words)) ≡ nodes m
   nodes-cut = ap₂ cut used-held (h .laid .cubes) ∙ cut-flat (nodes m) _

@@ -1,4 +1,5 @@
--- What a network's fields mean: the slots in use alone count, the counts cut the cubes into nodes, and the test `rules` says what the paper's rules say. Assumes nothing.
+-- What a network's fields mean: the slots in use alone count, the counts cut the cubes into nodes, and the test `rules` says what the
+-- paper's rules say. Assumes nothing.
 use Prim.Native.Nat.{ℕ, zero, suc, _+_, _<_, _≤_}
 use mathlib.Core.Path.{_≡_, refl, sym, ap, ap₂, _∙_}
 use mathlib.Core.Logic.{_↔_}
@@ -29,7 +30,8 @@ use Rattle.network.specs.Answers.{evaluated}
 use Rattle.network.specs.declared.Network.{Network}
 use Rattle.network.specs.declared.Number.the-variants.{Is, No}
 use Rattle.network.proofs.Places.{all-append}
-use Rattle.network.proofs.Numbering.{numbered-length, numbered-cubes, numbered-at, numbered-distinct, known-below, below-known, over-in, over-out, nodes-closed}
+use Rattle.network.proofs.Numbering.{numbered-length, numbered-cubes, numbered-at, numbered-distinct, known-below, below-known, over-in}
+use Rattle.network.proofs.Numbering.{over-out, nodes-closed}
 use Rattle.network.proofs.Listings.{listing-acyclic, good-sound}
 use Rattle.network.proofs.Evaluating.{unique, evaluate-settled, evaluate-read}
 

@@ -40,7 +40,8 @@ module _ (n : Network) where
       pub sized-variables : mostVariables < n .inputs + n .divisors → false ≡ sized n
       sized-variables h = rw (i, o, lt-leb (n .inputs + n .divisors) mostVariables h)
 
-      pub sized-cubes : n .inputs + n .divisors ≤ mostVariables → leb (min (countBefore (n .outputs + n .divisors) (n .counts)) (suc mostCubes)) mostCubes ≡ sized n
+      pub sized-cubes : n .inputs + n .divisors ≤ mostVariables
+          → leb (min (countBefore (n .outputs + n .divisors) (n .counts)) (suc mostCubes)) mostCubes ≡ sized n
       sized-cubes h = rw (i, o, le-leb (n .inputs + n .divisors) mostVariables h) (start-few (total (λ c. c) (used n)))
 
   -- what follows from the limits

@@ -1,10 +1,12 @@
--- The listing: each number is the smallest whose own divisors are all listed, none comes twice, and all divisors are listed exactly when none reads itself through others. Assumes nothing.
+-- The listing: each number is the smallest whose own divisors are all listed, none comes twice, and all divisors are listed exactly when
+-- none reads itself through others. Assumes nothing.
 use Prim.Native.Nat.{ℕ, zero, suc, _+_, _/_, _<_, _≤_}
 use mathlib.Core.Path.{_≡_, refl, sym, ap, _∙_, subst}
 use mathlib.Core.Logic.{_⊎_, inl, inr, _↔_}
 use mathlib.Core.Bool.{Bool, true, false, cond, not, _&&_, _||_}
 use mathlib.Core.Option.{Option, none, some, Option·none-ne-some, Option·some-ne-none, Option·some-injective}
-use mathlib.Core.List.{List, [], _∷_, _++_, map, append-nil, append-assoc, nil≢cons, head-eq-of-cons-eq, tail-eq-of-cons-eq, List·Memᴰ·head as here, List·Memᴰ·tail as there, List·Memᴰ·not-nil, List·Memᴰ·cases-cons, Memᴰ·append-left, Memᴰ·cast}
+use mathlib.Core.List.{List, [], _∷_, _++_, map, append-nil, append-assoc, nil≢cons, head-eq-of-cons-eq, tail-eq-of-cons-eq, List·Memᴰ·head as here}
+use mathlib.Core.List.{List·Memᴰ·tail as there, List·Memᴰ·not-nil, List·Memᴰ·cases-cons, Memᴰ·append-left, Memᴰ·cast}
 use native.Mathlib.Omega.{arith}
 use lib.Dec.{ltb}
 use lib.ListN.{length, length-map}
@@ -55,7 +57,8 @@ unfolding nextReady
 next-some k l [] v h = absurd (Option·none-ne-some v h)
 next-some k l (e ∷ ds) v h = go (not (mem (e .number) l) && ready k l (e .cubes)) refl h (next-some k l ds v)
   where
-    go : (b : Bool) → (not (mem (e .number) l) && ready k l (e .cubes)) ≡ b → cond b (some (e .number)) (nextReady k l ds) ≡ some v → (nextReady k l ds ≡ some v → Next k l ds v) → Next k l (e ∷ ds) v
+    go : (b : Bool) → (not (mem (e .number) l) && ready k l (e .cubes)) ≡ b → cond b (some (e .number)) (nextReady k l ds) ≡ some v
+        → (nextReady k l ds ≡ some v → Next k l ds v) → Next k l (e ∷ ds) v
     go true t p r =
         let q = both (not (mem (e .number) l)) (ready k l (e .cubes)) t in
         let w : v ≡ e .number = sym (Option·some-injective (e .number) v p) in
@@ -70,7 +73,8 @@ next-least k l [] v a h g m f y = absurd (List·Memᴰ·not-nil m)
 next-least k l (e ∷ ds) v a h g m f y =
     go (not (mem (e .number) l) && ready k l (e .cubes)) refl h (List·Memᴰ·cases-cons m) (λ p i. next-least k l ds v ((numbers-ahead e ds a) .1) p g i f y)
   where
-    go : (b : Bool) → (not (mem (e .number) l) && ready k l (e .cubes)) ≡ b → cond b (some (e .number)) (nextReady k l ds) ≡ some v → (g ≡ e) ⊎ (g ∈ ds) → (nextReady k l ds ≡ some v → g ∈ ds → v ≤ g .number) → v ≤ g .number
+    go : (b : Bool) → (not (mem (e .number) l) && ready k l (e .cubes)) ≡ b → cond b (some (e .number)) (nextReady k l ds) ≡ some v → (g ≡ e) ⊎ (g ∈ ds)
+        → (nextReady k l ds ≡ some v → g ∈ ds → v ≤ g .number) → v ≤ g .number
     go true t p (inl q) r = omega (arith, Option·some-injective (e .number) v p, ap (λ (z : Node). z .number) q)
     go true t p (inr i) r = omega (arith, Option·some-injective (e .number) v p, (numbers-ahead e ds a) .0 g i)
     go false t p (inl q) r = clash (together (not (mem (e .number) l)) (ready k l (e .cubes)) (rw (← q) (ap not f)) (rw (← q) y)) t
@@ -82,7 +86,8 @@ unfolding nextReady
 next-none k l [] h g m f = absurd (List·Memᴰ·not-nil m)
 next-none k l (e ∷ ds) h g m f = go (not (mem (e .number) l) && ready k l (e .cubes)) refl h (List·Memᴰ·cases-cons m) (λ p i. next-none k l ds p g i f)
   where
-    go : (b : Bool) → (not (mem (e .number) l) && ready k l (e .cubes)) ≡ b → cond b (some (e .number)) (nextReady k l ds) ≡ none → (g ≡ e) ⊎ (g ∈ ds) → (nextReady k l ds ≡ none → g ∈ ds → ready k l (g .cubes) ≡ false) → ready k l (g .cubes) ≡ false
+    go : (b : Bool) → (not (mem (e .number) l) && ready k l (e .cubes)) ≡ b → cond b (some (e .number)) (nextReady k l ds) ≡ none → (g ≡ e) ⊎ (g ∈ ds)
+        → (nextReady k l ds ≡ none → g ∈ ds → ready k l (g .cubes) ≡ false) → ready k l (g .cubes) ≡ false
     go true t p q r = absurd (Option·some-ne-none (e .number) p)
     go false t p (inl q) r = refuted (λ y. clash (together (not (mem (e .number) l)) (ready k l (e .cubes)) (rw (← q) (ap not f)) (rw (← q) y)) t)
     go false t p (inr i) r = r p i
@@ -112,7 +117,14 @@ module _ (n : Net) where
 
   more : (k : ℕ) (l : List ℕ) → More k l
   unfolding listMore
-  more zero l = record { rest = []; made = sym (append-nil l); short = omega arith; each = λ a b v e. absurd (nil-split a b v e); last = λ h. absurd (omega arith) }
+  more zero l = record {
+    rest = [];
+    made = sym (append-nil l);
+    short = omega arith;
+    each = λ a b v e. absurd (nil-split a b v e);
+    last = λ h. absurd
+        (omega arith);
+  }
   more (suc k) l = go (nextReady (n .inputs) l (n .divisors)) refl (more k)
     where
       go : (o : Option ℕ) → nextReady (n .inputs) l (n .divisors) ≡ o → ((m : List ℕ) → More k m) → More (suc k) l
@@ -156,7 +168,8 @@ module _ (n : Net) where
   listing-length = let m = more (length (n .divisors)) [] in rw (m .made) (m .short)
 
   -- where fewer numbers are listed than there are divisors, no divisor that is left out is ready
-  pub listing-stop : length (listing n) < length (n .divisors) → (g : Node) → g ∈ n .divisors → mem (g .number) (listing n) ≡ false → ready (n .inputs) (listing n) (g .cubes) ≡ false
+  pub listing-stop : length (listing n) < length (n .divisors) → (g : Node) → g ∈ n .divisors → mem (g .number) (listing n) ≡ false
+      → ready (n .inputs) (listing n) (g .cubes) ≡ false
   unfolding listing
   listing-stop h = let m = more (length (n .divisors)) [] in
       next-none (n .inputs) (listing n) (n .divisors) (rw (m .made) (m .last (omega (arith, ap length (m .made)))))
@@ -199,7 +212,8 @@ module _ (n : Net) (d : Distinct n) where
   listing-reads a b e m p v r =
       ready-out (n .inputs) a (e .cubes) (rw (cubes-at n d m) at ((listing-step a b (e .number) p) .allowed)) v r
 
-  listing-earlier : (a b : List ℕ) (e g : Node) → e ∈ n .divisors → g ∈ n .divisors → Reads (e .cubes) (g .number) → listing n ≡ a ++ (e .number ∷ b) → g .number ∈ a
+  listing-earlier : (a b : List ℕ) (e g : Node) → e ∈ n .divisors → g ∈ n .divisors → Reads (e .cubes) (g .number) → listing n ≡ a ++ (e .number ∷ b)
+      → g .number ∈ a
   listing-earlier a b e g m i r p = elim (listing-reads a b e m p (g .number) r) [ inl h ↦ absurd (omega (arith, d .above g i)) | inr j ↦ j ]
 
   -- and so are those that they read in turn

@@ -83,14 +83,18 @@ module _ (g : List (List ℕ) → List (List ℕ)) where
         where
           one : (d : Node) × (d ∈ n .divisors) × (e ≡ onNode g d) → (b : Node) × (b ∈ n .divisors) × (h ≡ onNode g b) → Through n (e .number) (h .number)
           one (d, j, p) (b, k, q) =
-              let z : Reads (g (d .cubes)) (b .number) = subst (λ (x : Node). Reads (x .cubes) (b .number)) p (subst (λ (x : Node). Reads (e .cubes) (x .number)) q r) in
+              let z : Reads (g (d .cubes)) (b .number) = subst (λ (x : Node). Reads (x .cubes) (b .number)) p
+              (subst (λ (x : Node). Reads (e .cubes) (x .number)) q r) in
               rw (ap (λ (x : Node). x .number) p, ap (λ (x : Node). x .number) q) (itself j k (reads (d .cubes) (in-divisor n j) (b .number) z))
       mapped-through {v = v} (others {e = e} {g = h} m i r t) = one (old-node e m) (old-node h i) (mapped-through t)
         where
-          one : (d : Node) × (d ∈ n .divisors) × (e ≡ onNode g d) → (b : Node) × (b ∈ n .divisors) × (h ≡ onNode g b) → Through n (h .number) v → Through n (e .number) v
+          one : (d : Node) × (d ∈ n .divisors) × (e ≡ onNode g d) → (b : Node) × (b ∈ n .divisors) × (h ≡ onNode g b) → Through n (h .number) v
+              → Through n (e .number) v
           one (d, j, p) (b, k, q) w =
-              let z : Reads (g (d .cubes)) (b .number) = subst (λ (x : Node). Reads (x .cubes) (b .number)) p (subst (λ (x : Node). Reads (e .cubes) (x .number)) q r) in
-              rw (ap (λ (x : Node). x .number) p) (others j k (reads (d .cubes) (in-divisor n j) (b .number) z) (subst (λ (x : Node). Through n (x .number) v) q w))
+              let z : Reads (g (d .cubes)) (b .number) = subst (λ (x : Node). Reads (x .cubes) (b .number)) p
+              (subst (λ (x : Node). Reads (e .cubes) (x .number)) q r) in
+              rw (ap (λ (x : Node). x .number) p) (others j k (reads (d .cubes) (in-divisor n j) (b .number) z)
+              (subst (λ (x : Node). Through n (x .number) v) q w))
 
       pub mapped-good : ((f : List (List ℕ)) → f ∈ nodes n → expression (g f) ≡ true) → Good n → Good (mapNodes g n)
       mapped-good k w = record {

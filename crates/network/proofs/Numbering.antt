@@ -3,7 +3,8 @@ use Prim.Native.Nat.{ℕ, zero, suc, _+_, _-_, _/_, _<_, _≤_}
 use mathlib.Core.Path.{_≡_, refl, sym, ap, _∙_, subst}
 use mathlib.Core.Logic.{inl, inr, _↔_}
 use mathlib.Core.Bool.{Bool, true, false, cond, or-true}
-use mathlib.Core.List.{List, [], _∷_, map, List·Memᴰ·head as here, List·Memᴰ·tail as there, List·Memᴰ·not-nil, List·Memᴰ·cases-cons, Memᴰ·append-left, Memᴰ·append-right}
+use mathlib.Core.List.{List, [], _∷_, map, List·Memᴰ·head as here, List·Memᴰ·tail as there, List·Memᴰ·not-nil, List·Memᴰ·cases-cons, Memᴰ·append-left}
+use mathlib.Core.List.{Memᴰ·append-right}
 use native.Mathlib.Omega.{arith}
 use lib.Dec.{leb, ltb, eqb}
 use lib.ListN.{length, getD}
@@ -66,7 +67,8 @@ unfolding cubesAt
 found-at [] u m = absurd (List·Memᴰ·not-nil m)
 found-at (x ∷ l) u {e} m = go (eqb (e .number) (x .number)) refl m (λ i. found-at l (λ p q j k. u p q (there j) (there k)) i)
   where
-    go : (b : Bool) → eqb (e .number) (x .number) ≡ b → e ∈ (x ∷ l) → (e ∈ l → cubesAt (e .number) l ≡ e .cubes) → cond b (x .cubes) (cubesAt (e .number) l) ≡ e .cubes
+    go : (b : Bool) → eqb (e .number) (x .number) ≡ b → e ∈ (x ∷ l) → (e ∈ l → cubesAt (e .number) l ≡ e .cubes)
+        → cond b (x .cubes) (cubesAt (e .number) l) ≡ e .cubes
     go true p i k = ap (λ (z : Node). z .cubes) (u x e (here refl) i (sym (eqb-true (e .number) (x .number) p)))
     go false p (here q) k = clash (eq-eqb (e .number) (x .number) (ap (λ (z : Node). z .number) q)) p
     go false p (there i) k = k i
@@ -112,7 +114,8 @@ reach-out k fs h f m v (c, i, (l, j, p)) =
     rw p (ltb-true (l / 2) k (all-out (λ x. ltb (x / 2) k) j (all-out (all (λ x. ltb (x / 2) k)) i (all-out (reach k) m h))))
 
 pub reach-in : (k : ℕ) (fs : List (List (List ℕ))) → ((f : List (List ℕ)) → f ∈ fs → (v : ℕ) → Reads f v → v < k) → all (reach k) fs ≡ true
-reach-in k fs r = all-in (reach k) fs (λ f m. all-in (all (λ x. ltb (x / 2) k)) f (λ c i. all-in (λ x. ltb (x / 2) k) c (λ l j. lt-ltb (l / 2) k (r f m (l / 2) (c, i, (l, j, refl))))))
+reach-in k fs r = all-in (reach k) fs (λ f m. all-in (all (λ x. ltb (x / 2) k)) f
+    (λ c i. all-in (λ x. ltb (x / 2) k) c (λ l j. lt-ltb (l / 2) k (r f m (l / 2) (c, i, (l, j, refl))))))
 
 -- ---- the variables of a network
 

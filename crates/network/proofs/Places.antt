@@ -47,7 +47,8 @@ pub once-le : (l m : List ℕ) → pairwise differ l ≡ true → ((x : ℕ) →
 once-le [] m h k = omega arith
 once-le (x ∷ l) m h k =
     let q = ahead differ x l h in
-    let rest : length l ≤ length (keep (differ x) m) = once-le l (keep (differ x) m) (q .1) (λ y i. keep-in (differ x) (k y (there i)) (all-out (differ x) i (q .0))) in
+    let rest : length l ≤ length (keep (differ x) m) = once-le l (keep (differ x) m) (q .1)
+    (λ y i. keep-in (differ x) (k y (there i)) (all-out (differ x) i (q .0))) in
     let less : length (keep (differ x) m) < length (keep (λ y. true) m) =
     keep-fewer (differ x) (λ y. true) m (k x (here refl)) (λ y i t. refl) (ap not (eq-eqb x x refl)) refl in
     let full : keep (λ y. true) m ≡ m = keep-all (λ y. true) m (all-in (λ y. true) m (λ y i. refl)) in

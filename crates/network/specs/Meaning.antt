@@ -18,7 +18,8 @@ Reads f v = (c : List ℕ) × List·Memᴰ c f × ((l : ℕ) × List·Memᴰ l c
 -- a divisor u reads the divisor v, itself or through others
 pub data Through (n : Net) : ℕ → ℕ → Type 0 where
   itself : {e g : Node} → List·Memᴰ e (n .divisors) → List·Memᴰ g (n .divisors) → Reads (e .cubes) (g .number) → Through n (e .number) (g .number)
-  others : {e g : Node} {v : ℕ} → List·Memᴰ e (n .divisors) → List·Memᴰ g (n .divisors) → Reads (e .cubes) (g .number) → Through n (g .number) v → Through n (e .number) v
+  others : {e g : Node} {v : ℕ} → List·Memᴰ e (n .divisors) → List·Memᴰ g (n .divisors) → Reads (e .cubes) (g .number) → Through n (g .number) v
+      → Through n (e .number) v
 
 -- v is listed next after the numbers of a: it is not among them, reads inputs and divisors among them only, and is the smallest such
 pub record ListedNext (n : Net) (a : List ℕ) (v : ℕ) : Type 0 where

@@ -10,7 +10,7 @@ use Rattle.network_known.specs.Known.{Truths, someWithin}
 use Rattle.network.specs.Net.{Net}
 use Rattle.network.specs.Listing.{listing}
 use Rattle.network.specs.Evaluation.{evaluate}
-use Rattle.network.specs.Held.{netOf, rules}
+use Rattle.network.specs.Held.{netOf, rules, mostVariables}
 use Rattle.network.specs.Answers.{evaluated}
 use Rattle.network.specs.Parts.{nodesOf, divisorsOf, heldIn, netAt}
 use Rattle.network.specs.declared.Network.{Network}
@@ -27,12 +27,14 @@ module _ (n m k : ℕ) (words counts : List ℕ) (count : ℕ) (order : List ℕ
 
   module _ (o : PaddedList (listing net) count order) where
     taken : take count order ≡ listing net
-    taken = ap₂ take (o .number) (o .places) ∙ take-append-seam (listing net) (replicate (64 - length (listing net)) 0)
+    taken = ap₂ take (o .number) (o .places) ∙ take-append-seam (listing net) (replicate (mostVariables - length (listing net)) 0)
 
-    pub answer-is : rules (heldIn n m k counts words) ≡ true → (s : ℕ) (g t : List ℕ) → Truths n [] (bit s) g → t ≡ settledIn n (divisorsOf m k counts words) (take count order) g
+    pub answer-is : rules (heldIn n m k counts words) ≡ true → (s : ℕ) (g t : List ℕ) → Truths n [] (bit s) g
+        → t ≡ settledIn n (divisorsOf m k counts words) (take count order) g
         → packed (map (someWithin t) (nodesOf m counts words)) ≡ evaluate net s
     answer-is h s g t w q =
-        ap₂ (λ (u : List ℕ) (l : List (List (List ℕ))). packed (map (someWithin u) l)) (q ∙ ap (λ o. settledIn n (divisorsOf m k counts words) o g) taken) (sym (outputs-are counts words m k))
+        ap₂ (λ (u : List ℕ) (l : List (List (List ℕ))). packed (map (someWithin u) l)) (q ∙ ap (λ o. settledIn n (divisorsOf m k counts words) o g) taken)
+        (sym (outputs-are counts words m k))
         ∙ outputs-value net (divisorsOf m k counts words) refl (rules-sound (heldIn n m k counts words) h) s g w
 
 -- ---- what is answered

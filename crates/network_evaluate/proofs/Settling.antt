@@ -1,5 +1,5 @@
 -- Evaluation by cubes of true literals: divisors settle along the listing as the definition says, and outputs make up the answer's bits. Assumes nothing.
-use Prim.Native.Nat.{ℕ, _+_, _-_, _*_, _/_, _<_, _≤_}
+use Prim.Native.Nat.{ℕ, _+_, _-_, _*_, _/_, _<_, _≤_, _^_}
 use mathlib.Core.Path.{_≡_, refl, sym, ap, ap₂, _∙_}
 use mathlib.Core.Logic.{inl, inr}
 use mathlib.Core.Bool.{Bool, true, false, cond, _&&_, _||_}
@@ -21,7 +21,7 @@ use Rattle.sets.proofs.Places.{drop-next}
 use Rattle.network.specs.Net.{Net, cubesAt}
 use Rattle.network.specs.Listing.{ready, listing}
 use Rattle.network.specs.Meaning.{ListedNext, Distinct, IsVariable, Sound}
-use Rattle.network.specs.Held.{numbered}
+use Rattle.network.specs.Held.{numbered, mostOutputs}
 use Rattle.network.specs.Evaluation.{assign, settle, evaluate}
 use Rattle.network_known.specs.Known.{known, Truths, signed, someWithin}
 use Rattle.network_known.proofs.Knowing.{known-listed, signed-more}
@@ -76,10 +76,13 @@ module _ (net : Net) (ds : List (List (List ℕ))) (e : net .divisors ≡ number
   own = numbered-distinct net ds e
 
   -- the divisors that are left settle to the assignment of the definition
-  settled-truths : (done l : List ℕ) (a : ℕ → Bool) (t : List ℕ) → listing net ≡ done ++ l → Truths n done a t → Truths n (done ++ l) (settle net l a) (settledIn n ds l t)
+  settled-truths : (done l : List ℕ) (a : ℕ → Bool) (t : List ℕ) → listing net ≡ done ++ l → Truths n done a t
+      → Truths n (done ++ l) (settle net l a) (settledIn n ds l t)
   unfolding settle settledIn
   settled-truths done [] a t q s = rw append-nil s
-  settled-truths done (v ∷ l) a t q s = rw (← (append-assoc done (v ∷ []) l), same) (settled-truths (done ++ (v ∷ [])) l (assign a v b) (insert (signed v b) t) (q ∙ sym (append-assoc done (v ∷ []) l)) (truths-listed n done a t s v b above (x .fresh)))
+  settled-truths done (v ∷ l) a t q s = rw (← (append-assoc done (v ∷ []) l), same)
+      (settled-truths (done ++ (v ∷ [])) l (assign a v b) (insert (signed v b) t) (q ∙ sym (append-assoc done (v ∷ []) l))
+      (truths-listed n done a t s v b above (x .fresh)))
     where
       x : ListedNext net done v
       x = listing-step net own done l v q
@@ -103,17 +106,20 @@ module _ (net : Net) (ds : List (List (List ℕ))) (e : net .divisors ≡ number
     -- with all divisors listed the outputs are ready
     output-ready : (f : List (List ℕ)) → f ∈ net .outputs → ready n (listing net) f ≡ true
     unfolding ready
-    output-ready f m = all-in (all (λ l. known n (listing net) (l / 2))) f (λ c i. all-in (λ l. known n (listing net) (l / 2)) c (λ l j. seen (l / 2) (o .closed .outputs f m (l / 2) (c, i, (l, j, refl)))))
+    output-ready f m = all-in (all (λ l. known n (listing net) (l / 2))) f
+        (λ c i. all-in (λ l. known n (listing net) (l / 2)) c (λ l j. seen (l / 2) (o .closed .outputs f m (l / 2) (c, i, (l, j, refl)))))
       where
         seen : (v : ℕ) → IsVariable net v → known n (listing net) v ≡ true
         seen v (inl h) = or-left (ltb v n) (mem v (listing net)) (lt-ltb v n h)
         seen v (inr (g, i, p)) = or-right (ltb v n) (mem v (listing net)) (rw p (mem-of (listing-in net (o .whole) g i)))
 
     -- the outputs where true literals are those of the settled divisors
-    pub outputs-value : (s : ℕ) (t : List ℕ) → Truths n [] (bit s) t → packed (map (someWithin (settledIn n ds (listing net) t)) (net .outputs)) ≡ evaluate net s
+    pub outputs-value : (s : ℕ) (t : List ℕ) → Truths n [] (bit s) t
+        → packed (map (someWithin (settledIn n ds (listing net) t)) (net .outputs)) ≡ evaluate net s
     unfolding evaluate
     outputs-value s t w = ap packed (map-cong (someWithin (settledIn n ds (listing net) t)) (value (lit (settle net (listing net) (bit s)))) (net .outputs)
-        (λ f m. holds-value n (listing net) (settle net (listing net) (bit s)) (settledIn n ds (listing net) t) (listing-truths (bit s) t w) f (output-ready f m)))
+        (λ f m. holds-value n (listing net) (settle net (listing net) (bit s)) (settledIn n ds (listing net) t) (listing-truths (bit s) t w) f
+        (output-ready f m)))
 
 -- ---- outputs as bits
 
@@ -126,7 +132,8 @@ module _ {A : Type 0} (p : A → Bool) (l : List A) where
   unfolding packed
   collected-none j h = record { bits = rw (drop-of-length-le l h) }
 
-  pub collected-more : (d : A) (j i r s : ℕ) (b : Bool) → j ≡ i + 1 → i < length l → Collected p l j r → p (getD l i d) ≡ b → s ≡ cond b 1 0 + 2 * r → Collected p l i s
+  pub collected-more : (d : A) (j i r s : ℕ) (b : Bool) → j ≡ i + 1 → i < length l → Collected p l j r → p (getD l i d) ≡ b → s ≡ cond b 1 0 + 2 * r
+      → Collected p l i s
   unfolding packed
   collected-more d j i r s b g h c e q =
       let w : r ≡ packed (map p (drop (i + 1) l)) = c .bits ∙ ap (λ x. packed (map p (drop x l))) g in
@@ -135,8 +142,8 @@ module _ {A : Type 0} (p : A → Bool) (l : List A) where
   pub collected-all : (r : ℕ) → Collected p l 0 r → r ≡ packed (map p l)
   collected-all r c = c .bits
 
-  -- with no more than 32 it takes 32 bits
-  pub collected-small : (j r : ℕ) → Collected p l j r → length l ≤ 32 → r < 4294967296
+  -- so many bits are enough
+  pub collected-small : (j r : ℕ) → Collected p l j r → length l ≤ mostOutputs → r < 2 ^ mostOutputs
   collected-small j r c h =
-      let few : length (map p (drop j l)) ≤ 32 = rw (length-map (drop j l) p, length-drop j l) (omega arith) in
+      let few : length (map p (drop j l)) ≤ mostOutputs = rw (length-map (drop j l) p, length-drop j l) (omega arith) in
       rw (c .bits) (omega (arith, packed-lt (map p (drop j l)), pow-le-pow-right {n = 2} (omega arith) few))

@@ -15,7 +15,7 @@ ghost use Rattle.expression.specs.Words.{cubesOf};
 ghost use Rattle.network_known.specs.Known.{signed, someWithin, Truths};
 ghost use Rattle.network_nodes.specs.Nodes.{cut};
 ghost use Rattle.network.specs.Evaluation.{evaluate};
-ghost use Rattle.network.specs.Held.{netOf, rules};
+ghost use Rattle.network.specs.Held.{netOf, rules, mostVariables, mostOutputs};
 ghost use Rattle.network.specs.Answers.{evaluated};
 ghost use Rattle.network.specs.Parts.{nodesOf, divisorsOf, netAt};
 ghost use Rattle.network_listing.specs.Parts.{Ordered};
@@ -23,7 +23,7 @@ ghost use Rattle.network_evaluate.specs.Parts.{settledIn, Answerable};
 
 // The literals of n inputs that have value 1 on a setting.
 fn given(n: usize, setting: u64) -> Cube
-    requires { ⌜ n ≤ 64 ⌝ }
+    requires { ⌜ n ≤ mostVariables ⌝ }
     ensures { λ r. ⌜ Truths n [] (bit setting) (lits r) ⌝ }
 {
     let mut c = cube::empty();
@@ -37,7 +37,7 @@ fn given(n: usize, setting: u64) -> Cube
 
 // The variable v takes the value of node i.
 fn step(words: &[u64], counts: &[usize], i: usize, v: usize, t: Cube) -> Cube
-    requires { ⌜ v < 64 ⌝ }
+    requires { ⌜ v < mostVariables ⌝ }
     ensures { λ r. ⌜ lits r ≡ insert (signed v (someWithin (lits t) (getD (cut (now (counts .entry)) (cubesOf (now (words .entry)))) i []))) (lits t) ⌝ }
 {
     let b = network_known::within(network_nodes::node(words, counts, i), t, false);
@@ -70,7 +70,7 @@ fn settle(
 
 // The values of m outputs where the literals of t have value 1: output j is bit j.
 fn collect(words: &[u64], counts: &[usize], m: usize, t: Cube) -> u64
-    requires { ⌜ (m ≤ length (now counts)) × (m ≤ 32) ⌝ }
+    requires { ⌜ (m ≤ length (now counts)) × (m ≤ mostOutputs) ⌝ }
     ensures { λ r. ⌜ r ≡ packed (map (someWithin (lits t)) (nodesOf m (now (counts .entry)) (now (words .entry)))) ⌝ }
 {
     let mut r: u64 = 0;

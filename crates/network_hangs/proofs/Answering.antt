@@ -1,4 +1,5 @@
--- What a node of a network by value hangs on: which expression it is, what its divisors are, and that an output answers alike wherever these are kept. Assumes nothing.
+-- What a node of a network by value hangs on: which expression it is, what its divisors are, and that an output answers alike wherever
+-- these are kept. Assumes nothing.
 use Prim.Native.Nat.{ℕ, _+_, _<_}
 use mathlib.Core.Path.{_≡_, sym, ap, _∙_, subst}
 use mathlib.Core.Logic.{_↔_, inl, inr}
@@ -42,4 +43,5 @@ module _ (n : Network) (h : rules n ≡ true) where
 -- two networks by the rules answer alike at an output that both have, where the divisors that it hangs on are kept
 pub hangs-kept : (n m : Network) → rules n ≡ true → rules m ≡ true → (j : ℕ) → j < n .outputs → getD ((netOf n) .outputs) j [] ≡ getD ((netOf m) .outputs) j []
     → KeepsAlone (netOf n) (netOf m) (hangsAt n j) → (s : ℕ) → bit (evaluate (netOf n) s) j ≡ bit (evaluate (netOf m) s) j
-hangs-kept n m h k j i e q = hangs-output (netOf n) (netOf m) (rules-sound n h) (rules-sound m k) j e (subst (KeepsAlone (netOf n) (netOf m)) (hangs-first n h j i) q)
+hangs-kept n m h k j i e q = hangs-output (netOf n) (netOf m) (rules-sound n h) (rules-sound m k) j e
+    (subst (KeepsAlone (netOf n) (netOf m)) (hangs-first n h j i) q)

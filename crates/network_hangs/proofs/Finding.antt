@@ -26,12 +26,14 @@ found-all : (n m k : ℕ) (words counts : List ℕ) → InLimits n m k words cou
 found-all n m k words counts z = numbered-length n (divisorsOf m k counts words) ∙ divisors-length counts words m k (z .counted)
 
 -- the divisors among what is reached from the variables that a node reads
-pub found-marks : {n m k : ℕ} {words counts : List ℕ} {i : ℕ} {direct all r : List ℕ} {f : List (List ℕ)} → InLimits n m k words counts → i < m + k → f ≡ getD (cut counts (cubesOf words)) i []
+pub found-marks : {n m k : ℕ} {words counts : List ℕ} {i : ℕ} {direct all r : List ℕ} {f : List (List ℕ)} → InLimits n m k words counts → i < m + k
+    → f ≡ getD (cut counts (cubesOf words)) i []
     → Marks direct (readsOf f) → Makes direct all (reached k (netAt n m k counts words)) → Makes all r (keep (λ v. leb n v))
     → Marks r (hangsOn (netAt n m k counts words) (getD (nodesOf (m + k) counts words) i []))
 unfolding hangsOn
 found-marks {n} {m} {k} {words} {counts} {i} {direct} {all} {r} {f} z h e p q t =
-    rw (found-all n m k words counts z, nodes-at counts words (m + k) i h, ← e) (t .each (reached k (netAt n m k counts words) (readsOf f)) (q .each (readsOf f) p))
+    rw (found-all n m k words counts z, nodes-at counts words (m + k) i h, ← e)
+    (t .each (reached k (netAt n m k counts words) (readsOf f)) (q .each (readsOf f) p))
 
 -- ---- the answer
 
@@ -44,8 +46,10 @@ module _ (n : Network) (i : ℕ) where
   pub hangs-past : {r : List ℕ} → rules n ≡ true → n .outputs + n .divisors ≤ i → r ≡ [] → Marks r (hangsAt n i)
   unfolding hangsAt hangsOn readsOf
   hangs-past h k e =
-      let short : length (cut (used n) (cubesOf (n .words))) ≤ i = omega (arith, cut-length (used n) (cubesOf (n .words)), length-take (n .outputs + n .divisors) (n .counts)) in
-      rw (h, nodes-held n, List·getD-eq-default (cut (used n) (cubesOf (n .words))) [] short, reached-none (netOf n) (length ((netOf n) .divisors))) (marks-none e)
+      let short : length (cut (used n) (cubesOf (n .words))) ≤ i = omega
+      (arith, cut-length (used n) (cubesOf (n .words)), length-take (n .outputs + n .divisors) (n .counts)) in
+      rw (h, nodes-held n, List·getD-eq-default (cut (used n) (cubesOf (n .words))) [] short, reached-none (netOf n) (length ((netOf n) .divisors)))
+      (marks-none e)
 
   pub hangs-found : {r : List ℕ} → rules n ≡ true → Marks r (hangsOn (netOf n) (getD (cut (used n) (cubesOf (n .words))) i [])) → Marks r (hangsAt n i)
   unfolding hangsAt

@@ -73,7 +73,8 @@ module _ (n : Net) (o : Sound n) where
   through-read u v h r =
       let q = reads-divisor n u v r in
       let d = read-is-divisor (q .0) (q .1) v h (q .3) in
-      subst (λ (x : ℕ). Through n x v) (sym (q .2)) (subst (Through n (q .0 .number)) (sym (d .2)) (itself (q .1) (d .1) (subst (Reads (q .0 .cubes)) (d .2) (q .3))))
+      subst (λ (x : ℕ). Through n x v) (sym (q .2)) (subst (Through n (q .0 .number)) (sym (d .2))
+      (itself (q .1) (d .1) (subst (Reads (q .0 .cubes)) (d .2) (q .3))))
 
   through-from : {u v : ℕ} → Through n u v → IsDivisor n u
   through-from (itself {e = e} m i r) = (e, m, refl)
@@ -114,16 +115,19 @@ module _ (n : Net) (o : Sound n) where
       reached-more n 1 (length a) l (g .number) (omega (arith, s .3)) (step-read n l (g .number) (e .number) j (rw (cubes-at n (o .distinct) m) r))
   reached-through {v = v} (others {e = e} {g = g} m i r t) a b p l j =
       let s = earlier a b e g m i r p in
-      let q : listing n ≡ s .0 ++ (g .number ∷ (s .1 ++ (e .number ∷ b))) = p ∙ ap (_++ (e .number ∷ b)) (s .2) ∙ append-assoc (s .0) (g .number ∷ s .1) (e .number ∷ b) in
+      let q : listing n ≡ s .0 ++ (g .number ∷ (s .1 ++ (e .number ∷ b))) = p ∙ ap (_++ (e .number ∷ b)) (s .2)
+      ∙ append-assoc (s .0) (g .number ∷ s .1) (e .number ∷ b) in
       reached-more n (suc (length (s .0))) (length a) l v (s .3)
-      (reached-through t (s .0) (s .1 ++ (e .number ∷ b)) q (union l (readBy n l)) (step-read n l (g .number) (e .number) j (rw (cubes-at n (o .distinct) m) r)))
+      (reached-through t (s .0) (s .1 ++ (e .number ∷ b)) q (union l (readBy n l))
+      (step-read n l (g .number) (e .number) j (rw (cubes-at n (o .distinct) m) r)))
 
   -- and all of it in as many turns as there are divisors
   reached-all : (u v : ℕ) (l : List ℕ) → u ∈ l → Through n u v → v ∈ reached (length (n .divisors)) n l
   reached-all u v l j t =
       let d = through-from t in
       let s = split-in (Memᴰ·cast (d .2) (listing-in n (o .whole) (d .0) (d .1))) in
-      reached-more n (length (s .0)) (length (n .divisors)) l v (omega (arith, o .whole, ap length (s .2), length-append (s .0) (u ∷ s .1))) (reached-through t (s .0) (s .1) (s .2) l j)
+      reached-more n (length (s .0)) (length (n .divisors)) l v (omega (arith, o .whole, ap length (s .2), length-append (s .0) (u ∷ s .1)))
+      (reached-through t (s .0) (s .1) (s .2) l j)
 
 -- ---- what an expression over known variables hangs on
 
@@ -170,7 +174,11 @@ module _ (n : Net) (o : Sound n) (f : List (List ℕ)) (k : (v : ℕ) → Reads 
     listed-agree : (p r : List ℕ) → listing n ≡ p ++ r → ((u : ℕ) → u ∈ p → u ∈ hangsOn n f → a u ≡ b u) → (u : ℕ) → u ∈ listing n → u ∈ hangsOn n f → a u ≡ b u
     listed-agree p [] q g = λ u m. g u (subst (λ (l : List ℕ). u ∈ l) (q ∙ append-nil p) m)
     listed-agree p (v ∷ r) q g = listed-agree (p ++ (v ∷ [])) r (q ∙ sym (append-assoc p (v ∷ []) r)) (λ u i.
-        elim (List·Memᴰ·append-cases p i) [ inl j ↦ g u j | inr j ↦ λ w. rw (List·Memᴰ·eq-of-singleton j) (next (subst (λ x. x ∈ hangsOn n f) (List·Memᴰ·eq-of-singleton j) w)) ])
+        elim (List·Memᴰ·append-cases p i) [
+          | inl j ↦ g u j
+          | inr j ↦ λ w. rw (List·Memᴰ·eq-of-singleton j)
+              (next (subst (λ x. x ∈ hangsOn n f) (List·Memᴰ·eq-of-singleton j) w))
+        ])
       where
         agree : (e : Node) → e ∈ n .divisors → v ≡ e .number → v ∈ hangsOn n f → (u : ℕ) → Reads (e .cubes) u → a u ≡ b u
         agree e m z w u t = elim (hangs-closed e m (subst (λ x. x ∈ hangsOn n f) z w) u t) [
@@ -190,7 +198,8 @@ module _ (n : Net) (o : Sound n) (f : List (List ℕ)) (k : (v : ℕ) → Reads 
     pub hangs-alone : value (lit a) f ≡ value (lit b) f
     hangs-alone = value-agree a b f (λ v r. elim (k v r) [
       | inl h ↦ input-agree v h
-      | inr (e, m, p) ↦ listed-agree [] (listing n) refl (λ u i. absurd (List·Memᴰ·not-nil i)) v (Memᴰ·cast p (listing-in n (o .whole) e m)) (hangs-back v ((e, m, p), inl r))
+      | inr (e, m, p) ↦ listed-agree [] (listing n) refl (λ u i. absurd (List·Memᴰ·not-nil i)) v (Memᴰ·cast p (listing-in n (o .whole) e m))
+          (hangs-back v ((e, m, p), inl r))
     ])
 
   -- an assignment that fits the network fits on these
@@ -210,14 +219,16 @@ pub record KeepsAlone (n m : Net) (l : List ℕ) : Type 0 where
   pub divisors : (v : ℕ) → v ∈ l → (e : Node) × (e ∈ m .divisors) × (v ≡ e .number) × (e .cubes ≡ cubesAt v (n .divisors))
 
 -- what one of some expressions reads is known, where that holds of all; past the last there is nothing to read
-pub known-at : (n : Net) (fs : List (List (List ℕ))) → ((f : List (List ℕ)) → f ∈ fs → (v : ℕ) → Reads f v → IsVariable n v) → (j v : ℕ) → Reads (getD fs j []) v → IsVariable n v
+pub known-at : (n : Net) (fs : List (List (List ℕ))) → ((f : List (List ℕ)) → f ∈ fs → (v : ℕ) → Reads f v → IsVariable n v) → (j v : ℕ)
+    → Reads (getD fs j []) v → IsVariable n v
 known-at n fs k j v r = elim (decided (leb (length fs) j)) [
   | inl t ↦ let q = subst (λ f. Reads f v) (List·getD-eq-default fs [] (leb-true (length fs) j t)) r in absurd (List·Memᴰ·not-nil (q .1))
   | inr t ↦ k (getD fs j []) (at-in fs j [] (leb-false (length fs) j t)) v r
 ]
 
 -- two networks with the same inputs and the same output answer alike there, where the divisors that it hangs on have the same expressions
-pub hangs-output : (n m : Net) → Sound n → Sound m → (j : ℕ) → getD (n .outputs) j [] ≡ getD (m .outputs) j [] → KeepsAlone n m (hangsOn n (getD (n .outputs) j []))
+pub hangs-output : (n m : Net) → Sound n → Sound m → (j : ℕ) → getD (n .outputs) j [] ≡ getD (m .outputs) j []
+    → KeepsAlone n m (hangsOn n (getD (n .outputs) j []))
     → (s : ℕ) → bit (evaluate n s) j ≡ bit (evaluate m s) j
 hangs-output n m o q j e k s =
     let f = getD (n .outputs) j [] in

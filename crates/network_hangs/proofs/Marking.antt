@@ -27,10 +27,16 @@ module _ {set : List ℕ} (v : ℕ) where
 -- ---- the variables from n on
 
 pub above-first : (set : List ℕ) → Makes set set (keep (λ u. leb 0 u))
-above-first set = record { each = λ l p. record { each = λ x. p .each x ∙ ap (eqb (x % 2) 0 &&_) (sym (keep-mem (λ u. leb 0 u) (x / 2) l ∙ ap (mem (x / 2) l &&_) (le-leb 0 (x / 2) (omega arith)) ∙ and-true (mem (x / 2) l))) } }
+above-first set = record {
+  each = λ l p. record {
+    each = λ x. p .each x
+        ∙ ap (eqb (x % 2) 0 &&_) (sym (keep-mem (λ u. leb 0 u) (x / 2) l ∙ ap (mem (x / 2) l &&_) (le-leb 0 (x / 2) (omega arith)) ∙ and-true (mem (x / 2) l)));
+  };
+}
 
 -- one variable taken out
-pub above-next : {set left r one : List ℕ} (v : ℕ) → Marks one (v ∷ []) → r ≡ without left one → Makes set left (keep (λ u. leb v u)) → Makes set r (keep (λ u. leb (v + 1) u))
+pub above-next : {set left r one : List ℕ} (v : ℕ) → Marks one (v ∷ []) → r ≡ without left one → Makes set left (keep (λ u. leb v u))
+    → Makes set r (keep (λ u. leb (v + 1) u))
 unfolding mem
 above-next {set} {left} {r} {one} v s e m = record {
   each = λ l p. record {

@@ -35,16 +35,19 @@ module _ (n : Net) where
   pub by-in : {u : ℕ} {l : List ℕ} (v : ℕ) → u ∈ l → Reads (cubesAt u (n .divisors)) v → mem v (readBy n l) ≡ true
   unfolding readBy
   by-in {u} v (here {x = x} {xs = l} e) r =
-      union-mem v (readsOf (cubesAt x (n .divisors))) (readBy n l) ∙ or-left _ _ (reads-in (cubesAt x (n .divisors)) v (subst (λ (y : ℕ). Reads (cubesAt y (n .divisors)) v) e r))
-  by-in {u} v (there {x = x} {xs = l} m) r = union-mem v (readsOf (cubesAt x (n .divisors))) (readBy n l) ∙ or-right (mem v (readsOf (cubesAt x (n .divisors)))) _ (by-in v m r)
+      union-mem v (readsOf (cubesAt x (n .divisors))) (readBy n l)
+      ∙ or-left _ _ (reads-in (cubesAt x (n .divisors)) v (subst (λ (y : ℕ). Reads (cubesAt y (n .divisors)) v) e r))
+  by-in {u} v (there {x = x} {xs = l} m) r = union-mem v (readsOf (cubesAt x (n .divisors))) (readBy n l)
+      ∙ or-right (mem v (readsOf (cubesAt x (n .divisors)))) _ (by-in v m r)
 
   pub by-out : (l : List ℕ) (v : ℕ) → mem v (readBy n l) ≡ true → (u : ℕ) × (u ∈ l) × Reads (cubesAt u (n .divisors)) v
   unfolding readBy mem
   by-out [] v h = clash h refl
-  by-out (x ∷ l) v h = elim (either (mem v (readsOf (cubesAt x (n .divisors)))) (mem v (readBy n l)) (sym (union-mem v (readsOf (cubesAt x (n .divisors))) (readBy n l)) ∙ h)) [
-    | inl t ↦ (x, here refl, reads-out (cubesAt x (n .divisors)) v t)
-    | inr t ↦ let r = by-out l v t in (r .0, there (r .1), r .2)
-  ]
+  by-out (x ∷ l) v h = elim (either (mem v (readsOf (cubesAt x (n .divisors)))) (mem v (readBy n l))
+      (sym (union-mem v (readsOf (cubesAt x (n .divisors))) (readBy n l)) ∙ h)) [
+        | inl t ↦ (x, here refl, reads-out (cubesAt x (n .divisors)) v t)
+        | inr t ↦ let r = by-out l v t in (r .0, there (r .1), r .2)
+      ]
 
   -- a number whose expression reads something is that of a divisor
   pub reads-divisor : (u v : ℕ) → Reads (cubesAt u (n .divisors)) v → (e : Node) × (e ∈ n .divisors) × (u ≡ e .number) × Reads (e .cubes) v
@@ -55,7 +58,8 @@ module _ (n : Net) where
       go [] (c, m, q) = absurd (mathlib.Core.List.List·Memᴰ·not-nil m)
       go (e ∷ l) r = pick (eqb u (e .number)) refl r (go l)
         where
-          pick : (b : Bool) → eqb u (e .number) ≡ b → Reads (cond b (e .cubes) (cubesAt u l)) v → (Reads (cubesAt u l) v → (g : Node) × (g ∈ l) × (u ≡ g .number) × Reads (g .cubes) v)
+          pick : (b : Bool) → eqb u (e .number) ≡ b → Reads (cond b (e .cubes) (cubesAt u l)) v
+              → (Reads (cubesAt u l) v → (g : Node) × (g ∈ l) × (u ≡ g .number) × Reads (g .cubes) v)
               → (g : Node) × (g ∈ (e ∷ l)) × (u ≡ g .number) × Reads (g .cubes) v
           pick true t r k = (e, here refl, eqb-true u (e .number) t, r)
           pick false t r k = let q = k r in (q .0, there (q .1), q .2, q .3)
@@ -83,7 +87,8 @@ by-divisors n d l v = iff into back
 
 -- those of a network by value: of the first divisors, and of those from the divisor i on
 pub asks-first : (n : Network) {set : List ℕ} (l : List ℕ) → Marks set l
-    → Gathers set (λ v. any (asks l v) (numbered (n .inputs + 0) (drop 0 (drop (n .outputs) (cut (used n) (cubesOf (n .words))))))) (λ v. mem v (union l (readBy (netOf n) l)))
+    → Gathers set (λ v. any (asks l v) (numbered (n .inputs + 0) (drop 0 (drop (n .outputs) (cut (used n) (cubesOf (n .words)))))))
+    (λ v. mem v (union l (readBy (netOf n) l)))
 asks-first n {set} l p =
     let e : n .inputs + 0 ≡ n .inputs = omega arith in
     let read : (v : ℕ) → any (asks l v) (numbered (n .inputs + 0) (drop (n .outputs) (cut (used n) (cubesOf (n .words))))) ≡ mem v (readBy (netOf n) l) =
@@ -100,9 +105,11 @@ asks-first n {set} l p =
     turn false a c = refl
 
 module _ (l : List ℕ) (v n : ℕ) (ds : List (List (List ℕ))) (i : ℕ) where
-  pub asks-next : i < length ds → any (asks l v) (numbered (n + i) (drop i ds)) ≡ (mem v (cond (mem (n + i) l) (readsOf (getD ds i [])) []) || any (asks l v) (numbered (n + (i + 1)) (drop (i + 1) ds)))
+  pub asks-next : i < length ds → any (asks l v) (numbered (n + i) (drop i ds)) ≡
+      (mem v (cond (mem (n + i) l) (readsOf (getD ds i [])) []) || any (asks l v) (numbered (n + (i + 1)) (drop (i + 1) ds)))
   unfolding numbered
-  asks-next h = let e : n + (i + 1) ≡ suc (n + i) = omega arith in rw (drop-next ds i [] h, e) (ap (_|| any (asks l v) (numbered (suc (n + i)) (drop (i + 1) ds))) (pick (mem (n + i) l)))
+  asks-next h = let e : n + (i + 1) ≡ suc (n + i) = omega arith in
+      rw (drop-next ds i [] h, e) (ap (_|| any (asks l v) (numbered (suc (n + i)) (drop (i + 1) ds))) (pick (mem (n + i) l)))
     where
       pick : (b : Bool) → (b && mem v (readsOf (getD ds i []))) ≡ mem v (cond b (readsOf (getD ds i [])) [])
       pick true = refl
@@ -131,7 +138,8 @@ pub makes-first : (n : Net) (set : List ℕ) → Makes set set (reached 0 n)
 unfolding reached
 makes-first n set = record { each = λ l p. p }
 
-pub makes-more : (n : Net) {set all r : List ℕ} (i : ℕ) → Makes set all (reached i n) → Makes all r (λ l. union l (readBy n l)) → Makes set r (reached (i + 1) n)
+pub makes-more : (n : Net) {set all r : List ℕ} (i : ℕ) → Makes set all (reached i n) → Makes all r (λ l. union l (readBy n l))
+    → Makes set r (reached (i + 1) n)
 makes-more n i p q = record {
   each = λ l t. rw (add-one i, reached-last n i l) (q .each (reached i n l) (p .each l t));
 }

@@ -3,21 +3,20 @@ use cube::Cube;
 use cube::Variable;
 use expression::Verdict;
 use network::Network;
-ghost use mathlib.Core.Bool.{cond};
 ghost use mathlib.Core.List.{[], _∷_};
 ghost use Prim.Native.Nat.{_+_, _<_, _≤_};
 ghost use lib.Dec.{leb};
 ghost use lib.ListN.{length, getD};
 ghost use Rattle.sets.specs.Lists.{keep};
-ghost use Rattle.sets.specs.Sets.{mem, union};
+ghost use Rattle.sets.specs.Sets.{union};
 ghost use Rattle.cube.specs.Cube.{lits};
 ghost use Rattle.expression.specs.Words.{cubesOf};
 ghost use Rattle.network_nodes.specs.Nodes.{cut};
 ghost use Rattle.network.specs.Held.{mostVariables};
-ghost use Rattle.network.specs.Parts.{nodesOf, netAt, InLimits};
-ghost use Rattle.network_reads.specs.Reading.{readsOf, Marks};
-ghost use Rattle.network_hangs.specs.Hangs.{readBy, reached, hangsOn, hangsAt};
-ghost use Rattle.network_hangs.specs.Parts.{Makes};
+ghost use Rattle.network.specs.Parts.{netAt, InLimits};
+ghost use Rattle.network_reads.specs.Reading.{Marks};
+ghost use Rattle.network_hangs.specs.Hangs.{readBy, reached, hangsAt};
+ghost use Rattle.network_hangs.specs.Parts.{readIf, hangsIn, Makes};
 
 // The plain literal of the variable v, alone.
 fn alone(v: usize) -> Cube
@@ -30,7 +29,7 @@ fn alone(v: usize) -> Cube
 // What divisor i reads, where the set has it.
 fn asked(words: &[u64], counts: &[usize], n: usize, m: usize, i: usize, set: Cube) -> Cube
     requires { ⌜ (m + i < length (now counts)) × (n + i < mostVariables) ⌝ }
-    ensures { λ r. ⌜ Makes (lits set) (lits r) (λ l. cond (mem (n + i) l) (readsOf (getD (cut (now (counts .entry)) (cubesOf (now (words .entry)))) (m + i) [])) []) ⌝ }
+    ensures { λ r. ⌜ Makes (lits set) (lits r) (readIf (n + i) (getD (cut (now (counts .entry)) (cubesOf (now (words .entry)))) (m + i) [])) ⌝ }
 {
     if cube::has(set, cube::plain(Variable((n + i) as u32))) {
         return network_reads::reads(network_nodes::node(words, counts, m + i));
@@ -83,7 +82,7 @@ fn above(n: usize, set: Cube) -> Cube
 // The divisors that node i hangs on.
 fn found(words: &[u64], counts: &[usize], n: usize, m: usize, k: usize, i: usize) -> Cube
     requires { ⌜ InLimits n m k (now words) (now counts) × (i < m + k) ⌝ }
-    ensures { λ r. ⌜ Marks (lits r) (hangsOn (netAt n m k (now (counts .entry)) (now (words .entry))) (getD (nodesOf (m + k) (now (counts .entry)) (now (words .entry))) i [])) ⌝ }
+    ensures { λ r. ⌜ Marks (lits r) (hangsIn n m k (now (counts .entry)) (now (words .entry)) i) ⌝ }
 {
     let direct = network_reads::reads(network_nodes::node(words, counts, i));
     above(n, often(words, counts, n, m, k, direct))

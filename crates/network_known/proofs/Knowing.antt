@@ -1,5 +1,5 @@
 -- Cubes with the literals of known variables, all or those of value 1: what one variable more makes of them. Assumes nothing.
-use Prim.Native.Nat.{ℕ, _+_, _/_, _%_, _<_, _≤_}
+use Prim.Native.Nat.{ℕ, _+_, _/_, _%_, _<_, _≤_, _*_}
 use mathlib.Core.Path.{_≡_, refl, sym, ap, _∙_}
 use mathlib.Core.Bool.{Bool, true, false, cond, not, _&&_, _||_, or-true, or-false, or-assoc}
 use mathlib.Core.List.{List, [], _∷_, _++_}
@@ -10,26 +10,26 @@ use Rattle.sets.specs.Sets.{mem, insert}
 use Rattle.sets.specs.Literal.{plainOf, negatedOf}
 use Rattle.sets.proofs.Truth.{both, iff, stand, below, equal, beyond}
 use Rattle.sets.proofs.Sets.{insert-mem}
-use Rattle.cube.specs.Cube.{joined}
+use Rattle.cube.specs.Cube.{joined, width}
 use Rattle.expression.specs.Value.{lit}
 use Rattle.network_known.specs.Known.{known, BothWays, Truths, signed}
 
 -- ---- one literal more
 
-pub signed-small : (v : ℕ) (b : Bool) → v < 64 → signed v b < 128
+pub signed-small : (v : ℕ) (b : Bool) → v < width → signed v b < 2 * width
 signed-small v true h = omega arith
 signed-small v false h = omega arith
 
-signed-large : (v : ℕ) (b : Bool) → 64 ≤ v → 128 ≤ signed v b
+signed-large : (v : ℕ) (b : Bool) → width ≤ v → 2 * width ≤ signed v b
 signed-large v true h = omega arith
 signed-large v false h = omega arith
 
 -- the literal of a variable is one of a cube's, that of another adds nothing
-pub joined-signed : (v : ℕ) (b : Bool) (c : List ℕ) → v < 64 → joined (signed v b) c ≡ insert (signed v b) c
-joined-signed v b c h = rw (lt-ltb (signed v b) 128 (signed-small v b h))
+pub joined-signed : (v : ℕ) (b : Bool) (c : List ℕ) → v < width → joined (signed v b) c ≡ insert (signed v b) c
+joined-signed v b c h = rw (lt-ltb (signed v b) (2 * width) (signed-small v b h))
 
-pub joined-past : (v : ℕ) (b : Bool) (c : List ℕ) → 64 ≤ v → c ≡ joined (signed v b) c
-joined-past v b c h = rw (le-ltb (signed v b) 128 (signed-large v b h))
+pub joined-past : (v : ℕ) (b : Bool) (c : List ℕ) → width ≤ v → c ≡ joined (signed v b) c
+joined-past v b c h = rw (le-ltb (signed v b) (2 * width) (signed-large v b h))
 
 -- ---- known variables
 
@@ -135,7 +135,8 @@ unfolding lit
 signed-more kn a d v t l k f e = rw (insert-mem l (signed v (d v)) t, signed-eq l v (d v), e) (go (eqb (l / 2) v) refl)
   where
     go : (b : Bool) → eqb (l / 2) v ≡ b
-        → ((b && cond (eqb (l % 2) 0) (d v) (not (d v))) || (kn (l / 2) && cond (eqb (l % 2) 0) (a (l / 2)) (not (a (l / 2))))) ≡ ((b || kn (l / 2)) && cond (eqb (l % 2) 0) (d (l / 2)) (not (d (l / 2))))
+        → ((b && cond (eqb (l % 2) 0) (d v) (not (d v))) || (kn (l / 2) && cond (eqb (l % 2) 0) (a (l / 2)) (not (a (l / 2))))) ≡
+        ((b || kn (l / 2)) && cond (eqb (l % 2) 0) (d (l / 2)) (not (d (l / 2))))
     go true q = let p = eqb-true (l / 2) v q in rw (p, k) (or-false (cond (eqb (l % 2) 0) (d v) (not (d v))))
     go false q = rw (f (l / 2) (eqb-false (l / 2) v q))
 

@@ -4,7 +4,7 @@ use cube::Literal;
 use cube::Variable;
 ghost use mathlib.Core.Path.{_≡_};
 ghost use Prim.Native.Nat.{_<_};
-ghost use Rattle.cube.specs.Cube.{lits, joined};
+ghost use Rattle.cube.specs.Cube.{lits, joined, width};
 ghost use Rattle.expression.specs.Words.{cubesOf};
 ghost use Rattle.network_known.specs.Known.{signed, within};
 
@@ -26,7 +26,7 @@ pub fn within(f: &[u64], k: Cube, every: bool) -> bool
 
 // The literal of the variable v that has value 1 where v has the value b.
 fn literal_of(v: Variable, b: bool) -> Literal
-    requires { ⌜ v .0 < 64 ⌝ }
+    requires { ⌜ v .0 < width ⌝ }
     ensures { λ r. ⌜ r .0 ≡ signed (v .0) b ⌝ }
 {
     if b {

@@ -12,7 +12,7 @@ use Rattle.sets.proofs.Places.{at-in}
 use Rattle.expression.specs.Expression.{expression}
 use Rattle.network.specs.Net.{Node, Net, nodes, variables, over}
 use Rattle.network.specs.Listing.{listing}
-use Rattle.network.specs.Held.{numbered, netOf, sized, reach, ruled, rules}
+use Rattle.network.specs.Held.{numbered, netOf, sized, reach, ruled, rules, mostVariables}
 use Rattle.network.specs.Answers.{listable, numbersOf, listedOf}
 use Rattle.network.specs.Parts.{nodesOf, divisorsOf, netAt, InLimits, Limited}
 use Rattle.network.specs.declared.Network.{Network}
@@ -47,9 +47,10 @@ module _ (n m k : ℕ) (words counts : List ℕ) (z : InLimits n m k words count
       held = z .counted;
       variables = z .variables;
       short = omega (arith, o .number, z .variables, listing-length held, numbered-length n (divisorsOf m k counts words), many);
-      counted = rw (o .places, length-append (listing held) (replicate (64 - length (listing held)) 0)) (omega (arith, o .number));
+      counted = rw (o .places, length-append (listing held) (replicate (mostVariables - length (listing held)) 0)) (omega (arith, o .number));
       numbers = λ i h.
-          let q : getD order i 0 ≡ getD (listing held) i 0 = ap (λ l. getD l i 0) (o .places) ∙ List·getD-append (listing held) (replicate (64 - length (listing held)) 0) 0 i (omega (arith, o .number)) in
+          let q : getD order i 0 ≡ getD (listing held) i 0 = ap (λ l. getD l i 0) (o .places)
+          ∙ List·getD-append (listing held) (replicate (mostVariables - length (listing held)) 0) 0 i (omega (arith, o .number)) in
           let r = listing-range held (divisorsOf m k counts words) refl i (omega (arith, o .number)) in
           (omega (arith, q, r .0), omega (arith, q, r .1, many));
     }
@@ -76,7 +77,8 @@ module _ (n : Network) where
   unfolding listable
   listable-as b z e q =
       rw e
-      (all-cong (over (netOf n)) (reach (variables (netOf n))) (nodes (netOf n)) (λ f m. over-turn (netOf n) (drop (n .outputs) (nodesOf (n .outputs + n .divisors) (n .counts) (n .words))) refl f)
+      (all-cong (over (netOf n)) (reach (variables (netOf n))) (nodes (netOf n))
+      (λ f m. over-turn (netOf n) (drop (n .outputs) (nodesOf (n .outputs + n .divisors) (n .counts) (n .words))) refl f)
       ∙ ap₂ (λ (k : ℕ) (fs : List (List (List ℕ))). all (reach (n .inputs + k)) fs) (divisors-held n (z .counted)) (nodes-held n)
       ∙ q)
 

@@ -16,14 +16,14 @@ ghost use Rattle.expression.specs.Words.{cubesOf};
 ghost use Rattle.expression.specs.Answers.{placeOf};
 ghost use Rattle.network_known.specs.Known.{everyWithin, BothWays, signed};
 ghost use Rattle.network.specs.Listing.{listing};
-ghost use Rattle.network.specs.Held.{reach};
+ghost use Rattle.network.specs.Held.{reach, mostVariables};
 ghost use Rattle.network.specs.Answers.{listable, listedOf};
 ghost use Rattle.network.specs.Parts.{nodesOf, netAt, InLimits};
 ghost use Rattle.network_listing.specs.Parts.{nextIn, PaddedList};
 
 // c with both literals of the variable v.
 fn both(c: Cube, v: usize) -> Cube
-    requires { ⌜ v < 64 ⌝ }
+    requires { ⌜ v < mostVariables ⌝ }
     ensures { λ r. ⌜ lits r ≡ insert (signed v false) (insert (signed v true) (lits c)) ⌝ }
 {
     network_known::valued(network_known::valued(c, v, true), v, false)
@@ -31,7 +31,7 @@ fn both(c: Cube, v: usize) -> Cube
 
 // Both literals of each variable below n.
 fn below(n: usize) -> Cube
-    requires { ⌜ n ≤ 64 ⌝ }
+    requires { ⌜ n ≤ mostVariables ⌝ }
     ensures { λ r. ⌜ BothWays n [] (lits r) ⌝ }
 {
     let mut c = cube::empty();
@@ -45,7 +45,7 @@ fn below(n: usize) -> Cube
 
 // Whether k lacks the variable v and has all literals of the cubes.
 fn is_next(f: &[u64], v: usize, k: Cube) -> bool
-    requires { ⌜ v < 64 ⌝ }
+    requires { ⌜ v < mostVariables ⌝ }
     ensures { λ r. ⌜ r ≡ (not (mem (plainOf v) (lits k)) && everyWithin (lits k) (cubesOf (now (f .entry)))) ⌝ }
 {
     if cube::has(k, cube::plain(Variable(v as u32))) {
@@ -92,7 +92,7 @@ fn list(words: &[u64], counts: &[usize], n: usize, m: usize, k: usize) -> Listed
 
 // Whether every literal of the first e nodes is of one of v variables.
 fn reaches(words: &[u64], counts: &[usize], e: usize, v: usize) -> bool
-    requires { ⌜ v ≤ 64 ⌝ }
+    requires { ⌜ v ≤ mostVariables ⌝ }
     ensures { λ r. ⌜ r ≡ all (reach v) (nodesOf e (now (counts .entry)) (now (words .entry))) ⌝ }
 {
     network_known::within(network_nodes::front(words, counts, e), below(v), true)

@@ -37,7 +37,8 @@ cut-take (suc e) (c ∷ cs) f = ap (take c f ∷_) (cut-take e cs (drop c f))
 pub cut-total : (g : List ℕ → ℕ) (ns : List ℕ) (f : List (List ℕ)) → total (total g) (cut ns f) ≡ total g (take (total (λ c. c) ns) f)
 unfolding cut
 cut-total g [] f = refl
-cut-total g (n ∷ ns) f = rw (take-add n (total (λ c. c) ns) f, total-append g (take n f) (take (total (λ c. c) ns) (drop n f))) (ap (total g (take n f) +_) (cut-total g ns (drop n f)))
+cut-total g (n ∷ ns) f = rw (take-add n (total (λ c. c) ns) f, total-append g (take n f) (take (total (λ c. c) ns) (drop n f)))
+    (ap (total g (take n f) +_) (cut-total g ns (drop n f)))
 
 -- as many cubes as the counts say
 pub cut-lengths : (ns : List ℕ) (f : List (List ℕ)) → total (λ c. c) ns ≤ length f → total length (cut ns f) ≡ total (λ c. c) ns

@@ -27,7 +27,8 @@ pub start-all : (cs : List ℕ) (i : ℕ) → length cs ≤ i → countBefore (l
 start-all cs i h = ap (total (λ c. c)) (take-all (length cs) cs (omega arith) ∙ sym (take-all i cs h))
 
 -- the cubes between two starts are those of the node
-pub node-is : (counts : List ℕ) (f r : List (List ℕ)) (i a e : ℕ) → i < length counts → a ≡ min (countBefore i counts) (length f) → e ≡ min (countBefore (i + 1) counts) (length f)
+pub node-is : (counts : List ℕ) (f r : List (List ℕ)) (i a e : ℕ) → i < length counts → a ≡ min (countBefore i counts) (length f)
+    → e ≡ min (countBefore (i + 1) counts) (length f)
     → r ≡ take (e - a) (drop a f) → r ≡ getD (cut counts f) i []
 node-is counts f r i a e h p q w =
     let s = countBefore i counts in
@@ -42,7 +43,8 @@ pub node-past : (counts : List ℕ) (f r : List (List ℕ)) (i : ℕ) → length
 node-past counts f r i h w = w ∙ sym (List·getD-eq-default (cut counts f) [] (omega (arith, cut-length counts f)))
 
 -- the cubes up to a start are those of the nodes before it
-pub front-is : (counts : List ℕ) (f r : List (List ℕ)) (i e m : ℕ) → m ≡ length f → e ≡ min (countBefore i counts) m → r ≡ take (e - 0) (drop 0 f) → r ≡ take (countBefore i counts) f
+pub front-is : (counts : List ℕ) (f r : List (List ℕ)) (i e m : ℕ) → m ≡ length f → e ≡ min (countBefore i counts) m → r ≡ take (e - 0) (drop 0 f)
+    → r ≡ take (countBefore i counts) f
 front-is counts f r i e m n p w =
     let s = countBefore i counts in
     let x : 0 ≡ min 0 (min s (length f)) = omega arith in

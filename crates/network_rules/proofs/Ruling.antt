@@ -51,7 +51,9 @@ module _ (n : Network) where
       few = (sized-out n s ((both (sized n) _ h) .0)) .counted
 
       -- the other rules, of the nodes as they are held
-      ruled-held : ruled (netOf n) ≡ (all expression fs && (all (over (netOf n)) (nodes (netOf n)) && (leb (total literalsOf fs) mostLiterals && eqb (length (listing (netOf n))) (n .divisors))))
+      ruled-held : ruled (netOf n) ≡
+          (all expression fs && (all (over (netOf n)) (nodes (netOf n)) &&
+          (leb (total literalsOf fs) mostLiterals && eqb (length (listing (netOf n))) (n .divisors))))
       unfolding ruled
       ruled-held = rw (nodes-held n, divisors-held n few)
 
@@ -60,7 +62,8 @@ module _ (n : Network) where
       unfolding rules listable numbersOf
       rules-as =
           let p = both (sized n) (all (over (netOf n)) (nodes (netOf n))) h in
-          ap₂ _&&_ (p .0) (ruled-held ∙ turn (all expression fs) _ (leb (total literalsOf fs) mostLiterals) (eqb (length (listing (netOf n))) (n .divisors)) (p .1)) ∙ rw (p .0, p .1)
+          ap₂ _&&_ (p .0) (ruled-held ∙ turn (all expression fs) _ (leb (total literalsOf fs) mostLiterals)
+          (eqb (length (listing (netOf n))) (n .divisors)) (p .1)) ∙ rw (p .0, p .1)
         where
           order : (x t w : Bool) → (x && (t && w)) ≡ (w && (x && t))
           order true true true = refl

@@ -3,16 +3,16 @@ use expression::Verdict;
 use network::Network;
 use network::Number;
 ghost use mathlib.Core.Path.{_≡_};
-ghost use mathlib.Core.Bool.{_&&_};
 ghost use Prim.Native.Nat.{_≤_};
-ghost use lib.Dec.{leb, eqb};
+ghost use lib.Dec.{eqb};
 ghost use lib.ListN.{length};
 ghost use Rattle.sets.specs.Lists.{all, total};
 ghost use Rattle.expression.specs.Expression.{expression, literalsOf};
 ghost use Rattle.expression.specs.Answers.{capped};
-ghost use Rattle.network.specs.Held.{rules, mostLiterals};
+ghost use Rattle.network.specs.Held.{rules};
 ghost use Rattle.network.specs.Answers.{judged, counted, numbersOf};
 ghost use Rattle.network.specs.Parts.{nodesOf};
+ghost use Rattle.network_rules.specs.Parts.{lawfulNodes};
 
 // Whether each node is an expression.
 fn all_expressions(words: &[u64], counts: &[usize], e: usize) -> bool
@@ -39,7 +39,7 @@ fn count(words: &[u64], counts: &[usize], e: usize) -> u64
 // Whether the first e nodes are expressions, with few enough literals.
 fn is_lawful(words: &[u64], counts: &[usize], e: usize) -> bool
     requires { ⌜ e ≤ length (now counts) ⌝ }
-    ensures { λ r. ⌜ r ≡ (all expression (nodesOf e (now (counts .entry)) (now (words .entry))) && leb (total literalsOf (nodesOf e (now (counts .entry)) (now (words .entry)))) mostLiterals) ⌝ }
+    ensures { λ r. ⌜ r ≡ lawfulNodes (nodesOf e (now (counts .entry)) (now (words .entry))) ⌝ }
 {
     if !all_expressions(words, counts, e) {
         return false;

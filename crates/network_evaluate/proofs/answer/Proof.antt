@@ -26,7 +26,8 @@ returns : tie.Need-returns
 returns c =
     let s = c .before .before .before .before .before .before in
     c .collect .ensures
-    ∙ answer-is (s .args .n) (s .args .m) (s .args .k) (s .args .words .now) (s .args .counts .now) _ _ (s .pre .listed) (s .pre .lawful) (s .args .setting) _ _ (c .before .before .given .ensures) (c .before .settle .ensures)
+    ∙ answer-is (s .args .n) (s .args .m) (s .args .k) (s .args .words .now) (s .args .counts .now) _ _ (s .pre .listed) (s .pre .lawful)
+    (s .args .setting) _ _ (c .before .before .given .ensures) (c .before .settle .ensures)
 
 pub answer-spec : {M : Type 1} → statement M
 answer-spec = tie.close (tie.spec given-requires settle-requires collect-requires returns)

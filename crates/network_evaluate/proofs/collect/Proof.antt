@@ -1,5 +1,5 @@
 -- `network_evaluate::collect` meets its contract. The loop's invariant: the number has the bits of the outputs from j on. Assumes nothing.
-use Prim.Native.Nat.{ℕ, _≤_, _<_, _-_}
+use Prim.Native.Nat.{ℕ, _≤_, _<_, _-_, _^_}
 use mathlib.Core.Path.{_≡_, sym, _∙_, ap, subst}
 use mathlib.Core.Bool.{true, false}
 use mathlib.Core.List.{List, []}
@@ -10,6 +10,7 @@ use Rattle.cube.specs.Cube.{lits}
 use Rattle.network.specs.Parts.{nodesOf}
 use Rattle.network_known.specs.Known.{someWithin}
 use Rattle.network.proofs.Parts.{nodes-length, nodes-at}
+use Rattle.network.specs.Held.{mostOutputs}
 use Rattle.network_evaluate.proofs.Settling.{Collected, collected-none, collected-small, collected-more, collected-all}
 use Rattle.network_evaluate.proofs.collect.Statement.{statement}
 use Rattle.network_evaluate.proofs.collect.Tie as tie
@@ -29,14 +30,16 @@ held l = nodesOf (start l .args .m) (start l .args .counts .now) (start l .args 
 many : (s : tie.Start Inv-loop μ-loop) → length (nodesOf (s .args .m) (s .args .counts .now) (s .args .words .now)) ≡ s .args .m
 many s = nodes-length (s .args .counts .now) (s .args .words .now) (s .args .m) (s .pre .0)
 
-small : (l : tie.At-loop Inv-loop μ-loop) → l .loop .r < 4294967296
+small : (l : tie.At-loop Inv-loop μ-loop) → l .loop .r < 2 ^ mostOutputs
 small l = collected-small _ _ (l .loop .j) (l .loop .r) (l .loop .inv .1) (omega (arith, many (start l), start l .pre .1))
 
 -- what the test says of output i
-tested : (c : tie.After-within Inv-loop μ-loop) → someWithin (lits (start (c .before .before .before) .args .t)) (getD (held (c .before .before .before)) (c .before .before .before .loop .j - 1) []) ≡ c .within .result
+tested : (c : tie.After-within Inv-loop μ-loop) → someWithin (lits (start (c .before .before .before) .args .t))
+    (getD (held (c .before .before .before)) (c .before .before .before .loop .j - 1) []) ≡ c .within .result
 tested c =
     let l = c .before .before .before in
-    ap (someWithin (lits (start l .args .t))) (nodes-at (start l .args .counts .now) (start l .args .words .now) (start l .args .m) (l .loop .j - 1) (omega arith) ∙ sym (c .before .node .ensures .0))
+    ap (someWithin (lits (start l .args .t))) (nodes-at (start l .args .counts .now) (start l .args .words .now) (start l .args .m) (l .loop .j - 1)
+    (omega arith) ∙ sym (c .before .node .ensures .0))
     ∙ sym (c .within .ensures)
 
 loop-holds : tie.Need-loop-holds Inv-loop μ-loop
@@ -65,19 +68,26 @@ loop-less c = omega arith
 
 loop-again : tie.Need-loop-again Inv-loop μ-loop
 loop-again c =
-    let l = c .before .before .before .before in
-    (omega arith, collected-more _ (held l) [] (l .loop .j) (l .loop .j - 1) (l .loop .r) _ true (omega arith) (omega (arith, many (start l))) (l .loop .inv .1) (tested (c .before) ∙ c .if1 .taken) (omega arith))
+    let l = c .before .before .before .before in (
+      omega arith,
+      collected-more _ (held l) [] (l .loop .j) (l .loop .j - 1) (l .loop .r) _ true (omega arith) (omega (arith, many (start l)))
+          (l .loop .inv .1) (tested (c .before) ∙ c .if1 .taken) (omega arith),
+    )
 
 loop-less-2 : tie.Need-loop-less-2 Inv-loop μ-loop
 loop-less-2 c = omega arith
 
 loop-again-2 : tie.Need-loop-again-2 Inv-loop μ-loop
 loop-again-2 c =
-    let l = c .before .before .before .before in
-    (omega arith, collected-more _ (held l) [] (l .loop .j) (l .loop .j - 1) (l .loop .r) _ false (omega arith) (omega (arith, many (start l))) (l .loop .inv .1) (tested (c .before) ∙ c .if1 .left) (omega arith))
+    let l = c .before .before .before .before in (
+      omega arith,
+      collected-more _ (held l) [] (l .loop .j) (l .loop .j - 1) (l .loop .r) _ false (omega arith) (omega (arith, many (start l)))
+          (l .loop .inv .1) (tested (c .before) ∙ c .if1 .left) (omega arith),
+    )
 
 returns : tie.Need-returns Inv-loop μ-loop
-returns c = let l = c .before in collected-all _ (held l) (l .loop .r) (subst (λ x. Collected (someWithin (lits (start l .args .t))) (held l) x (l .loop .r)) (omega arith) (l .loop .inv .1))
+returns c = let l = c .before in collected-all _ (held l) (l .loop .r)
+    (subst (λ x. Collected (someWithin (lits (start l .args .t))) (held l) x (l .loop .r)) (omega arith) (l .loop .inv .1))
 
 pub collect-spec : {M : Type 1} → statement M
 collect-spec =

@@ -11,9 +11,10 @@ use Rattle.network_known.specs.Known.{Truths, signed}
 use Rattle.network_known.proofs.Knowing.{joined-signed, truths-none, truths-input}
 use Rattle.network_evaluate.proofs.given.Statement.{statement}
 use Rattle.network_evaluate.proofs.given.Tie as tie
+use Rattle.network.specs.Held.{mostVariables}
 
 abbrev Inv-loop : tie.InvT-loop
-Inv-loop n setting c₀ v₀ c v = (v ≤ n) × Truths v [] (bit setting) (lits c) × (n ≤ 64)
+Inv-loop n setting c₀ v₀ c v = (v ≤ n) × Truths v [] (bit setting) (lits c) × (n ≤ mostVariables)
 
 abbrev μ-loop : tie.MeasureT-loop
 μ-loop n setting c₀ v₀ c v = n - v
@@ -39,8 +40,13 @@ loop-less c = omega arith
 loop-again : tie.Need-loop-again Inv-loop μ-loop
 loop-again c =
     let l = c .before .before in
-    let s = l .before .before .args .setting in
-    (omega arith, truths-input (l .loop .v) (bit s) (c .valued .ensures ∙ ap (λ b. joined (signed (l .loop .v) b) (lits (l .loop .c))) (bit-test s (l .loop .v)) ∙ joined-signed (l .loop .v) (bit s (l .loop .v)) (lits (l .loop .c)) (omega arith)) (l .loop .inv .1), omega arith)
+    let s = l .before .before .args .setting in (
+      omega arith,
+      truths-input (l .loop .v) (bit s) (c .valued .ensures
+          ∙ ap (λ b. joined (signed (l .loop .v) b) (lits (l .loop .c))) (bit-test s (l .loop .v))
+          ∙ joined-signed (l .loop .v) (bit s (l .loop .v)) (lits (l .loop .c)) (omega arith)) (l .loop .inv .1),
+      omega arith,
+    )
 
 returns : tie.Need-returns Inv-loop μ-loop
 returns c =

@@ -18,7 +18,8 @@ use Rattle.network_evaluate.proofs.settle.Tie as tie
 
 abbrev Inv-loop : tie.InvT-loop
 Inv-loop words counts n m k order count t₀ i₀ t i =
-    (i ≤ count) × (settledIn n (divisorsOf m k counts words) (drop i (take count order)) (lits t) ≡ settledIn n (divisorsOf m k counts words) (take count order) (lits t₀))
+    (i ≤ count) × (settledIn n (divisorsOf m k counts words) (drop i (take count order)) (lits t) ≡ settledIn n (divisorsOf m k counts words)
+    (take count order) (lits t₀))
 
 abbrev μ-loop : tie.MeasureT-loop
 μ-loop words counts n m k order count t₀ i₀ t i = count - i
@@ -33,7 +34,8 @@ many s = length-take-le (s .args .count) (s .args .order .now) (s .pre .counted)
 abbrev number : tie.At-loop Inv-loop μ-loop → ℕ
 number l = getD (start l .args .order .now) (l .loop .i) 0
 
-range : (c : tie.In-loop Inv-loop μ-loop) → (start (c .before) .args .n ≤ number (c .before)) × (number (c .before) < start (c .before) .args .n + start (c .before) .args .k)
+range : (c : tie.In-loop Inv-loop μ-loop) → (start (c .before) .args .n ≤ number (c .before))
+    × (number (c .before) < start (c .before) .args .n + start (c .before) .args .k)
 range c = start (c .before) .pre .numbers (c .before .loop .i) (c .loop-test .taken)
 
 loop-holds : tie.Need-loop-holds Inv-loop μ-loop
@@ -72,7 +74,8 @@ loop-again c =
     let f = divisors-at (a .counts .now) (a .words .now) (a .m) (a .k) (number l - a .n) (omega (arith, range d))
     ∙ ap (λ i. getD (cut (a .counts .now) (cubesOf (a .words .now))) i []) (sym p) in (
       omega arith,
-      sym (settled-on (a .n) (divisorsOf (a .m) (a .k) (a .counts .now) (a .words .now)) o (l .loop .i) (lits (l .loop .t)) (omega (arith, many s)) (number l) _ _ v (sym f) (c .step .ensures)) ∙ l .loop .inv .1,
+      sym (settled-on (a .n) (divisorsOf (a .m) (a .k) (a .counts .now) (a .words .now)) o (l .loop .i) (lits (l .loop .t)) (omega (arith, many s))
+          (number l) _ _ v (sym f) (c .step .ensures)) ∙ l .loop .inv .1,
     )
 
 returns : tie.Need-returns Inv-loop μ-loop

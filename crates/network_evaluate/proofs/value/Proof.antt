@@ -21,7 +21,12 @@ answer-requires : tie.Need-answer-requires
 answer-requires c κs =
     let l = c .before .before .before .before .before .before in
     let s = l .before in
-    record { shape = shape-of (s .args .n) (search needs) (search needs); lawful = s .pre; listed = listed-out (s .args .n) _ (rules-listable (s .args .n) (s .pre)) (l .listing .ensures) }
+    record {
+      shape = shape-of (s .args .n) (search needs) (search needs);
+      lawful = s .pre;
+      listed = listed-out (s .args .n) _
+          (rules-listable (s .args .n) (s .pre)) (l .listing .ensures);
+    }
 
 returns : tie.Need-returns
 returns c = c .answer .ensures

@@ -47,7 +47,8 @@ returns : tie.Need-returns
 returns c =
     let t = c .before .before in
     let a = start (t .before .before) .args in
-    asked-yes (a .n + a .i) _ (tested (t .before) ∙ t .if1 .taken) (subst (λ f. Marks (lits (c .reads .result)) (readsOf f)) (c .before .node .ensures .0) (c .reads .ensures))
+    asked-yes (a .n + a .i) _ (tested (t .before) ∙ t .if1 .taken)
+    (subst (λ f. Marks (lits (c .reads .result)) (readsOf f)) (c .before .node .ensures .0) (c .reads .ensures))
 
 empty-requires : tie.Need-empty-requires
 empty-requires c κs = search needs

@@ -20,7 +20,8 @@ above-requires c κs = omega (arith, c .before .before .before .before .before .
 returns : tie.Need-returns
 returns c =
     let s = c .before .before .before .before .before .before in
-    found-marks (s .pre .0) (s .pre .1) (c .before .before .before .node .ensures .0) (c .before .before .reads .ensures) (c .before .often .ensures) (c .above .ensures)
+    found-marks (s .pre .0) (s .pre .1) (c .before .before .before .node .ensures .0) (c .before .before .reads .ensures) (c .before .often .ensures)
+    (c .above .ensures)
 
 pub found-spec : {M : Type 1} → statement M
 found-spec =

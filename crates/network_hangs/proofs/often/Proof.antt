@@ -35,7 +35,8 @@ returns : tie.Need-returns Inv-loop μ-loop
 returns c =
     let l = c .before in
     let a = l .before .before .before .args in
-    subst (λ x. Makes (lits (a .set)) (lits (l .loop .all)) (reached x (netAt (a .n) (a .m) (a .k) (a .counts .now) (a .words .now)))) (omega arith) (l .loop .inv .1)
+    subst (λ x. Makes (lits (a .set)) (lits (l .loop .all)) (reached x (netAt (a .n) (a .m) (a .k) (a .counts .now) (a .words .now)))) (omega arith)
+    (l .loop .inv .1)
 
 pub often-spec : {M : Type 1} → statement M
 often-spec =

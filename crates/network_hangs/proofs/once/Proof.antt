@@ -1,4 +1,5 @@
--- `network_hangs::once` meets its contract. The loop's invariant: the set, with what the divisors from i on read, is the variables and what all divisors among them read. Assumes nothing.
+-- `network_hangs::once` meets its contract. The loop's invariant: the set, with what the divisors from i on read, is the variables and
+-- what all divisors among them read. Assumes nothing.
 use Prim.Native.Nat.{ℕ, _+_, _-_, _≤_}
 use mathlib.Core.Path.{_≡_, sym, subst}
 use mathlib.Core.Bool.{cond}
@@ -21,7 +22,8 @@ use Rattle.network_hangs.proofs.once.Tie as tie
 
 abbrev Inv-loop : tie.InvT-loop
 Inv-loop words counts n m k set all₀ i₀ all i =
-    (i ≤ k) × ((l : List ℕ) → Marks (lits set) l → Gathers (lits all) (λ v. any (asks l v) (numbered (n + i) (drop i (divisorsOf m k counts words)))) (λ v. mem v (union l (readBy (netAt n m k counts words) l))))
+    (i ≤ k) × ((l : List ℕ) → Marks (lits set) l → Gathers (lits all) (λ v. any (asks l v) (numbered (n + i) (drop i (divisorsOf m k counts words))))
+    (λ v. mem v (union l (readBy (netAt n m k counts words) l))))
 
 abbrev μ-loop : tie.MeasureT-loop
 μ-loop words counts n m k set all₀ i₀ all i = k - i
@@ -66,7 +68,8 @@ loop-again c =
           gather-more (cond (mem (a .n + i) t) (readsOf (getD (held l) i [])) []) _ _ _
           (λ v. asks-next t v (a .n) (held l) i (omega (arith, many l)))
           (c .union .ensures)
-          (subst (λ f. Marks (lits (w .asked .result)) (cond (mem (a .n + i) t) (readsOf f) [])) (sym (divisors-at (a .counts .now) (a .words .now) (a .m) (a .k) i (omega arith))) (w .asked .ensures .each t p))
+          (subst (λ f. Marks (lits (w .asked .result)) (cond (mem (a .n + i) t) (readsOf f) []))
+          (sym (divisors-at (a .counts .now) (a .words .now) (a .m) (a .k) i (omega arith))) (w .asked .ensures .each t p))
           (l .loop .inv .1 t p),
     )
 

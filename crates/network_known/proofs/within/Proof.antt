@@ -40,7 +40,8 @@ abbrev all-of : tie.At-loop Inv-loop μ-loop → List ℕ
 all-of l = lits (l .before .before .args .k)
 
 tested : (c : tie.After-contains Inv-loop μ-loop)
-    → sub (getD (cubes (c .before .before .before .before)) (c .before .before .before .before .loop .i) []) (all-of (c .before .before .before .before)) ≡ c .contains .result
+    → sub (getD (cubes (c .before .before .before .before)) (c .before .before .before .before .loop .i) []) (all-of (c .before .before .before .before))
+    ≡ c .contains .result
 tested c = ap (λ x. sub x (all-of (c .before .before .before .before))) (sym (c .before .cube-at .ensures)) ∙ sym (c .contains .ensures)
 
 loop-holds : tie.Need-loop-holds Inv-loop μ-loop
@@ -58,7 +59,8 @@ contains-requires c κs = search needs
 returns : tie.Need-returns Inv-loop μ-loop
 returns c =
     let l = c .before .before .before .before .before in
-    sym (test-stop (cubes l) (l .loop .i) (λ x. sub x (all-of l)) [] (omega arith) (l .before .before .args .every) (tested (c .before) ∙ unlike _ _ (c .if2 .taken))) ∙ l .loop .inv .1
+    sym (test-stop (cubes l) (l .loop .i) (λ x. sub x (all-of l)) [] (omega arith) (l .before .before .args .every)
+    (tested (c .before) ∙ unlike _ _ (c .if2 .taken))) ∙ l .loop .inv .1
 
 add-i : tie.Need-add-i Inv-loop μ-loop
 add-i c = search needs
@@ -68,8 +70,11 @@ loop-less c = search needs
 
 loop-again : tie.Need-loop-again Inv-loop μ-loop
 loop-again c =
-    let l = c .before .before .before .before .before in
-    (search needs, sym (test-on (cubes l) (l .loop .i) (λ x. sub x (all-of l)) [] (omega arith) _ (tested (c .before) ∙ alike _ _ (c .if2 .left))) ∙ l .loop .inv .1)
+    let l = c .before .before .before .before .before in (
+      search needs,
+      sym (test-on (cubes l) (l .loop .i) (λ x. sub x (all-of l)) [] (omega arith) _ (tested (c .before) ∙ alike _ _ (c .if2 .left)))
+          ∙ l .loop .inv .1,
+    )
 
 returns-2 : tie.Need-returns-2 Inv-loop μ-loop
 returns-2 c =

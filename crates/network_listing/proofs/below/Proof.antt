@@ -9,9 +9,10 @@ use Rattle.network_known.specs.Known.{BothWays}
 use Rattle.network_known.proofs.Knowing.{spans-none, spans-input}
 use Rattle.network_listing.proofs.below.Statement.{statement}
 use Rattle.network_listing.proofs.below.Tie as tie
+use Rattle.network.specs.Held.{mostVariables}
 
 abbrev Inv-loop : tie.InvT-loop
-Inv-loop n c₀ v₀ c v = (v ≤ n) × BothWays v [] (lits c) × (n ≤ 64)
+Inv-loop n c₀ v₀ c v = (v ≤ n) × BothWays v [] (lits c) × (n ≤ mostVariables)
 
 abbrev μ-loop : tie.MeasureT-loop
 μ-loop n c₀ v₀ c v = n - v

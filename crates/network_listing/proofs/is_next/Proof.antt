@@ -9,9 +9,10 @@ use Rattle.sets.specs.Literal.{plainOf}
 use borrow.Author.Needs.{needs}
 use Rattle.network_listing.proofs.is_next.Statement.{statement}
 use Rattle.network_listing.proofs.is_next.Tie as tie
+use Rattle.network.specs.Held.{mostVariables}
 
 -- the literal tested is the variable's
-lacks : (l v : ℕ) (k : List ℕ) (b w : Bool) → v < 64 → l ≡ plainOf v % 4294967296 → b ≡ mem l k → (not b && w) ≡ (not (mem (plainOf v) k) && w)
+lacks : (l v : ℕ) (k : List ℕ) (b w : Bool) → v < mostVariables → l ≡ plainOf v % 4294967296 → b ≡ mem l k → (not b && w) ≡ (not (mem (plainOf v) k) && w)
 lacks l v k b w h e q = let p : l ≡ plainOf v = omega arith in ap (λ x. not x && w) (q ∙ ap (λ x. mem x k) p)
 
 cast-t6 : tie.Need-cast-t6
@@ -32,7 +33,8 @@ within-requires c κs = search needs
 returns-2 : tie.Need-returns-2
 returns-2 c =
     c .within .ensures
-    ∙ lacks _ _ _ false _ (c .before .before .before .before .before .pre) (c .before .before .before .plain .ensures) (sym (c .before .if1 .left) ∙ c .before .before .has .ensures)
+    ∙ lacks _ _ _ false _ (c .before .before .before .before .before .pre) (c .before .before .before .plain .ensures)
+    (sym (c .before .if1 .left) ∙ c .before .before .has .ensures)
 
 pub is-next-spec : {M : Type 1} → statement M
 is-next-spec =

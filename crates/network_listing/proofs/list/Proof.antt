@@ -13,6 +13,7 @@ use Rattle.network.specs.Parts.{netAt, nodesOf}
 use Rattle.network_listing.specs.Parts.{nextIn}
 use Rattle.network.proofs.Parts.{divisors-length}
 use Rattle.network.proofs.Numbering.{numbered-length}
+use Rattle.network.specs.Held.{mostVariables}
 use Rattle.network_listing.proofs.Turns.{Turn, turn-first, turn-more, turn-none, turn-last, next-ready, next-range}
 use Rattle.network_listing.proofs.list.Statement.{statement}
 use Rattle.network_listing.proofs.list.Tie as tie
@@ -30,16 +31,20 @@ start l = l .before .before .before .before
 abbrev held : tie.At-loop Inv-loop μ-loop → Net
 held l = let a = start l .args in netAt (a .n) (a .m) (a .k) (a .counts .now) (a .words .now)
 
-many : (s : tie.Start Inv-loop μ-loop) → length (netAt (s .args .n) (s .args .m) (s .args .k) (s .args .counts .now) (s .args .words .now) .divisors) ≡ s .args .k
+many : (s : tie.Start Inv-loop μ-loop) → length (netAt (s .args .n) (s .args .m) (s .args .k) (s .args .counts .now) (s .args .words .now) .divisors)
+    ≡ s .args .k
 many s =
     let a = s .args in
-    numbered-length (a .n) (drop (a .m) (nodesOf (a .m + a .k) (a .counts .now) (a .words .now))) ∙ divisors-length (a .counts .now) (a .words .now) (a .m) (a .k) (s .pre .counted)
+    numbered-length (a .n) (drop (a .m) (nodesOf (a .m + a .k) (a .counts .now) (a .words .now)))
+    ∙ divisors-length (a .counts .now) (a .words .now) (a .m) (a .k) (s .pre .counted)
 
 -- the next number by the literals of what is known is that of the definition
-same : (l : tie.At-loop Inv-loop μ-loop) → nextIn (lits (l .loop .known)) (held l .divisors) ≡ nextReady (held l .inputs) (take (l .loop .count) (l .loop .order)) (held l .divisors)
+same : (l : tie.At-loop Inv-loop μ-loop) → nextIn (lits (l .loop .known)) (held l .divisors) ≡ nextReady (held l .inputs)
+    (take (l .loop .count) (l .loop .order)) (held l .divisors)
 same l =
     let a = start l .args in
-    next-ready (a .n) (take (l .loop .count) (l .loop .order)) (lits (l .loop .known)) (l .loop .inv .1 .spans) (a .n) (drop (a .m) (nodesOf (a .m + a .k) (a .counts .now) (a .words .now))) (omega arith)
+    next-ready (a .n) (take (l .loop .count) (l .loop .order)) (lits (l .loop .known)) (l .loop .inv .1 .spans) (a .n)
+    (drop (a .m) (nodesOf (a .m + a .k) (a .counts .now) (a .words .now))) (omega arith)
 
 -- where a number was found
 abbrev head : tie.After-known-told Inv-loop μ-loop → tie.At-loop Inv-loop μ-loop
@@ -48,11 +53,12 @@ head c = c .before .before .before .before .before
 found : (c : tie.After-known-told Inv-loop μ-loop) → nextIn (lits (head c .loop .known)) (held (head c) .divisors) ≡ some (c .before .f .given .0 .0)
 found c = sym (ap placeOf (sym (c .before .f .given .1)) ∙ c .before .before .before .next .ensures)
 
-range : (c : tie.After-known-told Inv-loop μ-loop) → c .before .f .given .0 .0 < 64
+range : (c : tie.After-known-told Inv-loop μ-loop) → c .before .f .given .0 .0 < mostVariables
 range c =
     let s = start (head c) in
     let a = s .args in
-    let r = next-range (lits (head c .loop .known)) (a .n) (drop (a .m) (nodesOf (a .m + a .k) (a .counts .now) (a .words .now))) (c .before .f .given .0 .0) (found c) in
+    let r = next-range (lits (head c .loop .known)) (a .n) (drop (a .m) (nodesOf (a .m + a .k) (a .counts .now) (a .words .now)))
+    (c .before .f .given .0 .0) (found c) in
     omega (arith, s .pre .variables, divisors-length (a .counts .now) (a .words .now) (a .m) (a .k) (s .pre .counted))
 
 below-requires : tie.Need-below-requires Inv-loop μ-loop
@@ -100,8 +106,11 @@ loop-again c =
     let l = head d in
     let k = start l .args .k in
     let less : k - l .loop .count ≡ suc (k - (l .loop .count + 1)) = omega arith in
-    let t = subst (λ x. Turn (held l) x (l .loop .order) (l .loop .count) (lits (l .loop .known))) less (l .loop .inv .1) in
-    (omega arith, turn-more (held l) (l .loop .order) (l .loop .count) (lits (l .loop .known)) (k - (l .loop .count + 1)) (omega (arith, start l .pre .variables)) t _ (sym (same l) ∙ found d) _ (c .both .ensures))
+    let t = subst (λ x. Turn (held l) x (l .loop .order) (l .loop .count) (lits (l .loop .known))) less (l .loop .inv .1) in (
+      omega arith,
+      turn-more (held l) (l .loop .order) (l .loop .count) (lits (l .loop .known)) (k - (l .loop .count + 1))
+          (omega (arith, start l .pre .variables)) t _ (sym (same l) ∙ found d) _ (c .both .ensures),
+    )
 
 returns-2 : tie.Need-returns-2 Inv-loop μ-loop
 returns-2 c =

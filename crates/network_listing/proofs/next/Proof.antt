@@ -21,7 +21,8 @@ use Rattle.network_listing.proofs.next.Tie as tie
 
 abbrev Inv-loop : tie.InvT-loop
 Inv-loop words counts n m k known i₀ i =
-    (i ≤ k) × (nextIn (lits known) (numbered (n + i) (drop i (drop m (nodesOf (m + k) counts words)))) ≡ nextIn (lits known) (numbered n (drop m (nodesOf (m + k) counts words))))
+    (i ≤ k) × (nextIn (lits known) (numbered (n + i) (drop i (drop m (nodesOf (m + k) counts words)))) ≡ nextIn (lits known)
+    (numbered n (drop m (nodesOf (m + k) counts words))))
 
 abbrev μ-loop : tie.MeasureT-loop
 μ-loop words counts n m k known i₀ i = k - i

@@ -37,7 +37,8 @@ returns-2 c =
     let n = e .before .before in
     let s = n .before .before .before .before in
     let h : s .args .i < length (s .args .counts .now) = omega arith in (
-      node-is (s .args .counts .now) _ _ (s .args .i) _ _ h (e .before .summed .ensures ∙ ap (min _) (n .number .ensures)) (e .summed2 .ensures ∙ ap (min _) (n .number .ensures)) (c .part2 .ensures .0),
+      node-is (s .args .counts .now) _ _ (s .args .i) _ _ h (e .before .summed .ensures ∙ ap (min _) (n .number .ensures))
+          (e .summed2 .ensures ∙ ap (min _) (n .number .ensures)) (c .part2 .ensures .0),
       c .part2 .ensures .1,
     )
 

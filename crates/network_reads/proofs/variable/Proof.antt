@@ -56,7 +56,8 @@ returns-2 c =
     let o = t .before .before in
     let p = o .before .before .before in
     let a = p .before .args in
-    variable-yes (a .v) (lits (a .c)) (or-right (mem (plainOf (a .v)) (lits (a .c))) _ (ap (λ x. mem x (lits (a .c))) (sym (other-is o)) ∙ sym (t .before .has2 .ensures) ∙ t .if2 .taken))
+    variable-yes (a .v) (lits (a .c)) (or-right (mem (plainOf (a .v)) (lits (a .c))) _
+    (ap (λ x. mem x (lits (a .c))) (sym (other-is o)) ∙ sym (t .before .has2 .ensures) ∙ t .if2 .taken))
     (marks-single (a .v) (p .before .pre) (c .before .empty2 .ensures) (c .with2 .ensures ∙ ap (λ x. joined x (lits (c .before .empty2 .result))) (plain-is p)))
 
 empty-requires-3 : tie.Need-empty-requires-3

@@ -34,7 +34,8 @@ tested : (c : tie.After-is-expression Inv-loop μ-loop)
     → expression (getD (held (c .before .before .before)) (c .before .before .before .loop .i) []) ≡ c .is-expression .result
 tested c =
     let l = c .before .before .before in
-    ap expression (nodes-at (start l .args .counts .now) (start l .args .words .now) (start l .args .e) (l .loop .i) (omega arith) ∙ sym (c .before .node .ensures .0))
+    ap expression (nodes-at (start l .args .counts .now) (start l .args .words .now) (start l .args .e) (l .loop .i) (omega arith)
+    ∙ sym (c .before .node .ensures .0))
     ∙ sym (c .is-expression .ensures)
 
 loop-holds : tie.Need-loop-holds Inv-loop μ-loop

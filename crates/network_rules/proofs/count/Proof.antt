@@ -19,7 +19,8 @@ returns : tie.Need-returns
 returns c =
     let s = c .before .before .before .before in
     c .literals .ensures
-    ∙ ap capped (ap literalsOf (c .before .front .ensures .0) ∙ sym (cut-total length (take (s .args .e) (s .args .counts .now)) (cubesOf (s .args .words .now))))
+    ∙ ap capped (ap literalsOf (c .before .front .ensures .0)
+    ∙ sym (cut-total length (take (s .args .e) (s .args .counts .now)) (cubesOf (s .args .words .now))))
 
 pub count-spec : {M : Type 1} → statement M
 count-spec = tie.close (tie.spec front-requires literals-requires returns)
