@@ -8,7 +8,6 @@ use mathlib.Core.List.{List, List·Memᴰ·not-nil, List·Memᴰ·cases-cons}
 use native.Mathlib.Omega.{arith}
 use lib.ListN.{length, length-map}
 use lib.IntN.{ℤ, pos, negℤ, _+ℤ_, _-ℤ_, +ℤ-idr, +ℤ-assoc, negℤ-+ℤ}
-use lib.Signed.{ltZ}
 use Rattle.sets.proofs.Lists.{_∈_}
 use Rattle.expression.specs.Expression.{ordered}
 use Rattle.network.specs.Net.{Net, nodes, variables, cubeCount, literalCount}

@@ -10,7 +10,8 @@ use Rattle.sets.proofs.Lists.{_∈_, total-append, total-map, map-out}
 use Rattle.network.specs.Net.{Node, Net, nodes, variables}
 use Rattle.network.specs.Meaning.{Reads}
 use Rattle.network.specs.Held.{numbered}
-use Rattle.network.proofs.Handing.{InTurn}
+use Rattle.network.specs.Rules.{InTurn}
+use Rattle.network.proofs.Mapping.{cubes-map, numbered-map, mapped-nodes}
 use Rattle.extract_laws.specs.Divisor.{Divisor, own, rewrite}
 use Rattle.extract_laws.specs.Extract.{redo, nextFree, step}
 use Rattle.extract_laws.specs.Meaning.{Good}
@@ -18,25 +19,6 @@ use Rattle.extract_laws.specs.Meaning.{Good}
 -- the expressions of divisors
 abbrev pub cubes : List Node → List (List (List ℕ))
 cubes l = map (λ (e : Node). e .cubes) l
-
--- ---- an expression h f in place of each f
-
-module _ (h : List (List ℕ) → List (List ℕ)) where
-  -- h in place of a divisor's expression
-  abbrev pub onNode : Node → Node
-  onNode e = record { number = e .number; cubes = h (e .cubes) }
-
-  pub cubes-map : (l : List Node) → cubes (map onNode l) ≡ map h (cubes l)
-  cubes-map [] = refl
-  cubes-map (e ∷ l) = ap (h (e .cubes) ∷_) (cubes-map l)
-
-  pub nodes-map : (o : List (List (List ℕ))) (l : List Node) → map h o ++ cubes (map onNode l) ≡ map h (o ++ cubes l)
-  nodes-map o l = ap (map h o ++_) (cubes-map l) ∙ sym (map-append h o (cubes l))
-
-  pub numbered-map : (v : ℕ) (fs : List (List (List ℕ))) → map onNode (numbered v fs) ≡ numbered v (map h fs)
-  unfolding numbered
-  numbered-map v [] = refl
-  numbered-map v (f ∷ fs) = ap (record { number = v; cubes = h f } ∷_) (numbered-map (suc v) fs)
 
 numbered-snoc : (v : ℕ) (fs : List (List (List ℕ))) (f : List (List ℕ))
     → numbered v (fs ++ (f ∷ [])) ≡ numbered v fs ++ (record { number = v + length fs; cubes = f } ∷ [])
@@ -63,7 +45,7 @@ module _ (n : Net) (d : Divisor) where
       ap (map (rewrite (2 * nextFree n) d) (n .outputs) ++_)
       (map-append (λ (e : Node). e .cubes) (map (redo (2 * nextFree n) d) (n .divisors)) (record { number = nextFree n; cubes = own d } ∷ []))
       ∙ sym (append-assoc (map (rewrite (2 * nextFree n) d) (n .outputs)) (cubes (map (redo (2 * nextFree n) d) (n .divisors))) (own d ∷ []))
-      ∙ ap (_++ (own d ∷ [])) (nodes-map (rewrite (2 * nextFree n) d) (n .outputs) (n .divisors))
+      ∙ ap (_++ (own d ∷ [])) (mapped-nodes (rewrite (2 * nextFree n) d) n)
 
   -- so a node is the divisor's own, or a rewritten one
   pub step-node : (f : List (List ℕ)) → f ∈ nodes (step n d) → (f ≡ own d) ⊎ ((h : List (List ℕ)) × (h ∈ nodes n) × (f ≡ rewrite (2 * nextFree n) d h))

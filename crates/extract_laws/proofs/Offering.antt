@@ -12,7 +12,7 @@ use Rattle.sets.specs.Sets.{sub, apart, asc, without, before}
 use Rattle.sets.proofs.Truth.{decided}
 use Rattle.sets.proofs.Lists.{_∈_, map-in, map-out, ahead, all-out}
 use Rattle.sets.proofs.Orders.{before-order, asym}
-use Rattle.sets.proofs.Sets.{mem-of, of-mem, sub-out, union-right, without-asc, proper-sub}
+use Rattle.sets.proofs.Sets.{mem-of, union-right, without-asc, proper-sub}
 use Rattle.expression.specs.Expression.{expression}
 use Rattle.expression.proofs.Absorbing.{loose-in}
 use Rattle.network.specs.Net.{Net, nodes}
@@ -22,7 +22,7 @@ use Rattle.extract_laws.specs.Meaning.{Good, other, Used, Divides, Fit}
 use Rattle.extract_laws.specs.Meaning.Divides.{literals, parts}
 use Rattle.extract_laws.proofs.Using.{cube-asc, cube-proper, sum-parts, apart-flip, small-sub, use-out}
 use Rattle.extract_laws.proofs.Replacing.{own-reads}
-use Rattle.extract_laws.proofs.Parting.{less-left, less-right, parts-apart, parts-differ, parts-use, use-left, use-right}
+use Rattle.extract_laws.proofs.Parting.{less-left, less-right, parts-apart, parts-differ, parts-use}
 
 module _ {A B : Type 0} where
   pub gather-in : (g : A → List B) {x : A} {l : List A} {y : B} → x ∈ l → y ∈ g x → y ∈ gather g l

@@ -2,15 +2,14 @@
 -- itself through others. Assumes nothing.
 use Prim.Native.Nat.{ℕ, _*_, _/_, _<_}
 use mathlib.Core.Path.{_≡_, refl, sym, ap, _∙_, subst}
-use mathlib.Core.Logic.{_⊎_, inl, inr, _↔_}
+use mathlib.Core.Logic.{_⊎_, inl, inr}
 use mathlib.Core.Bool.{true}
 use mathlib.Core.List.{List, map}
 use native.Mathlib.Omega.{arith}
-use lib.ListN.{length, length-map}
+use lib.ListN.{length-map}
 use Rattle.sets.proofs.Lists.{_∈_}
-use Rattle.network.specs.Net.{Node, Net, nodes, variables}
-use Rattle.network.specs.Listing.{listing}
-use Rattle.network.specs.Meaning.{Reads, Through, Distinct, Closed, Sound}
+use Rattle.network.specs.Net.{Node, Net}
+use Rattle.network.specs.Meaning.{Reads, Through}
 use Rattle.network.specs.Meaning.Through.{itself, others}
 use Rattle.network.proofs.Numbering.{in-divisor, numbered-range}
 use Rattle.extract_laws.specs.Divisor.{Divisor, own, hit}

@@ -11,7 +11,7 @@ use Rattle.extract_laws.specs.Divisor.{Divisor}
 use Rattle.extract_laws.specs.Extract.{step}
 use Rattle.extract_laws.specs.Run.{Stop, done, numbers, rows, Made, Result, Move, finished, stuck, makes, move, ended, making, prepare, runFrom}
 use Rattle.extract_laws.specs.Run.{inOrder, run}
-use Rattle.extract_laws.specs.Meaning.{Done, Allows, Leads, Ends}
+use Rattle.extract_laws.specs.Meaning.{Allows, Leads, Ends}
 use Rattle.extract_laws.specs.Meaning.Allows.{nothing, noNumber, noRows, next}
 use Rattle.extract_laws.specs.Meaning.Leads.{stay, onward}
 use Rattle.extract_laws.specs.Meaning.Ends.{isDone, isAsked, isNumbers, isRows}

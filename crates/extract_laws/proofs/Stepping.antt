@@ -6,17 +6,17 @@ use mathlib.Core.Bool.{Bool, true}
 use mathlib.Core.List.{List, map, List·Memᴰ·head as here, Memᴰ·append-left, Memᴰ·append-right}
 use native.Mathlib.Omega.{arith}
 use Rattle.sets.specs.Masks.{bit, packed}
-use Rattle.sets.proofs.Lists.{_∈_, map-in, map-cong, map-map}
+use Rattle.sets.proofs.Lists.{_∈_}
 use Rattle.expression.specs.Expression.{ordered}
 use Rattle.expression.specs.Value.{lit, value}
 use Rattle.expression.proofs.Values.{lit-plain}
-use Rattle.network.specs.Net.{Net, nodes, variables}
+use Rattle.network.specs.Net.{Net, nodes}
 use Rattle.network.specs.Listing.{listing}
 use Rattle.network.specs.Evaluation.{settle, answers, evaluate}
 use Rattle.network.specs.Meaning.{Reads, Consistent}
-use Rattle.network.proofs.Numbering.{in-output, in-divisor}
 use Rattle.network.proofs.Evaluating.{evaluate-settled, evaluate-read}
 use Rattle.network.proofs.Listings.{good-sound}
+use Rattle.network.proofs.Mapping.{mapped-consistent, mapped-answers}
 use Rattle.extract_laws.specs.Divisor.{Divisor, pair, sum, own, sound, rewrite}
 use Rattle.extract_laws.specs.Extract.{redo, nextFree, step}
 use Rattle.extract_laws.specs.Meaning.{Good, Fit}
@@ -65,16 +65,12 @@ module _ (n : Net) (g : Good n) (d : Divisor) (fit : Fit n d) where
 
     -- what fits the step's network fits the network before
     pub step-consistent : Consistent n s a
-    step-consistent = record {
-      inputs = c .inputs;
-      divisors = λ e i. c .divisors (redo (2 * nextFree n) d e) (Memᴰ·append-left _ (map-in (redo (2 * nextFree n) d) i)) ∙ kept (e .cubes) (in-divisor n i);
-    }
+    step-consistent =
+        mapped-consistent (rewrite (2 * nextFree n) d) n a kept s (record { inputs = c .inputs; divisors = λ e i. c .divisors e (Memᴰ·append-left _ i) })
 
     -- with the same outputs
     pub step-answers : answers (step n d) a ≡ answers n a
-    step-answers =
-        map-map (value (lit a)) (rewrite (2 * nextFree n) d) (n .outputs)
-        ∙ map-cong (λ f. value (lit a) (rewrite (2 * nextFree n) d f)) (value (lit a)) (n .outputs) (λ f i. kept f (in-output n i))
+    step-answers = mapped-answers (rewrite (2 * nextFree n) d) n a kept
 
   -- outputs after a step are those before, for every setting
   pub step-evaluate : (s : ℕ) → evaluate (step n d) s ≡ evaluate n s

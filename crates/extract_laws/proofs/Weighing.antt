@@ -1,5 +1,5 @@
 -- The literals that a step saves are its weight; how many cubes it leaves. Assumes nothing.
-use Prim.Native.Nat.{ℕ, suc, _+_, _*_, _-_, _<_, _≤_}
+use Prim.Native.Nat.{ℕ, suc, _+_, _*_, _-_, _<_}
 use mathlib.Core.Path.{_≡_, refl, sym, ap, _∙_}
 use mathlib.Core.Bool.{true, false, not}
 use mathlib.Core.List.{List, [], _∷_, map, Memᴰ·cast}
@@ -18,7 +18,7 @@ use Rattle.sets.proofs.Lists.{total-or, total-same, pairwise-keep, pairwise-map
 use Rattle.sets.proofs.Sets.{without-mem, without-asc, insert-length, union-length, length-rejoin, same-self}
 use Rattle.expression.specs.Expression.{expression, literalsOf}
 use Rattle.expression.proofs.Sorting.{total-sort}
-use Rattle.network.specs.Net.{Net, nodes, variables, cubeCount, literalCount}
+use Rattle.network.specs.Net.{Net, nodes, literalCount}
 use Rattle.network.specs.Meaning.{Reads}
 use Rattle.extract_laws.specs.Divisor.{Divisor, pair, sum, own, small, sound, useOf, part, hit, gone, found, bases, uses, swap, rewrite}
 use Rattle.extract_laws.specs.Extract.{nextFree, step, allUses, basesLiterals, weight}

@@ -1,13 +1,14 @@
 -- A run of a number of steps, and why it stops.
 use mathlib.Core.Bool.{cond}
-use mathlib.Core.List.{List, [], _∷_, map}
+use mathlib.Core.List.{List, [], _∷_}
 use mathlib.Core.Option.{Option, none, some}
 use Prim.Native.Nat.{ℕ, zero, suc}
 use lib.Dec.{ltb}
 use lib.IntN.{ℤ, pos}
 use lib.Signed.{ltZ}
 use Rattle.expression.specs.Expression.{sort}
-use Rattle.network.specs.Net.{Node, Net, variables, cubeCount, literalCount}
+use Rattle.network.specs.Net.{Net, variables, cubeCount, literalCount}
+use Rattle.network.specs.Map.{mapNodes}
 use Rattle.network.specs.Held.{mostVariables, mostCubes}
 use Rattle.extract_laws.specs.Divisor.{Divisor}
 use Rattle.extract_laws.specs.Extract.{allUses, weight, best, nextFree, step}
@@ -79,11 +80,7 @@ runFrom (suc k) n = elim (move n) [
 
 -- the cubes of every node in cube order
 unfoldable pub inOrder : Net → Net
-inOrder n = record {
-  inputs = n .inputs;
-  outputs = map sort (n .outputs);
-  divisors = map (λ (e : Node). record { number = e .number; cubes = sort (e .cubes) }) (n .divisors);
-}
+inOrder n = mapNodes sort n
 
 -- a run of k steps
 unfoldable pub run : ℕ → Net → Result
