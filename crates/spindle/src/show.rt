@@ -6,11 +6,7 @@ use libc::STDERR_FILENO;
 use network::Network;
 use network::Number;
 use std::num;
-
-enum Setting {
-    Is(u64),
-    Wrong,
-}
+use table_rows::Setting;
 
 // ---- the nodes
 
@@ -79,38 +75,6 @@ pub fn show(n: Network) {
 
 // ---- one setting
 
-// The setting with input i as the character says.
-fn set(value: u64, i: usize, b: u8) -> Setting {
-    if b == b'0' {
-        return Setting::Is(value);
-    }
-    if b != b'1' {
-        return Setting::Wrong;
-    }
-    if i >= 64 {
-        return Setting::Wrong;
-    }
-    Setting::Is(value | (1u64 << i))
-}
-
-// A character for each input, input 0 first.
-fn setting_of(word: &[u8], inputs: usize) -> Setting {
-    if word.len() != inputs {
-        return Setting::Wrong;
-    }
-    let mut value: u64 = 0;
-    let mut i = 0;
-    while i < word.len() {
-        let next = set(value, i, word[i]);
-        let Setting::Is(x) = next else {
-            return Setting::Wrong;
-        };
-        value = x;
-        i += 1;
-    }
-    Setting::Is(value)
-}
-
 // How many characters a setting needs, to standard error.
 fn complain(inputs: usize) {
     io::write_all(STDERR_FILENO, b"spindle: the setting needs ");
@@ -140,7 +104,7 @@ fn print_answers(outputs: usize, answer: u64) {
 
 // A line for each output: on or off.
 pub fn ask(n: Network, word: &[u8]) {
-    let s = setting_of(word, n.inputs);
+    let s = table_rows::setting_of(word, n.inputs);
     let Setting::Is(setting) = s else {
         complain(n.inputs);
         return;

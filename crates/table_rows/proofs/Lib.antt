@@ -1,3 +1,4 @@
 pub mod Covering
 pub mod Cubing
 pub mod Writing
+pub mod Settings

@@ -1,14 +1,18 @@
 -- What reading a cube line answers.
 use Prim.Native.Nat.{ℕ}
 use mathlib.Core.Bool.{cond, _&&_}
-use mathlib.Core.List.{List}
+use mathlib.Core.List.{List, map}
 use mathlib.Core.Option.{Option, none, some}
-use lib.Dec.{leb}
+use lib.Dec.{eqb, leb}
+use lib.ListN.{length}
+use Rattle.sets.specs.Lists.{all}
 use Rattle.sets.specs.Masks.{packed}
 use Rattle.cube.specs.Cube.{lits}
-use Rattle.table_rows.specs.Lines.{mostPlaces, CubeLine, cubeLineOf, cubeOf, rowsIn}
+use Rattle.table_rows.specs.Lines.{mostPlaces, isMark, CubeLine, cubeLineOf, cubeOf, rowsIn}
 use Rattle.table_rows.specs.declared.Parsed.{Parsed}
 use Rattle.table_rows.specs.declared.Parsed.the-variants.{Line, Nothing}
+use Rattle.table_rows.specs.declared.Setting.{Setting}
+use Rattle.table_rows.specs.declared.Setting.the-variants.{Is, Wrong}
 
 -- a cube line's cube, the outputs with a `1` as a mask, and how many there are
 pub record Entry : Type 0 where
@@ -27,3 +31,7 @@ entryOf (some l) = some (record { cube = cubeOf l; marks = packed (l .marks); ro
 -- numbers of inputs and outputs past the most are none of a table's
 unfoldable pub parsing : ℕ → ℕ → List ℕ → Option Entry
 parsing n m c = cond (leb n mostPlaces && leb m mostPlaces) (entryOf (cubeLineOf n m c)) none
+
+-- the setting of n inputs that a word writes: n of `0 1`, input i on where character i is `1`
+unfoldable pub settingOf : ℕ → List ℕ → Setting
+settingOf n w = cond (leb n mostPlaces && (eqb (length w) n && all isMark w)) (Is (packed (map (eqb 49) w))) Wrong

@@ -10,7 +10,7 @@ ghost use Rattle.sets.specs.Lists.{all};
 ghost use Rattle.sets.specs.Masks.{packed};
 ghost use Rattle.cube.specs.Cube.{width, lits};
 ghost use Rattle.table_rows.specs.Lines.{mostPlaces, cubeFrom};
-ghost use Rattle.table_rows.specs.Answers.{parsedOf, parsing};
+ghost use Rattle.table_rows.specs.Answers.{parsedOf, parsing, settingOf};
 ghost use Rattle.table_rows.specs.Parts.{isSign, placed, roomy, hasMarks, entered, markedLine};
 
 // The most inputs, and the most outputs, of a table.
@@ -20,6 +20,12 @@ const MOST: usize = 32;
 pub enum Parsed {
     Line(Cube, u64, u64),
     Nothing,
+}
+
+// A setting of the inputs, as the number whose bit i is input i.
+pub enum Setting {
+    Is(u64),
+    Wrong,
 }
 
 // Whether b is `0` or `1`, or `-` where that may be.
@@ -146,4 +152,17 @@ pub fn cube_line(c: &[u8], n: usize, m: usize) -> Parsed
         return Parsed::Nothing;
     }
     marked(c, n, table_lines::trim_front(&c[n..]), m)
+}
+
+// The setting that a word writes as a cube line writes its marks: `0` or `1` for each input, input 0 first.
+pub fn setting_of(word: &[u8], inputs: usize) -> Setting
+    ensures { λ r. ⌜ r ≡ settingOf inputs (now (word .entry)) ⌝ }
+{
+    if inputs > MOST {
+        return Setting::Wrong;
+    }
+    if has_marks(word, inputs) {
+        return Setting::Is(marks_of(word));
+    }
+    Setting::Wrong
 }
