@@ -5,7 +5,7 @@ use mathlib.Core.List.{List, [], _∷_, _++_, append-assoc, append-nil}
 use native.Mathlib.Numerals.{add-one}
 use native.Mathlib.Omega.{arith}
 use lib.ListN.{length, getD, take, drop, replicate}
-use lib.ListN.{take-append-drop, length-append, length-drop, length-replicate, drop-of-length-le, replicate-append-replicate}
+use lib.ListN.{take-append-drop, length-append, length-drop, length-replicate, replicate-append-replicate}
 use lib.Seq.{set-split, drop-drop, take-at, drop-at, take-all, length-take-le, append-snoc, take-suc}
 use Rattle.sets.proofs.Truth.{Stand, below, equal, beyond, stand}
 use Rattle.expression.specs.Words.{cubeWords, cubesOf, Put, Placed, Appends, fitting, blanks, Front}
@@ -245,26 +245,3 @@ module _ {ws : List ℕ} {n : ℕ} {f : List (List ℕ)} (p : Front ws n f) wher
         ∙ ap (λ x. f ++ (g ++ x)) (drop-at (replicate (length g) []) _ (length g) (length-replicate (length g) []))
         ∙ sym (append-assoc f g _);
   }
-
--- empty cubes at the end are as good as none
-pub front-blank : {ws : List ℕ} {n : ℕ} (f : List (List ℕ)) (k : ℕ) → Front ws n (f ++ replicate k []) → Front ws n f
-front-blank {n = n} f k p =
-    let z : length (f ++ replicate k []) ≡ length f + k = length-append f _ ∙ ap (length f +_) (length-replicate {A = List ℕ} k []) in
-    let e : k + (n - length (f ++ replicate k [])) ≡ n - length f = omega (arith, p .few) in
-    record {
-      few = omega (arith, p .few);
-      cubes = p .cubes ∙ append-assoc f (replicate k []) _ ∙ ap (f ++_) (replicate-append-replicate k _ [] ∙ ap (λ x. replicate x []) e);
-    }
-
--- the places after the cubes f are cleared
-pub front-clear : {ws new : List ℕ} (f : List (List ℕ)) → length f ≤ length (cubesOf ws) → take (length f) (cubesOf ws) ≡ f
-    → Placed ws new (length f) (replicate (length (cubesOf ws) - length f) []) → Front new (length (cubesOf ws)) f
-front-clear {ws} f h e p = record {
-  few = h;
-  cubes =
-      let k = length (cubesOf ws) - length f in
-      p .cubes ∙ ap₂ (λ x y. x ++ (replicate k [] ++ y)) e
-      (ap (λ n. drop n (drop (length f) (cubesOf ws))) (length-replicate {A = List ℕ} k [])
-      ∙ drop-of-length-le (drop (length f) (cubesOf ws)) {i = k} (omega (arith, length-drop (length f) (cubesOf ws))))
-      ∙ ap (f ++_) (append-nil _);
-}

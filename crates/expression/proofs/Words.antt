@@ -276,12 +276,6 @@ module _ (ws : List ℕ) (n : ℕ) where
   pub room-cubes : length ws ≡ cubeWords * n → length (cubesOf ws) ≡ n
   room-cubes h = omega (arith, cubes-length ws)
 
-  pub room-spare : length ws ≡ cubeWords * n → spareOf ws ≡ []
-  room-spare h = nil-of (spareOf ws) (omega (arith, spare-length ws, cubes-length ws))
-
-  pub room-words : length (cubesOf ws) ≡ n → spareOf ws ≡ [] → length ws ≡ cubeWords * n
-  room-words h e = omega (arith, spare-length ws, ap length e)
-
 pub put-past : (ws : List ℕ) (i : ℕ) (c : List ℕ) → length ws / 2 ≤ i → Put ws ws i c
 put-past ws i c h = record { cubes = sym (set-out (cubesOf ws) i c (omega (arith, cubes-length ws))); spare = refl }
 

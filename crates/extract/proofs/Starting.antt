@@ -4,7 +4,6 @@ use mathlib.Core.Path.{_≡_, refl, sym, ap, _∙_, subst}
 use mathlib.Core.Bool.{true, false}
 use mathlib.Core.Option.{some}
 use native.Mathlib.Omega.{arith}
-use lib.ListN.{length}
 use Rattle.sets.proofs.Lists.{_∈_}
 use Rattle.network.specs.Net.{Net, nodes}
 use Rattle.network.specs.Held.{netOf, rules}

@@ -6,7 +6,6 @@ use mathlib.Core.Bool.{true, false}
 use mathlib.Core.List.{List, [], _++_, List·Memᴰ·not-nil}
 use mathlib.Core.Option.{Option, none, some, Option·none-ne-some}
 use native.Mathlib.Omega.{arith}
-use lib.ListN.{length}
 use lib.IntN.{pos}
 use lib.Signed.{ltZ}
 use Rattle.sets.specs.Lists.{all, from}
@@ -17,7 +16,6 @@ use Rattle.cube.specs.Cube.{lits}
 use Rattle.cube.specs.declared.Cube.{Cube}
 use Rattle.sets.proofs.Lists.{_∈_}
 use Rattle.expression.specs.Expression.{ordered}
-use Rattle.expression.proofs.Words.{cubes-length}
 use Rattle.network.specs.Net.{Net}
 use Rattle.network.specs.Held.{netOf}
 use Rattle.network.specs.Handed.{flat, nodeSlots, Shaped}

@@ -9,7 +9,6 @@ use native.Mathlib.Omega.{arith}
 use lib.Dec.{ltb}
 use lib.ListN.{length}
 use borrow.Author.Tests.{ltb-true, lt-ltb, le-ltb, ne-eqb}
-use Rattle.sets.specs.Lists.{all}
 use Rattle.sets.specs.Literal.{oppositeOf}
 use Rattle.sets.specs.Sets.{mem, apart, asc, proper, firstFrom, before}
 use Rattle.sets.proofs.Truth.{both, iff, clash, refuted, stand, below, equal, beyond}

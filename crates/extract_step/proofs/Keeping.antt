@@ -5,7 +5,7 @@ use mathlib.Core.Bool.{Bool, true, false, cond, _&&_}
 use mathlib.Core.Option.{none}
 use native.Mathlib.Omega.{arith}
 use lib.Dec.{ltb}
-use lib.ListN.{length, length-map}
+use lib.ListN.{length-map}
 use borrow.Author.Tests.{ltb-true, ltb-false}
 use Rattle.sets.proofs.Truth.{both}
 use Rattle.sets.proofs.Lists.{_∈_}

@@ -1,14 +1,11 @@
 -- Which test decides that a network is arranged. Assumes nothing.
-use Prim.Native.Nat.{ℕ, _+_, _-_, _<_}
-use mathlib.Core.Path.{_≡_, sym, ap₂, _∙_}
+use Prim.Native.Nat.{ℕ, _+_, _-_}
+use mathlib.Core.Path.{_≡_, sym, ap₂}
 use mathlib.Core.Bool.{Bool, true, _&&_}
-use mathlib.Core.List.{List, []}
-use native.Mathlib.Omega.{arith}
-use lib.ListN.{getD, take, drop}
-use Rattle.sets.specs.Lists.{all, total}
+use mathlib.Core.List.{List}
+use Rattle.sets.specs.Lists.{all}
 use Rattle.sets.proofs.Truth.{both}
 use Rattle.sets.proofs.Lists.{_∈_, all-in}
-use Rattle.expression.specs.Words.{cubesOf}
 use Rattle.expression.specs.Expression.{ordered}
 use Rattle.network.specs.Net.{nodes}
 use Rattle.network.specs.Held.{netOf, sized, ruled, rules}
@@ -16,8 +13,6 @@ use Rattle.network.specs.Handed.{Shaped}
 use Rattle.network.specs.Parts.{nodesOf, Limited}
 use Rattle.network.specs.declared.Network.{Network}
 use Rattle.network.proofs.Holding.{nodes-held}
-use Rattle.network_nodes.proofs.Cutting.{cut-node}
-use Rattle.network.proofs.Parts.{nodes-at}
 use Rattle.network.proofs.Limits.{sized-out}
 use Rattle.extract_tidy.specs.Tidy.{arranged}
 

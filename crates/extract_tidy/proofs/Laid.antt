@@ -11,7 +11,6 @@ use Rattle.sets.proofs.Lists.{total-append, total-map, total-le, total-take-le}
 use Rattle.sets.proofs.Rows.{take-next, getD-map}
 use Rattle.expression.specs.Words.{cubesOf, Placed, fitting}
 use Rattle.expression.specs.Expression.{sort}
-use Rattle.expression.proofs.Sorting.{sort-length}
 use Rattle.expression.proofs.Placing.{placed-as, placed-fitting, placed-sort}
 use Rattle.network_nodes.specs.Nodes.{cut}
 use Rattle.network_nodes.proofs.Cutting.{cut-lengths}

@@ -1,7 +1,7 @@
 -- F/l and the rest are the quotient and the remainder of weak division by l, and stand in cube order, at each level of the form. Assumes nothing.
 use Prim.Native.Nat.{ℕ, zero, suc, _<_, _≤_}
 use mathlib.Core.Path.{_≡_, refl, sym, _∙_, ap, subst, fun-ext}
-use mathlib.Core.Bool.{Bool, true, false, cond, not, and-true}
+use mathlib.Core.Bool.{true, false, not, and-true}
 use mathlib.Core.List.{List, [], _∷_, map}
 use mathlib.Core.Logic.{_⊎_, inl, inr}
 use native.Mathlib.Omega.{arith}

@@ -1,13 +1,13 @@
 -- A part of the cubes from one place up to another: its first cube and the others, one cube more at its end, and how a part falls in two
 -- in place. Assumes nothing.
-use Prim.Native.Nat.{ℕ, zero, suc, _+_, _-_, _*_, _/_, _<_, _≤_}
+use Prim.Native.Nat.{ℕ, zero, suc, _+_, _-_, _*_, _<_, _≤_}
 use mathlib.Core.Path.{_≡_, refl, sym, _∙_, ap}
-use mathlib.Core.Bool.{Bool, true, false, cond, not}
+use mathlib.Core.Bool.{true, false, not}
 use mathlib.Core.List.{List, [], _∷_, _++_, map, map-append, append-assoc, append-nil}
 use native.Mathlib.Numerals.{add-one}
 use native.Mathlib.Omega.{arith}
 use lib.ListN.{length, getD, take, drop, set}
-use lib.Seq.{slice, slice-empty, slice-cons, take-suc, drop-append-le, length-take-le, take-suc-set, drop-set-lt, drop-drop, getD-drop, take-take}
+use lib.Seq.{slice, slice-empty, slice-cons, take-suc, drop-append-le, length-take-le, drop-set-lt, drop-drop, getD-drop, take-take}
 use lib.Seq.{take-at, drop-at, take-nil}
 use Rattle.sets.specs.Lists.{keep, isNil}
 use borrow.Author.Tests.{lt-ltb}

@@ -2,13 +2,10 @@
 use Prim.Native.Nat.{ℕ}
 use mathlib.Core.Path.{_≡_, refl, sym, _∙_, ap}
 use mathlib.Core.List.{List, [], _∷_, _++_, append-nil}
-use Rattle.sets.proofs.Literals.{literals-none}
-use Rattle.cube.specs.Cube.{width}
 use Rattle.letters_products.specs.Products.{cubeText}
-use Rattle.expression.specs.Words.{cubesOf}
 use Rattle.expression.specs.Expression.{place, sort}
 use Rattle.factor.specs.Form.{formBy, formOf}
-use Rattle.factor.specs.Text.{sumText, formText, textOf}
+use Rattle.factor.specs.Text.{sumText, formText}
 
 module _ {A : Type 0} (text : A → List ℕ) (b : ℕ) where
   -- a byte and a text, for each

@@ -46,7 +46,3 @@ refused-rules n x h = go (rules n) refl h
     go : (b : Bool) → rules n ≡ b → cond b Accepted (Refused 10) ≡ Refused x → rules n ≡ false
     go true e t = let z : _≡_ {A = ℕ} 0 1 = cc in absurd (omega arith)
     go false e t = e
-
-pub rules-refused : (n : Network) → rules n ≡ false → judged n ≡ Refused 10
-unfolding judged
-rules-refused n h = rw h

@@ -1,6 +1,6 @@
 -- What a node of a network by value hangs on: which expression it is, what its divisors are, and that an output answers alike wherever
 -- these are kept. Assumes nothing.
-use Prim.Native.Nat.{ℕ, _+_, _<_}
+use Prim.Native.Nat.{ℕ, _<_}
 use mathlib.Core.Path.{_≡_, sym, ap, _∙_, subst}
 use mathlib.Core.Logic.{_↔_, inl, inr}
 use mathlib.Core.Bool.{true}
@@ -8,12 +8,12 @@ use mathlib.Core.List.{[], List·Memᴰ·append-cases}
 use lib.ListN.{getD}
 use Rattle.sets.specs.Masks.{bit}
 use Rattle.sets.proofs.Lists.{_∈_, map-out}
-use Rattle.network.specs.Net.{Node, Net, nodes, cubesAt}
+use Rattle.network.specs.Net.{Node, Net, nodes}
 use Rattle.network.specs.Meaning.{Reads, IsVariable, Sound}
 use Rattle.network.specs.Held.{netOf, rules}
 use Rattle.network.specs.Evaluation.{evaluate}
 use Rattle.network.specs.declared.Network.{Network}
-use Rattle.network.proofs.Holding.{nodes-held, output-held, divisor-held, rules-sound}
+use Rattle.network.proofs.Holding.{nodes-held, output-held, rules-sound}
 use Rattle.network_hangs.specs.Hangs.{hangsOn, hangsAt}
 use Rattle.network_hangs.proofs.Hanging.{IsDivisor, Leans, KeepsAlone, known-at, hangs-iff, hangs-output}
 
@@ -36,9 +36,6 @@ module _ (n : Network) (h : rules n ≡ true) where
   -- outputs are the first nodes, divisors come after them
   pub hangs-first : (j : ℕ) → j < n .outputs → hangsAt n j ≡ hangsOn (netOf n) (getD ((netOf n) .outputs) j [])
   hangs-first j k = hangs-node j ∙ ap (hangsOn (netOf n)) (ap (λ l. getD l j []) (nodes-held n) ∙ sym (output-held n j k))
-
-  pub hangs-after : (j : ℕ) → hangsAt n (n .outputs + j) ≡ hangsOn (netOf n) (cubesAt (n .inputs + j) ((netOf n) .divisors))
-  hangs-after j = hangs-node (n .outputs + j) ∙ ap (hangsOn (netOf n)) (ap (λ l. getD l (n .outputs + j) []) (nodes-held n) ∙ sym (divisor-held n j))
 
 -- two networks by the rules answer alike at an output that both have, where the divisors that it hangs on are kept
 pub hangs-kept : (n m : Network) → rules n ≡ true → rules m ≡ true → (j : ℕ) → j < n .outputs → getD ((netOf n) .outputs) j [] ≡ getD ((netOf m) .outputs) j []

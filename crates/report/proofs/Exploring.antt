@@ -1,18 +1,17 @@
 -- What a run on the network of a table leaves: the counts, steps and reason are those of the definitions. Assumes nothing.
-use Prim.Native.Nat.{ℕ, _+_, _/_, _<_, _≤_}
+use Prim.Native.Nat.{ℕ}
 use mathlib.Core.Path.{_≡_, refl, sym, ap, _∙_, subst}
 use mathlib.Core.Bool.{true}
-use mathlib.Core.List.{List, [], map, append-nil, List·Memᴰ·not-nil}
+use mathlib.Core.List.{List, map}
 use mathlib.Core.Option.{Option, some}
 use native.Mathlib.Omega.{arith}
-use lib.ListN.{length, take}
-use Rattle.network.specs.Net.{Node, Net, nodes, variables, literalCount}
+use lib.ListN.{take}
+use Rattle.network.specs.Net.{Net, literalCount}
 use Rattle.network.specs.Held.{netOf, rules}
 use Rattle.network.specs.Answers.{counted}
 use Rattle.network.specs.declared.Network.{Network}
 use Rattle.network.specs.declared.Number.the-variants.{Is}
 use Rattle.network.proofs.Handing.{holds-net}
-use Rattle.network.proofs.Holding.{rules-divisors}
 use Rattle.network.specs.Handed.{Shaped}
 use Rattle.extract_laws.specs.Run.{Made, Result, run}
 use Rattle.extract_laws.specs.Meaning.{Good, Within}

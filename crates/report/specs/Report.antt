@@ -1,10 +1,10 @@
 -- The report on a table text, as bytes. Every line ends with LF.
 use Prim.Native.Nat.{ℕ, suc}
 use mathlib.Core.List.{List, [], _∷_, _++_}
-use lib.IntN.{ℤ, pos, negsuc, _-ℤ_}
+use lib.IntN.{ℤ, pos, negsuc}
 use Rattle.letters.specs.Letters.{decimal}
 use Rattle.letters_products.specs.Products.{cubeText}
-use Rattle.network.specs.Net.{Net, variables, literalCount}
+use Rattle.network.specs.Net.{Net, literalCount}
 use Rattle.extract_laws.specs.Divisor.{Divisor, pair, sum}
 use Rattle.extract_laws.specs.Run.{Stop, done, asked, numbers, rows, Made, Result, run}
 use Rattle.table.specs.Table.{Outcome, accepted, refused, readText, tableNet}

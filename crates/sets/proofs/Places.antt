@@ -9,7 +9,7 @@ use native.Mathlib.Numerals.{add-one}
 use native.Mathlib.Omega.{arith}
 use lib.ListN.{length, getD, take, drop, set, drop-of-length-le}
 use lib.Seq.{take-suc, drop-cons}
-use Rattle.sets.specs.Lists.{all, keep, pairwise, total}
+use Rattle.sets.specs.Lists.{all, pairwise, total}
 use Rattle.sets.proofs.Truth.{together}
 use Rattle.sets.proofs.Lists.{_∈_, all-in, all-out, ahead, total-append}
 
@@ -46,12 +46,6 @@ module _ {A : Type 0} where
     pub all-on : (p : A → Bool) → p (getD l i d) ≡ true → all p (drop i l) ≡ all p (drop (i + 1) l)
     all-on p e = rw (drop-next, e)
 
-    pub keep-on : (p : A → Bool) → p (getD l i d) ≡ true → keep p (drop i l) ≡ getD l i d ∷ keep p (drop (i + 1) l)
-    keep-on p e = rw (drop-next, e)
-
-    pub keep-off : (p : A → Bool) → p (getD l i d) ≡ false → keep p (drop i l) ≡ keep p (drop (i + 1) l)
-    keep-off p e = rw (drop-next, e)
-
     pub pairwise-stop : (r : A → A → Bool) → all (r (getD l i d)) (drop (i + 1) l) ≡ false → pairwise r (drop i l) ≡ false
     pairwise-stop r e = rw (drop-next, e)
 
@@ -61,9 +55,6 @@ module _ {A : Type 0} where
   module _ (l : List A) (i : ℕ) (h : length l ≤ i) where
     pub all-done : (p : A → Bool) → all p (drop i l) ≡ true
     all-done p = rw (drop-of-length-le l h)
-
-    pub keep-done : (p : A → Bool) → keep p (drop i l) ≡ []
-    keep-done p = rw (drop-of-length-le l h)
 
     pub pairwise-done : (r : A → A → Bool) → pairwise r (drop i l) ≡ true
     pairwise-done r = rw (drop-of-length-le l h)

@@ -7,7 +7,7 @@ use native.Mathlib.Nat.{zero-add}
 use native.Mathlib.Numerals.{add-one}
 use native.Mathlib.Omega.{arith}
 use lib.ListN.{length, getD, take, drop, set, replicate}
-use lib.Seq.{sets, take-nil, take-suc, take-suc-set, set-at, append-snoc, length-take-le}
+use lib.Seq.{sets, take-nil, take-suc, take-suc-set}
 use Rattle.sets.specs.Lists.{isNil, total, from}
 use Rattle.sets.proofs.Truth.{clash}
 use Rattle.sets.proofs.Lists.{total-append}
@@ -50,16 +50,6 @@ module _ {A : Type 0} where
   drop-replicate zero n x = let e : n ≡ n - 0 = omega arith in ap (λ m. replicate m x) e
   drop-replicate (suc k) zero x = let e : 0 ≡ 0 - suc k = omega arith in ap (λ m. replicate m x) e
   drop-replicate (suc k) (suc n) x = let e : n - k ≡ suc n - suc k = omega arith in drop-replicate k n x ∙ ap (λ m. replicate m x) e
-
-  -- a front part of a list, filled up to n elements: one element more
-  pub filled-next : (n : ℕ) (z : A) (l : List A) (i : ℕ) → i < length l → i < n
-      → set (take i l ++ replicate (n - i) z) i (getD l i z) ≡ take (i + 1) l ++ replicate (n - (i + 1)) z
-  filled-next n z l i h k =
-      let e : n - i ≡ suc (n - (i + 1)) = omega arith in
-      ap (λ (x : ℕ). set (take i l ++ replicate x z) i (getD l i z)) e
-      ∙ set-at (take i l) z (replicate (n - (i + 1)) z) (getD l i z) i (length-take-le i l (omega arith))
-      ∙ sym (append-snoc (take i l) (getD l i z) (replicate (n - (i + 1)) z))
-      ∙ ap (_++ replicate (n - (i + 1)) z) (sym (take-next l i z h))
 
   -- ---- one list stored after another
 

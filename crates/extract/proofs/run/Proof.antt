@@ -1,7 +1,6 @@
 -- `extract::run` meets its contract: the run of the network in cube order, or the refusal. Assumes nothing.
 use mathlib.Core.Path.{_≡_, refl}
 use mathlib.Core.Bool.{true}
-use lib.ListN.{length}
 use Rattle.network.specs.Held.{netOf, rules}
 use Rattle.network.specs.Handed.{Holds, Shaped}
 use Rattle.network.proofs.Handing.{shape-of}

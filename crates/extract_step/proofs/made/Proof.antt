@@ -1,9 +1,9 @@
 -- `extract_step::made` meets its contract: the nodes are laid rewritten, and the divisor's own after them where there is room. Assumes nothing.
 use Prim.Native.Nat.{ℕ, _+_, _-_, _*_, _≤_}
-use mathlib.Core.Path.{_≡_, refl, sym, ap, _∙_, subst}
+use mathlib.Core.Path.{_≡_, refl, ap, _∙_, subst}
 use mathlib.Core.List.{map}
 use native.Mathlib.Omega.{arith}
-use lib.ListN.{set, length-map}
+use lib.ListN.{set}
 use Rattle.expression.specs.Answers.{capped}
 use Rattle.network.specs.Net.{nodes, cubeCount, literalCount}
 use Rattle.network.specs.Held.{mostCubes}
@@ -15,7 +15,7 @@ use Rattle.extract_laws.specs.Divisor.{rewrite}
 use Rattle.extract_laws.specs.Extract.{step}
 use Rattle.extract_divisor.specs.Divisor.{divisorOf}
 use Rattle.extract_step.specs.Replace.{allowed}
-use Rattle.extract_step.proofs.Answering.{laid-nodes, laid-count, laid-literals, step-laid, step-held, next, room-rows, room-literals}
+use Rattle.extract_step.proofs.Answering.{laid-count, laid-literals, step-laid, step-held, next, room-rows, room-literals}
 use Rattle.extract_step.proofs.Answering.{room-over, room-made, stepped-as}
 use borrow.Author.Needs.{needs}
 use Rattle.extract_step.proofs.made.Statement.{statement}

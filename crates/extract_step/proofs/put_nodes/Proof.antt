@@ -4,7 +4,7 @@ use mathlib.Core.Path.{_≡_, refl, sym, ap, subst}
 use mathlib.Core.Bool.{true}
 use mathlib.Core.List.{List, [], map}
 use native.Mathlib.Omega.{arith}
-use lib.ListN.{length, getD, take}
+use lib.ListN.{length, take}
 use Rattle.sets.proofs.Lists.{all-out}
 use Rattle.sets.proofs.Places.{at-in}
 use Rattle.expression.specs.Words.{cubesOf}
@@ -13,7 +13,6 @@ use Rattle.network.specs.Handed.{LaidNodes}
 use Rattle.network.specs.Parts.{nodesOf}
 use Rattle.network.proofs.Laying.{laid-none}
 use Rattle.network.proofs.Parts.{nodes-length, nodes-at}
-use Rattle.network_nodes.specs.Nodes.{cut}
 use Rattle.extract_laws.specs.Divisor.{rewrite}
 use Rattle.extract_tidy.proofs.Laid.{nodes-laid, node-fits, node-laid}
 use Rattle.extract_divisor.specs.Divisor.{divisorOf}

@@ -12,7 +12,6 @@ use Rattle.expression.proofs.Words.{cubes-few}
 use Rattle.network.specs.Handed.{LaidNodes}
 use Rattle.network.specs.Parts.{nodesOf}
 use Rattle.network.proofs.Laying.{laid-none}
-use Rattle.extract_tidy.specs.Parts.{Laid}
 use Rattle.extract_tidy.proofs.Laid.{nodes-laid, node-fits, node-laid, sorted-copy}
 use Rattle.extract_tidy.proofs.lay_nodes.Statement.{statement}
 use Rattle.extract_tidy.proofs.lay_nodes.Tie as tie

@@ -3,7 +3,6 @@ use Prim.Native.Nat.{ℕ}
 use mathlib.Core.Path.{_≡_, sym, _∙_}
 use native.Mathlib.Omega.{arith}
 use borrow.Author.Needs.{needs}
-use lib.ListN.{length}
 use Rattle.network.specs.Net.{literalCount}
 use Rattle.network.specs.Held.{netOf}
 use Rattle.network.specs.Answers.{counted}

@@ -1,5 +1,4 @@
 -- `table_names::after_number` meets its contract: one digit, or one after the other. Assumes nothing.
-use Prim.Native.Nat.{_+_, _/_, _%_}
 use mathlib.Core.Path.{_∙_, ap}
 use borrow.Author.Tests.{lt-ltb, le-ltb}
 use Rattle.table_names.specs.Names.{after, afterNumber}
