@@ -21,7 +21,8 @@ use Rattle.extract_laws.specs.Run.{roomFor, choose, move, prepare, runFrom, inO
 use Rattle.image_fields.specs.Fields.{bitsOf, valueOf, fieldBits, bytesFrom, bitsIn}
 use Rattle.image_laws.specs.Renumber.{indexOf, newNumber, newLiteral, newCube, newNode, renumbered}
 use Rattle.image_laws.specs.Image.{cubeFields, nodeFields, headFields, netFields, netBytes, imageOf}
-use Rattle.image_laws.specs.Reading.{getField, getMany, getLiterals, getCube, getNode, getNodes, getRaw, padding, summed, inTheOrder, readsEarlier, allInOrder, judgeRaw, readImage}
+use Rattle.image_laws.specs.Reading.{getField, getMany, getLiterals, getCube, getNode, getNodes, getRaw, padding, summed, inTheOrder, readsEarlier}
+use Rattle.image_laws.specs.Reading.{allInOrder, judgeRaw, readImage}
 use Rattle.cases.specs.Tests.{alike, equalCubes, sameInteger, sameDivisor, turn, sameStop, equalNode, sameNet}
 use Rattle.cases.specs.Cases.{Case, begins, finishes, readAs, isRight, f₁, f₆, f₉, f₁₂, image₅, table}
 use Rattle.cases.specs.Meaning.{Says}

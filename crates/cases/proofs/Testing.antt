@@ -22,7 +22,8 @@ use Rattle.image_laws.specs.Image.{imageOf}
 use Rattle.network.specs.Handed.{Return, gives, refuses}
 use Rattle.image_laws.specs.Reading.{readImage}
 use Rattle.cases.specs.Tests.{alike, equalCubes, sameInteger, sameDivisor, turn, sameStop, equalNode, sameNet}
-use Rattle.cases.specs.Cases.{Case, hasCokernels, divides, hasText, counts, weighs, takes, ends, hasImage, readsBack, whole, begins, finishes, readAs, isRight}
+use Rattle.cases.specs.Cases.{Case, hasCokernels, divides, hasText, counts, weighs, takes, ends, hasImage, readsBack, whole, begins, finishes}
+use Rattle.cases.specs.Cases.{readAs, isRight}
 use Rattle.cases.specs.Meaning.{Says}
 
 -- ---- the tests

@@ -179,7 +179,8 @@ fn judge_new(
     held: Step,
 ) -> Step
     requires { ⌜ Orderly (now words) (now counts) e × (ordered (cubesOf (now s)) ≡ true) × Parts (lits a) (lits b) ⌝ }
-    ensures { λ r. ⌜ Adds (Nodes (nodesOf e (now (counts .entry)) (now (words .entry)))) (sumsIn (cubesOf (now (s .entry)))) (sum (lits a) (lits b) ∷ []) held r ⌝ }
+    ensures { λ r. ⌜ Adds (Nodes (nodesOf e (now (counts .entry)) (now (words .entry)))) (sumsIn (cubesOf (now (s .entry))))
+        (sum (lits a) (lits b) ∷ []) held r ⌝ }
 {
     if is_used(s, a, b) {
         return held;
@@ -209,7 +210,8 @@ fn judge_two(
     held: Step,
 ) -> Step
     requires { ⌜ Orderly (now words) (now counts) e × (ordered (cubesOf (now s)) ≡ true) ⌝ }
-    ensures { λ r. ⌜ Adds (Nodes (nodesOf e (now (counts .entry)) (now (words .entry)))) (sumsIn (cubesOf (now (s .entry)))) (sumOf (lits c) (lits d)) held r ⌝ }
+    ensures { λ r. ⌜ Adds (Nodes (nodesOf e (now (counts .entry)) (now (words .entry)))) (sumsIn (cubesOf (now (s .entry))))
+        (sumOf (lits c) (lits d)) held r ⌝ }
 {
     let a = cube_sets::without(c, d);
     let b = cube_sets::without(d, c);
@@ -237,8 +239,10 @@ fn judge_after(
     alone: bool,
     held: Step,
 ) -> Step
-    requires { ⌜ Orderly (now words) (now counts) e × (ordered (cubesOf (now s)) ≡ true) × (before (lits c) (lits d) ≡ true) × (alone ≡ true → Alone (nodesOf e (now counts) (now words)) (lits c)) ⌝ }
-    ensures { λ r. ⌜ Adds (Nodes (nodesOf e (now (counts .entry)) (now (words .entry)))) (sumsIn (cubesOf (now (s .entry)))) (sumOf (lits c) (lits d)) held r ⌝ }
+    requires { ⌜ Orderly (now words) (now counts) e × (ordered (cubesOf (now s)) ≡ true) × (before (lits c) (lits d) ≡ true)
+        × (alone ≡ true → Alone (nodesOf e (now counts) (now words)) (lits c)) ⌝ }
+    ensures { λ r. ⌜ Adds (Nodes (nodesOf e (now (counts .entry)) (now (words .entry)))) (sumsIn (cubesOf (now (s .entry))))
+        (sumOf (lits c) (lits d)) held r ⌝ }
 {
     if alone {
         if cube_sets::is_empty(cube_sets::common(c, d)) {
@@ -258,8 +262,10 @@ fn judge_sums_of(
     alone: bool,
     mut held: Step,
 ) -> Step
-    requires { ⌜ Orderly (now words) (now counts) e × (ordered (lits c ∷ cubesOf (now s)) ≡ true) × (alone ≡ true → Alone (nodesOf e (now counts) (now words)) (lits c)) ⌝ }
-    ensures { λ r. ⌜ Adds (Nodes (nodesOf e (now (counts .entry)) (now (words .entry)))) (sumsIn (cubesOf (now (s .entry)))) (gather (sumOf (lits c)) (cubesOf (now (s .entry)))) held r ⌝ }
+    requires { ⌜ Orderly (now words) (now counts) e × (ordered (lits c ∷ cubesOf (now s)) ≡ true)
+        × (alone ≡ true → Alone (nodesOf e (now counts) (now words)) (lits c)) ⌝ }
+    ensures { λ r. ⌜ Adds (Nodes (nodesOf e (now (counts .entry)) (now (words .entry)))) (sumsIn (cubesOf (now (s .entry))))
+        (gather (sumOf (lits c)) (cubesOf (now (s .entry)))) held r ⌝ }
 {
     let mut j = expression::number(s);
     while j > 0 {
@@ -287,7 +293,8 @@ fn judge_sums_in(
     s: &[u64],
     mut held: Step,
 ) -> Step
-    requires { ⌜ Orderly (now words) (now counts) e × (t ≡ total (λ c. c) (take e (now counts))) × (ordered (cubesOf (now s)) ≡ true) × Inside (nodesOf e (now counts) (now words)) (cubesOf (now s)) ⌝ }
+    requires { ⌜ Orderly (now words) (now counts) e × (t ≡ total (λ c. c) (take e (now counts))) × (ordered (cubesOf (now s)) ≡ true)
+        × Inside (nodesOf e (now counts) (now words)) (cubesOf (now s)) ⌝ }
     ensures { λ r. ⌜ Adds (Nodes (nodesOf e (now (counts .entry)) (now (words .entry)))) [] (sumsIn (cubesOf (now (s .entry)))) held r ⌝ }
 {
     let n = expression::number(s);
@@ -305,7 +312,8 @@ fn judge_sums_in(
 // All sums of two cubes of one node; the nodes have t cubes.
 fn judge_sums(words: &[u64], counts: &[usize], e: usize, t: usize, mut held: Step) -> Step
     requires { ⌜ Orderly (now words) (now counts) e × (t ≡ total (λ c. c) (take e (now counts))) ⌝ }
-    ensures { λ r. ⌜ Adds (Nodes (nodesOf e (now (counts .entry)) (now (words .entry)))) [] (gather sumsIn (nodesOf e (now (counts .entry)) (now (words .entry)))) held r ⌝ }
+    ensures { λ r. ⌜ Adds (Nodes (nodesOf e (now (counts .entry)) (now (words .entry)))) []
+        (gather sumsIn (nodesOf e (now (counts .entry)) (now (words .entry)))) held r ⌝ }
 {
     let mut end = t;
     let mut k = e;

@@ -128,8 +128,11 @@ module _ (n : Net) (g : Good n) where
       go (sc, se, inr (p, l)) = subst (Divides n) (sym p) (parts m j i (sym (less-left e c (in-asc m j))) (sym (less-right e c (in-asc m i))) se sc turned)
         where
           turned : before (without e c) (without c e) ≡ true
-          turned = elim (decided (before (without e c) (without c e)))
-              [ inl q ↦ q | inr q ↦ absurd (parts-differ (without c e) (without e c) sc (parts-apart c e) (before-order .linear (without c e) (without e c) l q)) ]
+          turned = elim (decided (before (without e c) (without c e))) [
+            | inl q ↦ q
+            | inr q ↦ absurd (parts-differ (without c e) (without e c) sc (parts-apart c e)
+                (before-order .linear (without c e) (without e c) l q))
+          ]
 
   candidate-out : (d : Divisor) → d ∈ candidates n → Divides n d
   unfolding candidates

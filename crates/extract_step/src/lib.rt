@@ -108,7 +108,8 @@ fn remake(f: &[u64], d: Divisor, x: Literal, c: Cube) -> Fate
 // What the cubes of f become, from place `at` on; the place after them.
 fn write_node(f: &[u64], d: Divisor, x: Literal, out: &mut [u64], at: usize) -> usize
     requires { ⌜ (ordered (cubesOf (now f)) ≡ true) × Fitted d x ⌝ ∗ ⌜ at + length (cubesOf (now f)) ≤ length (cubesOf (now out)) ⌝ }
-    ensures { λ r. ⌜ Appends (now (out .entry)) (now (out .exit)) at (become (fate (x .0) (divisorOf d) (cubesOf (now (f .entry)))) (cubesOf (now (f .entry)))) r ⌝ }
+    ensures { λ r. ⌜ Appends (now (out .entry)) (now (out .exit))
+        at (become (fate (x .0) (divisorOf d) (cubesOf (now (f .entry)))) (cubesOf (now (f .entry)))) r ⌝ }
 {
     let n = expression::number(f);
     let mut to = at;
@@ -146,7 +147,8 @@ fn put_nodes(
     sizes: &mut [usize],
 ) -> usize
     requires { ⌜ SourceNodes (now words) (now counts) e × Fitted d x ⌝ ∗ ⌜ (now out ≡ replicate wordSlots 0) × (now sizes ≡ replicate nodeSlots 0) ⌝ }
-    ensures { λ r. ⌜ LaidNodes (now (out .exit)) (now (sizes .exit)) r (map (rewrite (x .0) (divisorOf d)) (nodesOf e (now (counts .entry)) (now (words .entry)))) ⌝ }
+    ensures { λ r. ⌜ LaidNodes (now (out .exit)) (now (sizes .exit)) r
+        (map (rewrite (x .0) (divisorOf d)) (nodesOf e (now (counts .entry)) (now (words .entry)))) ⌝ }
 {
     let mut to = 0;
     let mut i = 0;
@@ -200,7 +202,9 @@ fn refused(outcome: Outcome) -> Next
 // The step, where a number is free: the new literal is the plain one of the next free number.
 fn made(words: &[u64], counts: &[usize], n: usize, m: usize, k: usize, d: Divisor) -> Next
     requires { ⌜ SourceNodes (now words) (now counts) (m + k) × (n + k < mostVariables) × (fitting width (divisorOf d) ≡ true) ⌝ }
-    ensures { λ r. ⌜ Stepped (heldIn n m k (now (counts .entry)) (now (words .entry))) (allowed (netAt n m k (now (counts .entry)) (now (words .entry))) (roomFor (netAt n m k (now (counts .entry)) (now (words .entry))) (divisorOf d))) r ⌝ }
+    ensures { λ r. ⌜ Stepped (heldIn n m k (now (counts .entry)) (now (words .entry)))
+        (allowed (netAt n m k (now (counts .entry)) (now (words .entry))) (roomFor (netAt n m k (now (counts .entry)) (now (words .entry))) (divisorOf d))) r
+        ⌝ }
 {
     let mut out = [0u64; network::WORDS];
     let mut sizes = [0usize; network::NODES];

@@ -8,7 +8,8 @@ use native.Mathlib.Nat.{zero-add, pow-suc, le-of-suc-le-suc, not-suc-le-zero}
 use native.Mathlib.Omega.{arith}
 use borrow.Author.Tests.{ltb-true, ltb-false}
 use lib.Dec.{ltb}
-use lib.ListN.{length, getD, take, drop, set, replicate, length-append, length-take, length-drop, length-replicate, take-append-drop, drop-of-length-le, replicate-append-replicate, List·getD-append}
+use lib.ListN.{length, getD, take, drop, set, replicate, length-append, length-take, length-drop, length-replicate, take-append-drop}
+use lib.ListN.{drop-of-length-le, replicate-append-replicate, List·getD-append}
 use lib.Seq.{take-append-le, drop-append-le, take-at, drop-at, take-all, getD-append-add, getD-drop, getD-at, set-at}
 use Rattle.sets.specs.Masks.{bit}
 use Rattle.sets.proofs.Truth.{decided}
@@ -191,23 +192,27 @@ unfolding bytesFrom
 from-more zero l b = refl
 from-more (suc n) l b = go (from-more n (drop 8 l) b) (decided (ltb (length l) 8))
   where
-    go : bytesFrom n (drop 8 l ++ (b ∷ [])) ≡ set (bytesFrom n (drop 8 l)) (length (drop 8 l) / 8) (getD (bytesFrom n (drop 8 l)) (length (drop 8 l) / 8) 0 + cond b (2 ^ (7 - length (drop 8 l) % 8)) 0)
+    go : bytesFrom n (drop 8 l ++ (b ∷ [])) ≡ set (bytesFrom n (drop 8 l)) (length (drop 8 l) / 8)
+        (getD (bytesFrom n (drop 8 l)) (length (drop 8 l) / 8) 0 + cond b (2 ^ (7 - length (drop 8 l) % 8)) 0)
         → (ltb (length l) 8 ≡ true) ⊎ (ltb (length l) 8 ≡ false)
-        → bytesFrom (suc n) (l ++ (b ∷ [])) ≡ set (bytesFrom (suc n) l) (length l / 8) (getD (bytesFrom (suc n) l) (length l / 8) 0 + cond b (2 ^ (7 - length l % 8)) 0)
+        → bytesFrom (suc n) (l ++ (b ∷ [])) ≡ set (bytesFrom (suc n) l) (length l / 8)
+        (getD (bytesFrom (suc n) l) (length l / 8) 0 + cond b (2 ^ (7 - length l % 8)) 0)
     go k (inl s) =
         let h : length l < 8 = ltb-true (length l) 8 s in
         let q : length l / 8 ≡ 0 = omega arith in
         let r : length l % 8 ≡ length l = omega arith in
         rw (q, r)
         (ap₂ _∷_ (last-bit l b h)
-        (ap (bytesFrom n) (drop-of-length-le (l ++ (b ∷ [])) {i = 8} (omega (arith, length-append l (b ∷ []))) ∙ sym (drop-of-length-le l {i = 8} (omega arith)))))
+        (ap (bytesFrom n) (drop-of-length-le (l ++ (b ∷ [])) {i = 8} (omega (arith, length-append l (b ∷ [])))
+        ∙ sym (drop-of-length-le l {i = 8} (omega arith)))))
     go k (inr s) =
         let h : 8 ≤ length l = ltb-false (length l) 8 s in
         let q : length l / 8 ≡ suc (length (drop 8 l) / 8) = omega (arith, length-drop 8 l) in
         let r : length l % 8 ≡ length (drop 8 l) % 8 = omega (arith, length-drop 8 l) in
         rw (q, r)
         (ap₂ _∷_
-        (ap valueOf (ap (take 8) (append-assoc l (b ∷ []) (replicate 8 false)) ∙ take-append-le 8 l ((b ∷ []) ++ replicate 8 false) h ∙ sym (take-append-le 8 l (replicate 8 false) h)))
+        (ap valueOf (ap (take 8) (append-assoc l (b ∷ []) (replicate 8 false)) ∙ take-append-le 8 l ((b ∷ []) ++ replicate 8 false) h
+        ∙ sym (take-append-le 8 l (replicate 8 false) h)))
         (ap (bytesFrom n) (drop-append-le 8 l (b ∷ []) h) ∙ k))
 
 -- one byte more than the bits need is zero

@@ -3,7 +3,8 @@ use Prim.Native.Nat.{ℕ, suc, _+_, _-_, _/_, _<_, _≤_}
 use mathlib.Core.Path.{_≡_, refl, sym, ap, subst}
 use mathlib.Core.Logic.{inl, inr}
 use mathlib.Core.Bool.{true, false, _&&_}
-use mathlib.Core.List.{List, [], _∷_, _++_, List·Memᴰ·head as here, List·Memᴰ·tail as there, List·Memᴰ·not-nil, List·Memᴰ·cases-cons, List·Memᴰ·append-cases, List·Memᴰ·eq-of-singleton, Memᴰ·append-left, Memᴰ·append-right}
+use mathlib.Core.List.{List, [], _∷_, _++_, List·Memᴰ·head as here, List·Memᴰ·tail as there, List·Memᴰ·not-nil, List·Memᴰ·cases-cons}
+use mathlib.Core.List.{List·Memᴰ·append-cases, List·Memᴰ·eq-of-singleton, Memᴰ·append-left, Memᴰ·append-right}
 use native.Mathlib.Omega.{arith}
 use borrow.Author.Tests.{ltb-true, leb-true, le-leb}
 use lib.Dec.{ltb, leb}
@@ -45,12 +46,14 @@ earlier-out v (f ∷ fs) h e m u r =
       | inr t ↦ earlier-out (suc v) fs (q .1) e t u r
     ]
 
-pub earlier-in : (v : ℕ) (fs : List (List (List ℕ))) → ((e : Node) → e ∈ numbered v fs → (u : ℕ) → Reads (e .cubes) u → u < e .number) → readsEarlier v fs ≡ true
+pub earlier-in : (v : ℕ) (fs : List (List (List ℕ))) → ((e : Node) → e ∈ numbered v fs → (u : ℕ) → Reads (e .cubes) u → u < e .number)
+    → readsEarlier v fs ≡ true
 unfolding readsEarlier numbered
 earlier-in v [] h = refl
 earlier-in v (f ∷ fs) h =
     together (reach v f) (readsEarlier (suc v) fs)
-    ((both (reach v f) true (reach-in v (f ∷ []) (λ g m u r. h (record { number = v; cubes = f }) (here refl) u (subst (λ z. Reads z u) (List·Memᴰ·eq-of-singleton m) r)))) .0)
+    ((both (reach v f) true (reach-in v (f ∷ []) (λ g m u r. h (record { number = v; cubes = f }) (here refl) u
+    (subst (λ z. Reads z u) (List·Memᴰ·eq-of-singleton m) r)))) .0)
     (earlier-in (suc v) fs (λ e m. h e (there m)))
 
 -- ---- what is read is lawful and in order
@@ -79,8 +82,20 @@ module _ (r : Raw) (fits : FitRaw r) (sums : summed r ≡ true) (order : allInOr
         outputs = fits .outputs;
         within = record {
           variables = rw (numbered-length (r .inputs) (r .divisors)) (fits .few);
-          cubes = rw (numbered-cubes (r .inputs) (r .divisors)) (omega (arith, total-append length (r .outputs) (r .divisors), total-append length (r .divisors) (r .outputs), leb-true (total length (rawNodes r)) mostCubes (s .0)));
-          literals = rw (numbered-cubes (r .inputs) (r .divisors)) (omega (arith, total-append literalsOf (r .outputs) (r .divisors), total-append literalsOf (r .divisors) (r .outputs), leb-true (total literalsOf (rawNodes r)) mostLiterals (s .1)));
+          cubes = rw (numbered-cubes (r .inputs) (r .divisors))
+              (omega (
+                arith,
+                total-append length (r .outputs) (r .divisors),
+                total-append length (r .divisors) (r .outputs),
+                leb-true (total length (rawNodes r)) mostCubes (s .0),
+              ));
+          literals = rw (numbered-cubes (r .inputs) (r .divisors))
+              (omega (
+                arith,
+                total-append literalsOf (r .outputs) (r .divisors),
+                total-append literalsOf (r .divisors) (r .outputs),
+                leb-true (total literalsOf (rawNodes r)) mostLiterals (s .1),
+              ));
         };
         good = record {
           expressions = λ f m.
@@ -88,7 +103,8 @@ module _ (r : Raw) (fits : FitRaw r) (sums : summed r ≡ true) (order : allInOr
               together (all isCube f) (pairwise loose f)
               (all-in isCube f (λ c i. together (asc c) (proper c) (all-out asc i (q .0)) ((((fits .nodes f (raw-in m)) .cubes c i) .single))))
               ((both (ordered f) (pairwise loose f) (q .1)) .1);
-          known = λ f m v d. rw (numbered-length (r .inputs) (r .divisors), d .2 .2) (((fits .nodes f (raw-in m)) .cubes (d .0) (d .1)) .known (d .2 .0) (d .2 .1));
+          known = λ f m v d. rw (numbered-length (r .inputs) (r .divisors), d .2 .2)
+              (((fits .nodes f (raw-in m)) .cubes (d .0) (d .1)) .known (d .2 .0) (d .2 .1));
           inTurn = ap (numbered (r .inputs)) (sym (numbered-cubes (r .inputs) (r .divisors)));
           acyclic = λ v t. let h : v < v = through-less (rawNet r) (raw-order .earlier) t in omega arith;
         };
@@ -124,7 +140,8 @@ module _ (n : Net) (h : Lawful n) where
   fits-cube f m c i =
       let q = both (asc c) (proper c) (all-out isCube i ((both (all isCube f) (pairwise loose f) (h .good .expressions f m)) .0)) in
       let v = n .inputs + length (divisorCubes n) in
-      let k : (l : ℕ) → l ∈ c → l / 2 < v = λ l j. omega (arith, h .good .known f m (l / 2) (c, i, (l, j, refl)), length-map (n .divisors) (λ (e : Node). e .cubes)) in
+      let k : (l : ℕ) → l ∈ c → l / 2 < v = λ l j.
+      omega (arith, h .good .known f m (l / 2) (c, i, (l, j, refl)), length-map (n .divisors) (λ (e : Node). e .cubes)) in
       record { few = omega (arith, cube-few v 0 c (q .0) (q .1) (λ l j. (omega arith, k l j))); known = k; single = q .1 }
 
   pub lawful-fits : FitRaw (rawOf n)
@@ -139,8 +156,10 @@ module _ (n : Net) (h : Lawful n) where
   unfolding summed
   lawful-sums =
       together (leb (total length (rawNodes (rawOf n))) mostCubes) (leb (total literalsOf (rawNodes (rawOf n))) mostLiterals)
-      (le-leb (total length (rawNodes (rawOf n))) mostCubes (omega (arith, total-append length (n .outputs) (divisorCubes n), total-append length (divisorCubes n) (n .outputs), h .within .cubes)))
-      (le-leb (total literalsOf (rawNodes (rawOf n))) mostLiterals (omega (arith, total-append literalsOf (n .outputs) (divisorCubes n), total-append literalsOf (divisorCubes n) (n .outputs), h .within .literals)))
+      (le-leb (total length (rawNodes (rawOf n))) mostCubes
+      (omega (arith, total-append length (n .outputs) (divisorCubes n), total-append length (divisorCubes n) (n .outputs), h .within .cubes)))
+      (le-leb (total literalsOf (rawNodes (rawOf n))) mostLiterals
+      (omega (arith, total-append literalsOf (n .outputs) (divisorCubes n), total-append literalsOf (divisorCubes n) (n .outputs), h .within .literals)))
 
   pub lawful-order : OneOrder n → allInOrder (rawOf n) ≡ true
   unfolding allInOrder inTheOrder

@@ -10,7 +10,8 @@ use lib.Seq.{length-take-le}
 use Rattle.image_fields.specs.Fields.{valueOf}
 use Rattle.image_laws.specs.Widths.{edition1}
 use Rattle.image_laws.specs.Reading.{Parsed, got, bad, andThen, getField, getMany, getLiterals, getCube, getNode, Raw, getNodes, getRaw}
-use Rattle.image_laws.specs.Layout.{Layout, ends, next, manyLayout, literalsLayout, cubeLayout, nodeLayout, nodesLayout, imageLayout, Meets, here, later, Stray, Cut}
+use Rattle.image_laws.specs.Layout.{Layout, ends, next, manyLayout, literalsLayout, cubeLayout, nodeLayout, nodesLayout, imageLayout, Meets}
+use Rattle.image_laws.specs.Layout.{here, later, Stray, Cut}
 use Rattle.image_laws.proofs.Reading.{field-whole}
 
 -- field by field
@@ -41,7 +42,8 @@ literals-as : (v n : ℕ) (seen : List ℕ) → As (getLiterals v n seen) (liter
 unfolding getLiterals literalsLayout readBy
 literals-as v zero seen k l = refl
 literals-as v (suc n) seen k l =
-    then-then (getField (edition1 .literal) _ l) _ _ _ (λ x r. literals-as v n (x ∷ seen) (λ xs. k (x ∷ xs)) r ∙ then-then (getLiterals v n (x ∷ seen) r) _ _ _ (λ xs t. refl))
+    then-then (getField (edition1 .literal) _ l) _ _ _
+    (λ x r. literals-as v n (x ∷ seen) (λ xs. k (x ∷ xs)) r ∙ then-then (getLiterals v n (x ∷ seen) r) _ _ _ (λ xs t. refl))
 
 cube-as : (v : ℕ) → As (getCube v) (cubeLayout v)
 unfolding getCube cubeLayout readBy
@@ -68,7 +70,8 @@ pub data Along (g : Layout) (l : List Bool) : Parsed Raw → Type 0 where
   cut : Meets Cut g l → Along g l (bad 11)
 
 module _ (w : ℕ) (ok : ℕ → Bool) (g : ℕ → Layout) (l : List Bool) (all-there : w ≤ length l) where
-  past : {End : ℕ → (ℕ → Bool) → List Bool → Type 0} → ok (valueOf (take w l)) ≡ true → Meets End (g (valueOf (take w l))) (drop w l) → Meets End (next w ok g) l
+  past : {End : ℕ → (ℕ → Bool) → List Bool → Type 0} → ok (valueOf (take w l)) ≡ true → Meets End (g (valueOf (take w l))) (drop w l)
+      → Meets End (next w ok g) l
   past {End} y m = subst (Meets End (next w ok g)) (take-append-drop w l) (later (take w l) (length-take-le w l all-there) y m)
 
   along-past : ok (valueOf (take w l)) ≡ true → {o : Parsed Raw} → Along (g (valueOf (take w l))) (drop w l) o → Along (next w ok g) l o
@@ -81,11 +84,19 @@ unfolding readBy getField
 along (ends r) l = all
 along (next w ok g) l = go (ltb (length l) w) (ok (valueOf (take w l))) refl refl (along (g (valueOf (take w l))) (drop w l))
   where
-    go : (c d : Bool) → ltb (length l) w ≡ c → ok (valueOf (take w l)) ≡ d → Along (g (valueOf (take w l))) (drop w l) (readBy (g (valueOf (take w l))) (drop w l))
+    go : (c d : Bool) → ltb (length l) w ≡ c → ok (valueOf (take w l)) ≡ d
+        → Along (g (valueOf (take w l))) (drop w l) (readBy (g (valueOf (take w l))) (drop w l))
         → Along (next w ok g) l (andThen (cond c (bad 11) (cond d (got (valueOf (take w l)) (drop w l)) (bad 12))) (λ x r. readBy (g x) r))
     go true d p q a = cut (here (ltb-true (length l) w p))
     go false true p q a = along-past w ok g l (ltb-false (length l) w p) q a
-    go false false p q a = stray (here (record { field = take w l; rest = drop w l; bits = sym (take-append-drop w l); whole = length-take-le w l (ltb-false (length l) w p); out = q }))
+    go false false p q a = stray (here (record {
+      field = take w l;
+      rest = drop w l;
+      bits = sym (take-append-drop w l);
+      whole =
+          length-take-le w l (ltb-false (length l) w p);
+      out = q;
+    }))
 
 pub raw-along : (l : List Bool) → Along imageLayout l (getRaw l)
 raw-along l = subst (Along imageLayout l) (image-as l) (along imageLayout l)
@@ -100,7 +111,8 @@ meets-read m e h (later {w = w} {ok = ok} {l = l} b n y t) = rw (append-assoc b 
 
 -- a field out of range that is met is refused whatever follows
 pub stray-read : {l : List Bool} (m : List Bool) → Meets Stray imageLayout l → getRaw (l ++ m) ≡ bad 12
-stray-read {l} m t = sym (image-as (l ++ m)) ∙ meets-read m 12 (λ w ok r s. rw (s .bits, append-assoc (s .field) (s .rest) m, field-whole w ok (s .field) (s .rest ++ m) (s .whole), s .out)) t
+stray-read {l} m t = sym (image-as (l ++ m)) ∙ meets-read m 12
+    (λ w ok r s. rw (s .bits, append-assoc (s .field) (s .rest) m, field-whole w ok (s .field) (s .rest ++ m) (s .whole), s .out)) t
 
 pub cut-read : (l : List Bool) → Meets Cut imageLayout l → getRaw l ≡ bad 11
 unfolding getField

@@ -1,9 +1,11 @@
--- New numbers, literals, cubes and nodes for n inputs and listed divisors: one-to-one on known variables, so that cubes keep their size and what they contain. Assumes nothing.
+-- New numbers, literals, cubes and nodes for n inputs and listed divisors: one-to-one on known variables, so that cubes keep their size and
+-- what they contain. Assumes nothing.
 use Prim.Native.Nat.{ℕ, zero, suc, _+_, _-_, _/_, _%_, _<_, _≤_}
 use mathlib.Core.Path.{_≡_, refl, sym, ap, ap₂, _∙_, subst}
 use mathlib.Core.Logic.{_⊎_, inl, inr}
 use mathlib.Core.Bool.{Bool, true, false, cond, _&&_, _||_, or-true}
-use mathlib.Core.List.{List, [], _∷_, _++_, map, append-nil, List·Memᴰ·head as here, List·Memᴰ·tail as there, List·Memᴰ·not-nil, List·Memᴰ·cases-cons, Memᴰ·cast}
+use mathlib.Core.List.{List, [], _∷_, _++_, map, append-nil, List·Memᴰ·head as here, List·Memᴰ·tail as there, List·Memᴰ·not-nil, List·Memᴰ·cases-cons}
+use mathlib.Core.List.{Memᴰ·cast}
 use native.Mathlib.Omega.{arith}
 use lib.Dec.{eqb, ltb}
 use lib.ListN.{length, getD, length-map}
@@ -137,10 +139,11 @@ module _ (n : ℕ) (l : List ℕ) where
   pub new-cube-out : (c : List ℕ) {z : ℕ} → z ∈ newCube n l c → (x : ℕ) × (x ∈ c) × (z ≡ newLiteral n l x)
   unfolding newCube
   new-cube-out [] m = absurd (List·Memᴰ·not-nil m)
-  new-cube-out (y ∷ c) {z} m = elim (either (eqb z (newLiteral n l y)) (mem z (newCube n l c)) (sym (insert-mem z (newLiteral n l y) (newCube n l c)) ∙ mem-of m)) [
-    | inl e ↦ (y, here refl, eqb-true z (newLiteral n l y) e)
-    | inr t ↦ let r = new-cube-out c (of-mem z (newCube n l c) t) in (r .0, there (r .1), r .2)
-  ]
+  new-cube-out (y ∷ c) {z} m = elim (either (eqb z (newLiteral n l y)) (mem z (newCube n l c))
+      (sym (insert-mem z (newLiteral n l y) (newCube n l c)) ∙ mem-of m)) [
+        | inl e ↦ (y, here refl, eqb-true z (newLiteral n l y) e)
+        | inr t ↦ let r = new-cube-out c (of-mem z (newCube n l c) t) in (r .0, there (r .1), r .2)
+      ]
 
   -- a literal is in a cube exactly when the new one is in the new one
   pub new-cube-mem : (c : List ℕ) (x : ℕ) → Over c → Named (x / 2) → mem (newLiteral n l x) (newCube n l c) ≡ mem x c
@@ -216,8 +219,13 @@ module _ (n : ℕ) (l : List ℕ) where
       unfolding newNode loose
       new-node-expression = expression-sort (map (newCube n l) f) (together (all isCube (map (newCube n l) f)) (pairwise loose (map (newCube n l) f))
           (all-in isCube (map (newCube n l) f) (λ d m. let r = map-out (newCube n l) f m in
-          rw (r .2) (together (asc (newCube n l (r .0))) (proper (newCube n l (r .0))) (new-cube-asc (r .0)) (new-cube-proper (r .0) (reaches-over f k (r .1)) ((cube-of (r .1)) .1)))))
-          (pairwise-map loose loose (newCube n l) f (λ c d i j t. rw (← (new-cube-sub c d (reaches-over f k i) (reaches-over f k j)), ← (new-cube-sub d c (reaches-over f k j) (reaches-over f k i))) t)
+          rw (r .2) (together (asc (newCube n l (r .0))) (proper (newCube n l (r .0))) (new-cube-asc (r .0))
+          (new-cube-proper (r .0) (reaches-over f k (r .1)) ((cube-of (r .1)) .1)))))
+          (pairwise-map loose loose (newCube n l) f
+          (λ c d i j t. rw (
+            ← (new-cube-sub c d (reaches-over f k i) (reaches-over f k j)),
+            ← (new-cube-sub d c (reaches-over f k j) (reaches-over f k i)),
+          ) t)
           ((both (all isCube f) (pairwise loose f) h) .1)))
 
     -- where new variables have the values of the old ones, so do nodes
@@ -236,7 +244,8 @@ module _ (n : ℕ) (l : List ℕ) where
       unfolding newNode
       new-node-value = any-sort (all (lit b)) (map (newCube n l) f) ∙ any-map f (λ c m. new-cube-value c (reaches-over f k m))
         where
-          any-map : (g : List (List ℕ)) → ((c : List ℕ) → c ∈ g → all (lit b) (newCube n l c) ≡ all (lit a) c) → any (all (lit b)) (map (newCube n l) g) ≡ any (all (lit a)) g
+          any-map : (g : List (List ℕ)) → ((c : List ℕ) → c ∈ g → all (lit b) (newCube n l c) ≡ all (lit a) c)
+              → any (all (lit b)) (map (newCube n l) g) ≡ any (all (lit a)) g
           any-map [] q = refl
           any-map (c ∷ g) q = ap₂ _||_ (q c (here refl)) (any-map g (λ d m. q d (there m)))
 

@@ -3,7 +3,8 @@ use Prim.Native.Nat.{ℕ, zero, suc, _+_, _-_, _/_, _^_, _<_, _≤_}
 use mathlib.Core.Path.{_≡_, refl, sym, ap, ap₂, _∙_, subst}
 use mathlib.Core.Logic.{_⊎_, inl, inr}
 use mathlib.Core.Bool.{Bool, true, false, cond, not}
-use mathlib.Core.List.{List, [], _∷_, _++_, map, append-assoc, List·Memᴰ·head as here, List·Memᴰ·tail as there, List·Memᴰ·not-nil, List·Memᴰ·cases-cons, List·Memᴰ·append-cases, Memᴰ·append-left, Memᴰ·append-right}
+use mathlib.Core.List.{List, [], _∷_, _++_, map, append-assoc, List·Memᴰ·head as here, List·Memᴰ·tail as there, List·Memᴰ·not-nil}
+use mathlib.Core.List.{List·Memᴰ·cases-cons, List·Memᴰ·append-cases, Memᴰ·append-left, Memᴰ·append-right}
 use native.Mathlib.Omega.{arith}
 use borrow.Author.Tests.{ltb-true, ltb-false, leb-true, eqb-true, eqb-false, not-true, lt-ltb, le-ltb, le-leb}
 use lib.Dec.{ltb, leb, eqb}
@@ -21,13 +22,16 @@ use Rattle.network.specs.Handed.{flat}
 use Rattle.network.proofs.Numbering.{numbered-length, numbered-cubes}
 use Rattle.image_laws.specs.Widths.{editionField, edition1}
 use Rattle.image_laws.specs.Image.{cubeFields, nodeFields, headFields}
-use Rattle.image_laws.specs.Reading.{Parsed, got, bad, andThen, getField, getMany, allowed, getLiterals, getCube, getNode, Raw, getNodes, getRaw, rawNodes, rawNet}
+use Rattle.image_laws.specs.Reading.{Parsed, got, bad, andThen, getField, getMany, allowed, getLiterals, getCube, getNode, Raw, getNodes}
+use Rattle.image_laws.specs.Reading.{getRaw, rawNodes, rawNet}
 use Rattle.image_laws.specs.Meaning.{FitCube, FitNode, FitRaw, rawBits}
-use Rattle.image_laws.proofs.Fielding.{fields-append, inputsBits, outputsBits, divisorsBits, cubesBits, literalsBits, literalBits, literalFields, headed, head-fields, nodeBits, net-bits}
+use Rattle.image_laws.proofs.Fielding.{fields-append, inputsBits, outputsBits, divisorsBits, cubesBits, literalsBits, literalBits}
+use Rattle.image_laws.proofs.Fielding.{literalFields, headed, head-fields, nodeBits, net-bits}
 
 -- ---- one field
 
-pub field-whole : (w : ℕ) (ok : ℕ → Bool) (b rest : List Bool) → length b ≡ w → getField w ok (b ++ rest) ≡ cond (ok (valueOf b)) (got (valueOf b) rest) (bad 12)
+pub field-whole : (w : ℕ) (ok : ℕ → Bool) (b rest : List Bool) → length b ≡ w
+    → getField w ok (b ++ rest) ≡ cond (ok (valueOf b)) (got (valueOf b) rest) (bad 12)
 unfolding getField
 field-whole w ok b rest h = rw (le-ltb (length (b ++ rest)) w (omega (arith, length-append b rest)), take-at b rest w h, drop-at b rest w h)
 
@@ -106,11 +110,13 @@ unfolding getLiterals fieldBits
 literals-put v d few single [] seen rest a b k = refl
 literals-put v d few single (x ∷ c) seen rest a b k =
     let h : x / 2 < v = k x (here refl) in
-    let free : mem (oppositeOf x) seen ≡ false = refuted (λ m. clash (mem-of (b (oppositeOf x) (of-mem (oppositeOf x) seen m))) (proper-out d x single (mem-of (a x (here refl))))) in
+    let free : mem (oppositeOf x) seen ≡ false = refuted
+    (λ m. clash (mem-of (b (oppositeOf x) (of-mem (oppositeOf x) seen m))) (proper-out d x single (mem-of (a x (here refl))))) in
     rw (
       append-assoc (literalBits x) (fieldBits (literalFields c)) rest,
       field-put (edition1 .literal) x (allowed v seen) (fieldBits (literalFields c) ++ rest) (omega arith) (rw (lt-ltb (x / 2) v h, free)),
-      literals-put v d few single c (x ∷ seen) rest (λ y m. a y (there m)) (λ y m. elim (List·Memᴰ·cases-cons m) [ inl e ↦ rw e (a x (here refl)) | inr t ↦ b y t ]) (λ y m. k y (there m)),
+      literals-put v d few single c (x ∷ seen) rest (λ y m. a y (there m))
+          (λ y m. elim (List·Memᴰ·cases-cons m) [ inl e ↦ rw e (a x (here refl)) | inr t ↦ b y t ]) (λ y m. k y (there m)),
     )
 
 -- one literal more keeps a cube proper where its opposite is not there
@@ -134,7 +140,8 @@ pub record GotLiterals (v k : ℕ) (seen : List ℕ) (l : List Bool) (c : List �
   pub free : (x : ℕ) → x ∈ c → mem (oppositeOf x) seen ≡ false
   pub single : proper c ≡ true
 
-pub literals-get : (v k : ℕ) (seen : List ℕ) (l : List Bool) (c : List ℕ) (rest : List Bool) → getLiterals v k seen l ≡ got c rest → GotLiterals v k seen l c rest
+pub literals-get : (v k : ℕ) (seen : List ℕ) (l : List Bool) (c : List ℕ) (rest : List Bool) → getLiterals v k seen l ≡ got c rest
+    → GotLiterals v k seen l c rest
 unfolding getLiterals fieldBits mem proper
 literals-get v zero seen l c rest e =
     let n : [] ≡ c = cc in
@@ -153,7 +160,8 @@ literals-get v (suc k) seen l c rest e =
     let n : x ∷ xs ≡ c = cc in
     let t : q .1 ≡ rest = cc in
     subst (λ d. GotLiterals v (suc k) seen l d rest) n (record {
-      bits = f .0 ∙ ap (literalBits x ++_) (o .bits ∙ ap (fieldBits (literalFields xs) ++_) t) ∙ sym (append-assoc (literalBits x) (fieldBits (literalFields xs)) rest);
+      bits = f .0 ∙ ap (literalBits x ++_) (o .bits ∙ ap (fieldBits (literalFields xs) ++_) t)
+          ∙ sym (append-assoc (literalBits x) (fieldBits (literalFields xs)) rest);
       count = ap suc (o .count);
       known = λ y m. elim (List·Memᴰ·cases-cons m) [ inl g ↦ rw g (ltb-true (x / 2) v (w .0)) | inr g ↦ o .known y g ];
       free = λ y m. elim (List·Memᴰ·cases-cons m) [
@@ -191,7 +199,8 @@ unfolding getNode nodeFields fieldBits
 node-put v h f k rest =
     rw (
       append-assoc (cubesBits (length f)) (fieldBits (flat (map cubeFields f))) rest,
-      field-put (edition1 .cubes) (length f) (λ c. leb c mostCubes) (fieldBits (flat (map cubeFields f)) ++ rest) (omega (arith, k .few)) (le-leb (length f) mostCubes (k .few)),
+      field-put (edition1 .cubes) (length f) (λ c. leb c mostCubes) (fieldBits (flat (map cubeFields f)) ++ rest) (omega (arith, k .few))
+          (le-leb (length f) mostCubes (k .few)),
     )
     (many-put (getCube v) cubeFields f rest (λ c m. cube-put v h c (k .cubes c m)))
 
@@ -216,7 +225,8 @@ raw-fields r rest =
     ∙ append-assoc (fieldBits (headFields (r .inputs) (length (r .outputs)) (length (r .divisors)))) (nodeBits (r .divisors) ++ nodeBits (r .outputs)) rest
     ∙ head-fields (r .inputs) (length (r .outputs)) (length (r .divisors)) ((nodeBits (r .divisors) ++ nodeBits (r .outputs)) ++ rest)
 
-head-put : (n m k : ℕ) (l : List Bool) → (1 ≤ n) × (n ≤ mostInputs) → (1 ≤ m) × (m ≤ mostOutputs) → n + k ≤ mostVariables → getRaw (headed n m k l) ≡ getNodes n m k l
+head-put : (n m k : ℕ) (l : List Bool) → (1 ≤ n) × (n ≤ mostInputs) → (1 ≤ m) × (m ≤ mostOutputs) → n + k ≤ mostVariables
+    → getRaw (headed n m k l) ≡ getNodes n m k l
 unfolding getRaw
 head-put n m k l a b c =
     let n₁ : suc (n - 1) ≡ n = omega arith in
@@ -237,7 +247,8 @@ nodes-put r rest h =
     let v = r .inputs + length (r .divisors) in
     rw (
       append-assoc (nodeBits (r .divisors)) (nodeBits (r .outputs)) rest,
-      many-put (getNode v) nodeFields (r .divisors) (nodeBits (r .outputs) ++ rest) (λ f m. node-put v (h .few) f (h .nodes f (Memᴰ·append-left (r .outputs) m))),
+      many-put (getNode v) nodeFields (r .divisors) (nodeBits (r .outputs) ++ rest)
+          (λ f m. node-put v (h .few) f (h .nodes f (Memᴰ·append-left (r .outputs) m))),
       many-put (getNode v) nodeFields (r .outputs) rest (λ f m. node-put v (h .few) f (h .nodes f (Memᴰ·append-right (r .divisors) m))),
     )
 
@@ -245,7 +256,8 @@ nodes-put r rest h =
 pub get-put : (r : Raw) (rest : List Bool) → FitRaw r → getRaw (rawBits r ++ rest) ≡ got r rest
 get-put r rest h =
     ap getRaw (raw-fields r rest)
-    ∙ head-put (r .inputs) (length (r .outputs)) (length (r .divisors)) ((nodeBits (r .divisors) ++ nodeBits (r .outputs)) ++ rest) (h .inputs) (h .outputs) (h .few)
+    ∙ head-put (r .inputs) (length (r .outputs)) (length (r .divisors)) ((nodeBits (r .divisors) ++ nodeBits (r .outputs)) ++ rest) (h .inputs) (h .outputs)
+    (h .few)
     ∙ nodes-put r rest h
 
 record GotNodes (n m k : ℕ) (l : List Bool) (r : Raw) (rest : List Bool) : Type 0 where

@@ -1,9 +1,11 @@
--- A network renumbered in the order of its listing follows the rules, stands in the one order, is of the same size and has the same outputs; one in that order stays as it is. Assumes nothing.
+-- A network renumbered in the order of its listing follows the rules, stands in the one order, is of the same size and has the same
+-- outputs; one in that order stays as it is. Assumes nothing.
 use Prim.Native.Nat.{ℕ, zero, suc, _+_, _-_, _/_, _<_, _≤_}
 use mathlib.Core.Path.{_≡_, refl, sym, ap, ap₂, _∙_, subst}
 use mathlib.Core.Logic.{_⊎_, inl, inr}
 use mathlib.Core.Bool.{Bool, true, false, not, _||_}
-use mathlib.Core.List.{List, [], _∷_, _++_, map, append-nil, append-assoc, List·Memᴰ·head as here, List·Memᴰ·not-nil, List·Memᴰ·cases-cons, List·Memᴰ·append-cases, Memᴰ·append-left, Memᴰ·append-right, Memᴰ·cast}
+use mathlib.Core.List.{List, [], _∷_, _++_, map, append-nil, append-assoc, List·Memᴰ·head as here, List·Memᴰ·not-nil, List·Memᴰ·cases-cons}
+use mathlib.Core.List.{List·Memᴰ·append-cases, Memᴰ·append-left, Memᴰ·append-right, Memᴰ·cast}
 use native.Mathlib.Omega.{arith}
 use lib.Dec.{leb, ltb}
 use lib.ListN.{length, length-map}
@@ -29,7 +31,9 @@ use Rattle.network.proofs.Listings.{ready-out, listing-once, listing-number, li
 use Rattle.network.proofs.Evaluating.{evaluate-settled, evaluate-read}
 use Rattle.image_laws.specs.Renumber.{indexOf, newNumber, newNode, renumbered}
 use Rattle.image_laws.specs.Meaning.{OneOrder}
-use Rattle.image_laws.proofs.NewNumbers.{index-before, index-new, index-from, Named, Reaches, oldNumber, new-input, new-listed, old-new, new-injective, new-below, new-node-reads, new-node-length, new-node-literals, new-node-expression, new-node-value, new-node-same}
+use Rattle.image_laws.proofs.NewNumbers.{index-before, index-new, index-from, Named, Reaches, oldNumber, new-input, new-listed, old-new}
+use Rattle.image_laws.proofs.NewNumbers.{new-injective, new-below, new-node-reads, new-node-length, new-node-literals, new-node-expression}
+use Rattle.image_laws.proofs.NewNumbers.{new-node-value, new-node-same}
 
 -- the expressions of divisors
 abbrev cubes : List Node → List (List (List ℕ))
@@ -67,7 +71,8 @@ module _ (n : Net) (w : Lawful n) where
   -- ---- new numbers
 
   pub variable-named : (v : ℕ) → v < variables n → Named (n .inputs) (listing n) v
-  variable-named v h = elim (decided (ltb v (n .inputs))) [ inl t ↦ inl (ltb-true v (n .inputs) t) | inr t ↦ inr (range-listed v (ltb-false v (n .inputs) t) h) ]
+  variable-named v h = elim (decided (ltb v (n .inputs)))
+      [ inl t ↦ inl (ltb-true v (n .inputs) t) | inr t ↦ inr (range-listed v (ltb-false v (n .inputs) t) h) ]
 
   pub node-reaches : {f : List (List ℕ)} → f ∈ nodes n → Reaches (n .inputs) (listing n) f
   node-reaches {f} m v r = variable-named v (w .good .known f m v r)
@@ -170,17 +175,20 @@ module _ (n : Net) where
     -- over the listing as over the divisors
     listed-total : (g : List (List ℕ) → ℕ) → total (λ v. g (cubesAt v (n .divisors))) (listing n) ≡ total g (cubes (n .divisors))
     listed-total g =
-        total-same differ (λ x y h. differ-in (λ (e : y ≡ x). differ-out {x = x} {y = y} h (sym e))) (λ x. ap not (eq-eqb x x refl)) (λ v. g (cubesAt v (n .divisors))) (listing n) numbers
+        total-same differ (λ x y h. differ-in (λ (e : y ≡ x). differ-out {x = x} {y = y} h (sym e))) (λ x. ap not (eq-eqb x x refl))
+        (λ v. g (cubesAt v (n .divisors))) (listing n) numbers
         (listing-once n)
         (pairwise-imp ltb differ numbers (λ x y q. differ-in (λ (e : x ≡ y). omega (arith, ltb-true x y q))) ((lawful-sound n w) .distinct .ascending))
         (λ v m. let r = listing-number n v m in Memᴰ·cast (r .2) (map-in (λ (e : Node). e .number) (r .1)))
         (λ v m. let r = map-out (λ (e : Node). e .number) (n .divisors) m in Memᴰ·cast (r .2) (listing-in n (listed-whole n w) (r .0) (r .1)))
         ∙ total-map (λ v. g (cubesAt v (n .divisors))) (λ (e : Node). e .number) (n .divisors)
-        ∙ total-cong (λ (e : Node). g (cubesAt (e .number) (n .divisors))) (λ (e : Node). g (e .cubes)) (n .divisors) (λ e m. ap g (cubes-at n ((lawful-sound n w) .distinct) m))
+        ∙ total-cong (λ (e : Node). g (cubesAt (e .number) (n .divisors))) (λ (e : Node). g (e .cubes)) (n .divisors)
+        (λ e m. ap g (cubes-at n ((lawful-sound n w) .distinct) m))
         ∙ sym (total-map g (λ (e : Node). e .cubes) (n .divisors))
 
     -- a sum over the nodes that new numbers do not change
-    pub renumbered-total : (g : List (List ℕ) → ℕ) → ((f : List (List ℕ)) → f ∈ nodes n → g (renewed f) ≡ g f) → total g (nodes (renumbered n)) ≡ total g (nodes n)
+    pub renumbered-total : (g : List (List ℕ) → ℕ) → ((f : List (List ℕ)) → f ∈ nodes n → g (renewed f) ≡ g f)
+        → total g (nodes (renumbered n)) ≡ total g (nodes n)
     renumbered-total g h =
         ap (total g) renumbered-nodes
         ∙ total-append g (map renewed (n .outputs)) (map listedAs (listing n))
@@ -293,7 +301,8 @@ in-from : (k m z : ℕ) → k ≤ z → z < k + m → mem z (from k m) ≡ true
 in-from k m z h i = from-mem k m z ∙ together (leb k z) (ltb z (k + m)) (le-leb k z h) (lt-ltb z (k + m) i)
 
 past-from : (k m : ℕ) → mem (k + m) (from k m) ≡ false
-past-from k m = refuted (λ h. let q = both (leb k (k + m)) (ltb (k + m) (k + m)) (sym (from-mem k m (k + m)) ∙ h) in omega (arith, ltb-true (k + m) (k + m) (q .1)))
+past-from k m = refuted (λ h. let q = both (leb k (k + m)) (ltb (k + m) (k + m)) (sym (from-mem k m (k + m)) ∙ h) in
+    omega (arith, ltb-true (k + m) (k + m) (q .1)))
 
 from-snoc : (k m : ℕ) → from k (suc m) ≡ from k m ++ ((k + m) ∷ [])
 unfolding from
@@ -304,7 +313,8 @@ module _ (n : Net) (w : Lawful n) (k : Earlier n) where
   -- the smallest number that is left is ready
   turn-ready : (m : ℕ) (g : Node) → g ∈ n .divisors → g .number ≡ n .inputs + m → ready (n .inputs) (from (n .inputs) m) (g .cubes) ≡ true
   unfolding ready
-  turn-ready m g i e = all-in (all seen) (g .cubes) (λ c j. all-in seen c (λ x h. go (x / 2) (k g i (x / 2) (c, j, (x, h, refl))) (decided (ltb (x / 2) (n .inputs)))))
+  turn-ready m g i e = all-in (all seen) (g .cubes)
+      (λ c j. all-in seen c (λ x h. go (x / 2) (k g i (x / 2) (c, j, (x, h, refl))) (decided (ltb (x / 2) (n .inputs)))))
     where
       seen : ℕ → Bool
       seen x = ltb (x / 2) (n .inputs) || mem (x / 2) (from (n .inputs) m)
@@ -327,7 +337,8 @@ module _ (n : Net) (w : Lawful n) (k : Earlier n) where
         ]
   ]
 
-  turn-rest : (m : ℕ) (b : List ℕ) → m + length b ≡ length (n .divisors) → listing n ≡ from (n .inputs) m ++ b → listing n ≡ from (n .inputs) (length (n .divisors))
+  turn-rest : (m : ℕ) (b : List ℕ) → m + length b ≡ length (n .divisors) → listing n ≡ from (n .inputs) m ++ b
+      → listing n ≡ from (n .inputs) (length (n .divisors))
   turn-rest m [] h e = e ∙ append-nil (from (n .inputs) m) ∙ ap (from (n .inputs)) (omega arith)
   turn-rest m (v ∷ b) h e = turn-rest (suc m) b (omega arith)
       (e ∙ ap (λ z. from (n .inputs) m ++ (z ∷ b)) (turn-next m b v (omega arith) e)

@@ -78,7 +78,8 @@ read-bytes bytes n small h =
     let k = length (a .rest) in
     let z = padding-out (a .rest) (a .padded) in
     let e : bitsIn bytes ≡ l ++ replicate k false = a .fills .bits ∙ ap (l ++_) (z .1) in
-    let w : 8 * length bytes ≡ length l + k = sym (bits-in-length bytes) ∙ ap length e ∙ length-append l (replicate k false) ∙ ap (length l +_) (length-replicate k false) in
+    let w : 8 * length bytes ≡ length l + k = sym (bits-in-length bytes) ∙ ap length e ∙ length-append l (replicate k false)
+    ∙ ap (length l +_) (length-replicate k false) in
     subst (λ m. bytesOf (fieldBits (netFields m)) ≡ bytes) (a .same)
     (sym (bytes-pad l k (omega (arith, z .0))) ∙ ap bytesOf (sym e) ∙ bits-bytes bytes small)
 
@@ -115,7 +116,8 @@ module _ (n : Net) (h : Lawful n) where
       let w : length l ≡ 8 * k = bits-in-length (take k bs) ∙ ap (8 *_) (length-take-le k bs (omega arith)) in
       let few : 8 * k < length all = omega (arith, bytes-length (fieldBits (netFields n)), ap length net-raw) in
       let e : l ++ bitsIn (drop k bs) ≡ all ++ zeroBits = sym (bits-in-append (take k bs) (drop k bs)) ∙ ap bitsIn (take-append-drop k bs) ∙ bytes-stand in
-      let front : l ≡ take (8 * k) all = sym (take-at l (bitsIn (drop k bs)) (8 * k) w) ∙ ap (take (8 * k)) e ∙ take-append-le (8 * k) all zeroBits (omega arith) in
+      let front : l ≡ take (8 * k) all = sym (take-at l (bitsIn (drop k bs)) (8 * k) w) ∙ ap (take (8 * k)) e
+      ∙ take-append-le (8 * k) all zeroBits (omega arith) in
       judged-read (take k bs) (early (begins-early (rawOf n) l (drop (8 * k) all) (lawful-fits n h)
       (sym (take-append-drop (8 * k) all) ∙ ap (_++ drop (8 * k) all) (sym front)) (omega (arith, length-drop (8 * k) all))))
 

@@ -50,7 +50,8 @@ imageLayout =
 -- fields in range are met in turn, and where the next is due the bits are at such an end
 pub data Meets (End : ℕ → (ℕ → Bool) → List Bool → Type 0) : Layout → List Bool → Type 0 where
   here : {w : ℕ} {ok : ℕ → Bool} {g : ℕ → Layout} {l : List Bool} → End w ok l → Meets End (next w ok g) l
-  later : {w : ℕ} {ok : ℕ → Bool} {g : ℕ → Layout} {l : List Bool} (b : List Bool) → length b ≡ w → ok (valueOf b) ≡ true → Meets End (g (valueOf b)) l → Meets End (next w ok g) (b ++ l)
+  later : {w : ℕ} {ok : ℕ → Bool} {g : ℕ → Layout} {l : List Bool} (b : List Bool) → length b ≡ w → ok (valueOf b) ≡ true → Meets End (g (valueOf b)) l
+      → Meets End (next w ok g) (b ++ l)
 
 -- a whole field out of range, whatever follows
 pub record Stray (w : ℕ) (ok : ℕ → Bool) (l : List Bool) : Type 0 where

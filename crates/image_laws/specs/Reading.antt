@@ -60,7 +60,8 @@ pub record Raw : Type 0 where
 
 unfoldable pub getNodes : ℕ → ℕ → ℕ → List Bool → Parsed Raw
 getNodes n m k l =
-    andThen (getMany (getNode (n + k)) k l) (λ ds r. andThen (getMany (getNode (n + k)) m r) (λ os t. got (record { inputs = n; divisors = ds; outputs = os }) t))
+    andThen (getMany (getNode (n + k)) k l) (λ ds r. andThen (getMany (getNode (n + k)) m r)
+    (λ os t. got (record { inputs = n; divisors = ds; outputs = os }) t))
 
 unfoldable pub getRaw : List Bool → Parsed Raw
 getRaw l =

@@ -53,7 +53,8 @@ itself-next e ps h i = record {
 pub placing-none : (n : ℕ) (order ps : List ℕ) → n ≤ mostVariables → Itself mostVariables ps → Placing n 0 order ps
 placing-none n order ps h i = record { wide = i .wide; inputs = λ v k. i .each v (omega arith); divisors = λ j k. absurd (omega arith) }
 
-pub placing-next : (n k : ℕ) (order ps : List ℕ) (i : ℕ) → Numbers n k order → i < k → Placing n i order ps → Placing n (i + 1) order (set ps (getD order i 0) (n + i))
+pub placing-next : (n k : ℕ) (order ps : List ℕ) (i : ℕ) → Numbers n k order → i < k → Placing n i order ps
+    → Placing n (i + 1) order (set ps (getD order i 0) (n + i))
 placing-next n k order ps i z h p =
     let v = getD order i 0 in
     let r = z .range i h in

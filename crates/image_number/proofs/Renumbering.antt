@@ -90,7 +90,8 @@ module _ {n m k : ℕ} {words counts order : List ℕ} (b : Numberable n m k wor
     variables = sized .variables;
     counted = ordered .counted;
     range = λ i h. let r = ordered .numbers i h in (r .0, omega (arith, r .1, sized .variables));
-    apart = λ i j l h e. differ-out (pairwise-at differ 0 (listing net) i j (listing-once net) l (omega (arith, listed-many))) (sym (order-at i (omega arith)) ∙ e ∙ order-at j h);
+    apart = λ i j l h e. differ-out (pairwise-at differ 0 (listing net) i j (listing-once net) l (omega (arith, listed-many)))
+        (sym (order-at i (omega arith)) ∙ e ∙ order-at j h);
   }
 
   module _ (i : ℕ) (h : i < m + k) where
@@ -127,7 +128,8 @@ module _ {n m k : ℕ} {words counts order : List ℕ} (b : Numberable n m k wor
   -- its count is the number of its cubes
   pub size-at : (j : ℕ) → j < m + k → getD counts j 0 ≡ length (getD old j [])
   size-at j h =
-      sym (getD-take (m + k) counts j 0 h) ∙ sym (cut-node-length (take (m + k) counts) (cubesOf words) j (omega (arith, sized .cubes, places))) ∙ ap length (old-at j h)
+      sym (getD-take (m + k) counts j 0 h) ∙ sym (cut-node-length (take (m + k) counts) (cubesOf words) j (omega (arith, sized .cubes, places)))
+      ∙ ap length (old-at j h)
 
   -- ---- the nodes of the network renumbered
 
@@ -205,7 +207,8 @@ module _ {n m k : ℕ} {words counts order : List ℕ} (b : Numberable n m k wor
         go (inr t) =
             let l = ltb-false v n t in
             let e : n + (v - n) ≡ v = omega arith in
-            let there : v ∈ listing net = Memᴰ·cast (sym e) (listing-in net all-listed _ (numbered-in n ds (v - n) (omega (arith, many, numbered-length n ds)))) in
+            let there : v ∈ listing net = Memᴰ·cast (sym e)
+            (listing-in net all-listed _ (numbered-in n ds (v - n) (omega (arith, many, numbered-length n ds)))) in
             let j : indexOf v (listing net) < k = omega (arith, index-lt v (listing net) there, listed-many) in
             rw t (ap (λ u. getD ps u 0) (sym (order-at (indexOf v (listing net)) j ∙ index-at v (listing net) there)) ∙ p .divisors (indexOf v (listing net)) j)
 

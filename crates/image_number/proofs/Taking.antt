@@ -77,7 +77,8 @@ pub by-small : (ps : List ℕ) (l : ℕ) → Wide ps → literalBy ps l < 2 * wi
 by-small ps l w = omega (arith, w .small (l / 2))
 
 -- the invariant of the loop: what is left and what is there make up the whole
-pub by-more : (ps c : List ℕ) (x : ℕ) (d r s : List ℕ) → Wide ps → asc r ≡ true → c ≡ x ∷ d → s ≡ joined (literalBy ps x) r → union (cubeBy ps d) s ≡ union (cubeBy ps c) r
+pub by-more : (ps c : List ℕ) (x : ℕ) (d r s : List ℕ) → Wide ps → asc r ≡ true → c ≡ x ∷ d → s ≡ joined (literalBy ps x) r
+    → union (cubeBy ps d) s ≡ union (cubeBy ps c) r
 unfolding cubeBy
 by-more ps c x d r s w a e f =
     let j : s ≡ insert (literalBy ps x) r = f ∙ rw (lt-ltb (literalBy ps x) (2 * width) (by-small ps x w)) in

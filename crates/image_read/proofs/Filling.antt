@@ -92,7 +92,8 @@ module _ {bits : List Bool} {v k i : ℕ} {start : State} {old new : List ℕ} {
   pub fill-bad : i < k → (e : ℕ) → getCube v (drop (s .at) bits) ≡ bad e → getMany (getCube v) k (drop (start .at) bits) ≡ bad e
   fill-bad more e q = going-bad (getCube v) k (h .going) more e q
 
-  pub fill-next : i < k → (c : Taken) → CubeGot mostCubeBits bits (s .at) (getCube v (drop (s .at) bits)) c → (new' : List ℕ) → Put new new' (s .cubes) (lits (c .cube))
+  pub fill-next : i < k → (c : Taken) → CubeGot mostCubeBits bits (s .at) (getCube v (drop (s .at) bits)) c → (new' : List ℕ)
+      → Put new new' (s .cubes) (lits (c .cube))
       → (t : State) → t ≡ added s c → Filling bits v k (i + 1) start old new' t
   fill-next more c q new' p t e = subst (Filling bits v k (i + 1) start old new') (sym e) (record {
     read = h .read ++ (q .read ∷ []);
@@ -135,7 +136,8 @@ module _ (bits : List Bool) (v : ℕ) (s : State) where
 
     -- the cubes after the count
     pub node-are : k ≤ mostCubes → (old new : List ℕ) (r : Step)
-        → CubesAre mostCubesBits bits (past s) (getMany (getCube v) k (drop (past s .at) bits)) old new r → CubesAre mostNodeBits bits s (getNode v (drop (s .at) bits)) old new r
+        → CubesAre mostCubesBits bits (past s) (getMany (getCube v) k (drop (past s .at) bits)) old new r
+        → CubesAre mostNodeBits bits s (getNode v (drop (s .at) bits)) old new r
     node-are m old new (Bad e) q = node-on m ∙ q
     node-are m old new (On t) c = record {
       read = c .read;
@@ -170,7 +172,8 @@ count-none bits v k start ws first cs = record {
   near = near-same start;
 }
 
-module _ {bits : List Bool} {v k i : ℕ} {start : State} {old new : List ℕ} {first : ℕ} {was are : List ℕ} {s : State} (h : Counting bits v k i start old new first was are s) where
+module _ {bits : List Bool} {v k i : ℕ} {start : State} {old new : List ℕ} {first : ℕ} {was are : List ℕ} {s : State}
+    (h : Counting bits v k i start old new first was are s) where
   pub count-bad : i < k → (e : ℕ) → getNode v (drop (s .at) bits) ≡ bad e → getMany (getNode v) k (drop (start .at) bits) ≡ bad e
   count-bad more e q = going-bad (getNode v) k (h .going) more e q
 
@@ -185,7 +188,12 @@ module _ {bits : List Bool} {v k i : ℕ} {start : State} {old new : List ℕ} {
         let b : t .cubes - s .cubes ≡ length (c .read) = omega (arith, c .put .cubes) in
         ap₂ (λ n x. set are n x) a b ∙ ap (λ l. set l (first + length (map length (h .read))) (length (c .read))) (h .counts)
         ∙ sym (sets-append was first (map length (h .read)) (length (c .read) ∷ [])) ∙ ap (sets was first) (sym (map-append length (h .read) (c .read ∷ [])));
-    near = record { at = omega (arith, h .near .at, c .near .at); cubes = omega (arith, h .near .cubes, c .near .cubes); literals = omega (arith, h .near .literals, c .near .literals) };
+    near = record {
+      at = omega (arith, h .near .at, c .near .at);
+      cubes = omega (arith, h .near .cubes, c .near .cubes);
+      literals =
+          omega (arith, h .near .literals, c .near .literals);
+    };
   }
 
   pub count-end : i ≡ k → i ≤ mostVariables → NodesGot k bits start (getMany (getNode v) k (drop (start .at) bits)) old new first was are s

@@ -39,7 +39,8 @@ module _ (v k : ℕ) (s : List ℕ) (l : List Bool) where
   unfolding getLiterals
   literals-bad e h = rw h
 
-  literals-next : (x : ℕ) (r : List Bool) → getField (edition1 .literal) (allowed v s) l ≡ got x r → after s (getLiterals v (suc k) s l) ≡ after (x ∷ s) (getLiterals v k (x ∷ s) r)
+  literals-next : (x : ℕ) (r : List Bool) → getField (edition1 .literal) (allowed v s) l ≡ got x r
+      → after s (getLiterals v (suc k) s l) ≡ after (x ∷ s) (getLiterals v k (x ∷ s) r)
   unfolding getLiterals
   literals-next x r h = rw h (go (getLiterals v k (x ∷ s) r))
     where
@@ -170,7 +171,8 @@ module _ {bits : List Bool} {v k start at i : ℕ} {set : List ℕ} {up : Bool} 
 
   module _ (x : ℕ) (h : FieldIs (edition1 .literal) (drop at bits) (Is x)) where
     pub gather-bad : allowed v set x ≡ false → getLiterals v k [] (drop start bits) ≡ bad 12
-    gather-bad e = opened ∙ literals-bad v last (g .seen) (drop at bits) 12 (field-bad (edition1 .literal) (allowed v (g .seen)) (drop at bits) x h (sym (same-test x) ∙ e))
+    gather-bad e = opened ∙ literals-bad v last (g .seen) (drop at bits) 12
+        (field-bad (edition1 .literal) (allowed v (g .seen)) (drop at bits) x h (sym (same-test x) ∙ e))
 
     pub gather-next : v ≤ mostVariables → allowed v set x ≡ true → (set' : List ℕ) → set' ≡ joined x set → (up' : Bool) → up' ≡ (up && all (λ y. ltb y x) set)
         → Gathering bits v k start (at + edition1 .literal) (i + 1) set' up'
@@ -178,9 +180,11 @@ module _ {bits : List Bool} {v k start at i : ℕ} {set : List ℕ} {up : Bool} 
     gather-next few e set' s up' u = record {
       seen = x ∷ g .seen;
       number = ap suc (g .number) ∙ sym (add-one i);
-      going = opened ∙ literals-next v last (g .seen) (drop at bits) x (drop (at + edition1 .literal) bits) (field-got (edition1 .literal) (allowed v (g .seen)) bits at x h good);
+      going = opened ∙ literals-next v last (g .seen) (drop at bits) x (drop (at + edition1 .literal) bits)
+          (field-got (edition1 .literal) (allowed v (g .seen)) bits at x h good);
       held = s ∙ rw (lt-ltb x (2 * width) (omega (arith, ltb-true (x / 2) v (parts .0)))) (more-set (g .held));
-      rising = u ∙ ap₂ _&&_ (g .rising) (ap (all (λ y. ltb y x)) (g .held) ∙ set-all (λ y. ltb y x) (g .seen)) ∙ and-comm (falls (g .seen)) (all (λ y. ltb y x) (g .seen));
+      rising = u ∙ ap₂ _&&_ (g .rising) (ap (all (λ y. ltb y x)) (g .held) ∙ set-all (λ y. ltb y x) (g .seen))
+          ∙ and-comm (falls (g .seen)) (all (λ y. ltb y x) (g .seen));
       clean = proper-more x (g .seen) (g .clean) (not-true (mem (oppositeOf x) (g .seen)) (parts .1));
     }
       where
@@ -226,7 +230,8 @@ module _ (bits : List Bool) (v at : ℕ) where
     cube-on m = rw (field-got (edition1 .literals) (λ c. leb c v) bits at k h (le-leb k v m))
 
     -- the literals after the count
-    pub cube-is : k ≤ v → (r : Turn) → CubeIs mostLiteralBits bits (at + edition1 .literals) (getLiterals v k [] (drop (at + edition1 .literals) bits)) r → CubeIs mostCubeBits bits at (getCube v (drop at bits)) r
+    pub cube-is : k ≤ v → (r : Turn) → CubeIs mostLiteralBits bits (at + edition1 .literals) (getLiterals v k [] (drop (at + edition1 .literals) bits)) r
+        → CubeIs mostCubeBits bits at (getCube v (drop at bits)) r
     cube-is m (turn.Bad e) q = cube-on m ∙ q
     cube-is m (turn.Cube r) c = record {
       read = c .read;

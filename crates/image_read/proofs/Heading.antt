@@ -94,7 +94,11 @@ module _ (bits : List Bool) where
                 few : leb (a + 1 + k) mostVariables ≡ true → HeadIs bits (sizesOf a b k)
                 few q = rw q (record {
                   is = sizes-on (sym same ∙ q) ∙ rw (add-one, add-one) refl;
-                  sized = record { outputs = omega (arith, field-below (edition1 .outputs) b (drop outputsAt bits) hb); variables = leb-true (a + 1 + k) mostVariables q };
+                  sized = record {
+                    outputs = omega (arith, field-below (edition1 .outputs) b (drop outputsAt bits) hb);
+                    variables =
+                        leb-true (a + 1 + k) mostVariables q;
+                  };
                 })
 
                 many : leb (a + 1 + k) mostVariables ≡ false → HeadIs bits (sizesOf a b k)
@@ -110,13 +114,17 @@ module _ (bytes : List ℕ) (at w v : ℕ) where
   field-short h k = let short : length (drop at (bitsIn bytes)) < w = omega (arith, left-length bytes at) in short
 
 -- the edition is there, and not all that follows it before the nodes
-pub front-cut : (bytes : List ℕ) (e : ℕ) → FieldIs editionField (bitsIn bytes) (Is e) → e ≡ edition1 .number → 1 ≤ length bytes → length bytes < bytesFor headSize → getRaw (bitsIn bytes) ≡ bad 11
+pub front-cut : (bytes : List ℕ) (e : ℕ) → FieldIs editionField (bitsIn bytes) (Is e) → e ≡ edition1 .number → 1 ≤ length bytes
+    → length bytes < bytesFor headSize → getRaw (bitsIn bytes) ≡ bad 11
 front-cut bytes e h one some few = ⊎-elim two less (decided (leb (bytesFor divisorsAt) (length bytes)))
   where
     two : leb (bytesFor divisorsAt) (length bytes) ≡ true → getRaw (bitsIn bytes) ≡ bad 11
     two t =
         let l = leb-true (bytesFor divisorsAt) (length bytes) t in
-        divisors-cut (bitsIn bytes) e h one _ (field-is bytes inputsAt (edition1 .inputs) _ (omega (arith, l)) refl) _ (field-is bytes outputsAt (edition1 .outputs) _ (omega (arith, l)) refl) (field-short bytes divisorsAt (edition1 .divisors) 0 (omega arith) (omega arith))
+        divisors-cut (bitsIn bytes) e h one _ (field-is bytes inputsAt (edition1 .inputs) _ (omega (arith, l)) refl) _
+        (field-is bytes outputsAt (edition1 .outputs) _ (omega (arith, l)) refl)
+        (field-short bytes divisorsAt (edition1 .divisors) 0 (omega arith) (omega arith))
 
     less : leb (bytesFor divisorsAt) (length bytes) ≡ false → getRaw (bitsIn bytes) ≡ bad 11
-    less f = inputs-cut (bitsIn bytes) e h one (field-short bytes inputsAt (edition1 .inputs) 0 (omega (arith, leb-false (bytesFor divisorsAt) (length bytes) f)) (omega arith))
+    less f = inputs-cut (bitsIn bytes) e h one (field-short bytes inputsAt (edition1 .inputs) 0
+        (omega (arith, leb-false (bytesFor divisorsAt) (length bytes) f)) (omega arith))

@@ -36,7 +36,8 @@ cubes-stand {s} {t} {new} f h z a few =
     (placed-as (sets-asc f a) (subst (λ i. Placed blankWords new i (map setOf f)) z (h .stored (omega (arith, z, n)))))
 
 -- counts of outputs first, then of divisors, then zeros
-module _ (os ds given counts : List ℕ) (few : length os + length ds ≤ nodeSlots) (g : given ≡ sets blankCounts (length os) ds) (c : counts ≡ sets given 0 os) where
+module _ (os ds given counts : List ℕ) (few : length os + length ds ≤ nodeSlots) (g : given ≡ sets blankCounts (length os) ds)
+    (c : counts ≡ sets given 0 os) where
   abbrev front : List ℕ
   front = take (length os) blankCounts
 
@@ -61,7 +62,8 @@ module _ (os ds given counts : List ℕ) (few : length os + length ds ≤ nodeSl
       ∙ ap (λ l. os ++ (ds ++ l)) (drop-replicate (length os + length ds) nodeSlots 0)
 
 -- the nodes are cut out of the cubes again
-pub nodes-stand : (fs : List (List (List ℕ))) {words counts : List ℕ} {n : ℕ} → Front words n (flat fs) → counts ≡ map length fs → cut counts (cubesOf words) ≡ fs
+pub nodes-stand : (fs : List (List (List ℕ))) {words counts : List ℕ} {n : ℕ} → Front words n (flat fs) → counts ≡ map length fs
+    → cut counts (cubesOf words) ≡ fs
 nodes-stand fs w c = ap₂ cut c (w .cubes) ∙ cut-flat fs _
 
 pub sum-lengths : {A : Type 0} (fs : List (List A)) → total (λ c. c) (map length fs) ≡ length (flat fs)

@@ -22,7 +22,8 @@ use Rattle.network.proofs.Handing.{flat-length, flat-append}
 use Rattle.image_fields.specs.Fields.{bitsIn}
 use Rattle.network.proofs.Numbering.{numbered-cubes, numbered-length}
 use Rattle.image_laws.specs.Widths.{headSize}
-use Rattle.image_laws.specs.Reading.{got, bad, Raw, rawNodes, rawNet, padding, summed, allInOrder, inTheOrder, readsEarlier, judgeRaw, getMany, getNode, getNodes, getRaw, readImage}
+use Rattle.image_laws.specs.Reading.{got, bad, Raw, rawNodes, rawNet, padding, summed, allInOrder, inTheOrder, readsEarlier, judgeRaw, getMany}
+use Rattle.image_laws.specs.Reading.{getNode, getNodes, getRaw, readImage}
 use Rattle.image_read.specs.Parts.{nodesAt, nodesIn, orderedIn, outputCounts, divisorCounts, fewIn, Judging, verdict, judgedOf, blankCounts, Half, Whole}
 use Rattle.expression.specs.declared.Verdict.{Verdict}
 use Rattle.expression.specs.declared.Verdict.the-variants.{Accepted, Refused}
@@ -180,7 +181,8 @@ module _ {bits : List Bool} {z : Sizes} {d : ℕ} {t : State} {apart words count
     unfolding allInOrder
     up-order =
         ap₂ (orderedIn (z .inputs)) divisors-in outputs-in
-        ∙ ap₂ (λ a b. a && (b && readsEarlier (z .inputs) ds)) (all-tidy ds (parts .0) (w .half .divisors .put .proper)) (all-tidy os (parts .1) (w .outputs .put .proper))
+        ∙ ap₂ (λ a b. a && (b && readsEarlier (z .inputs) ds)) (all-tidy ds (parts .0) (w .half .divisors .put .proper))
+        (all-tidy os (parts .1) (w .outputs .put .proper))
         ∙ sym (and-assoc (all inTheOrder ds) (all inTheOrder os) (readsEarlier (z .inputs) ds))
         ∙ ap (_&& readsEarlier (z .inputs) ds) (sym (all-append inTheOrder ds os))
 

@@ -71,7 +71,8 @@ module _ (counts : List ℕ) (f : List (List ℕ)) (i a : ℕ) (h : i < length c
 
       pub earlier-on : reach v g ≡ true → readsEarlier v (cut (drop i counts) (drop a f)) ≡ readsEarlier (suc v) (cut (drop (i + 1) counts) (drop e f))
       unfolding readsEarlier
-      earlier-on t = ap (readsEarlier v) cut-next ∙ ap (_&& readsEarlier (suc v) next) (sym (ap (reach v) node-here) ∙ t) ∙ ap (λ x. readsEarlier (suc v) (cut (drop (i + 1) counts) (drop x f))) (sym q)
+      earlier-on t = ap (readsEarlier v) cut-next ∙ ap (_&& readsEarlier (suc v) next) (sym (ap (reach v) node-here) ∙ t)
+          ∙ ap (λ x. readsEarlier (suc v) (cut (drop (i + 1) counts) (drop x f))) (sym q)
 
 pub sum-next : (counts : List ℕ) (i : ℕ) → i < length counts → total (λ c. c) (drop i counts) ≡ getD counts i 0 + total (λ c. c) (drop (i + 1) counts)
 sum-next counts i h = ap (total (λ c. c)) (drop-next counts i 0 h)

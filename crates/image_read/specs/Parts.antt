@@ -106,7 +106,8 @@ CubesAre most bits s g old new (step.On t) = CubesGot most bits s g old new t
 CubesAre most bits s g old new (step.Bad k) = g ≡ bad k
 
 -- k nodes were read, their counts put from a place on
-pub record NodesGot (k : ℕ) (bits : List Bool) (s : State) (g : Parsed (List (List (List ℕ)))) (old new : List ℕ) (first : ℕ) (was are : List ℕ) (t : State) : Type 0 where
+pub record NodesGot (k : ℕ) (bits : List Bool) (s : State) (g : Parsed (List (List (List ℕ)))) (old new : List ℕ) (first : ℕ) (was are : List ℕ)
+    (t : State) : Type 0 where
   pub read : List (List (List ℕ))
   pub number : length read ≡ k
   pub is : g ≡ got read (drop (t .at) bits)
@@ -206,7 +207,8 @@ blankCounts = replicate nodeSlots 0
 -- the divisors are read
 pub record Half (bits : List Bool) (z : Sizes) (s : State) (apart counts : List ℕ) : Type 0 where
   pub sized : SizesFit z
-  pub divisors : NodesGot (z .divisors) bits first (getMany (getNode (z .inputs + z .divisors)) (z .divisors) (drop headSize bits)) blankWords apart (z .outputs) blankCounts counts s
+  pub divisors : NodesGot (z .divisors) bits first (getMany (getNode (z .inputs + z .divisors)) (z .divisors) (drop headSize bits)) blankWords apart
+      (z .outputs) blankCounts counts s
 
 -- the outputs too
 pub record Whole (bits : List Bool) (z : Sizes) (divisors : ℕ) (t : State) (apart words counts : List ℕ) : Type 0 where
@@ -214,4 +216,5 @@ pub record Whole (bits : List Bool) (z : Sizes) (divisors : ℕ) (t : State) (ap
   pub given : List ℕ
   pub half : Half bits z s apart given
   pub cubes : divisors ≡ s .cubes
-  pub outputs : NodesGot (z .outputs) bits (second s) (getMany (getNode (z .inputs + z .divisors)) (z .outputs) (drop (s .at) bits)) blankWords words 0 given counts t
+  pub outputs : NodesGot (z .outputs) bits (second s)
+      (getMany (getNode (z .inputs + z .divisors)) (z .outputs) (drop (s .at) bits)) blankWords words 0 given counts t

@@ -18,7 +18,8 @@ ghost use Rattle.network.specs.Handed.{Told};
 ghost use Rattle.network.specs.Held.{mostInputs, mostOutputs, mostVariables, mostCubes};
 ghost use Rattle.network_nodes.specs.Nodes.{cut};
 ghost use Rattle.image_laws.specs.Reading.{padding, readsEarlier, judgeRaw, readImage};
-ghost use Rattle.image_read.specs.Parts.{times, SizesFit, nodesAt, sizesOf, HeadIs, tidy, nodesIn, orderedIn, Counted, fewIn, Judging, judgedOf, Half, Whole};
+ghost use Rattle.image_read.specs.Parts.{times, SizesFit, nodesAt, sizesOf, HeadIs, tidy, nodesIn, orderedIn, Counted, fewIn, Judging};
+ghost use Rattle.image_read.specs.Parts.{judgedOf, Half, Whole};
 
 // Where the fields before the first node begin, and the bytes that they end in.
 const INPUTS_AT: usize = image_laws::EDITION_WIDTH;
@@ -149,7 +150,8 @@ fn in_order(
     outputs: &[usize],
 ) -> bool
     requires { ⌜ Counted (now divisors) (now outputs) × (inputs + length (now divisors) ≤ mostVariables) ⌝ }
-    ensures { λ r. ⌜ r ≡ (ascending && orderedIn inputs (nodesIn (now (divisors .entry)) (now (apart .entry))) (nodesIn (now (outputs .entry)) (now (words .entry)))) ⌝ }
+    ensures { λ r. ⌜ r ≡ (ascending && orderedIn inputs (nodesIn (now (divisors .entry)) (now (apart .entry)))
+        (nodesIn (now (outputs .entry)) (now (words .entry)))) ⌝ }
 {
     if !ascending {
         return false;

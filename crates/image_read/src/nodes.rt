@@ -42,7 +42,8 @@ fn added(s: State, c: Taken) -> State
 // So many cubes, put one after the other; past the last place nothing is put.
 fn cubes(bytes: &[u8], start: State, v: usize, k: usize, words: &mut [u64]) -> Step
     requires { ⌜ Low (times 3) start × (v ≤ mostVariables) × (k ≤ mostCubes) ⌝ }
-    ensures { λ r. ⌜ CubesAre mostCubesBits (bitsIn (now (bytes .entry))) start (getMany (getCube v) k (drop (start .at) (bitsIn (now (bytes .entry))))) (now (words .entry)) (now (words .exit)) r ⌝ }
+    ensures { λ r. ⌜ CubesAre mostCubesBits (bitsIn (now (bytes .entry))) start (getMany (getCube v) k (drop (start .at) (bitsIn (now (bytes .entry)))))
+        (now (words .entry)) (now (words .exit)) r ⌝ }
 {
     let mut s = start;
     let mut i = 0;
@@ -65,7 +66,8 @@ fn cubes(bytes: &[u8], start: State, v: usize, k: usize, words: &mut [u64]) -> S
 // The node from here on: its cube count and its cubes.
 fn node(bytes: &[u8], start: State, v: usize, words: &mut [u64]) -> Step
     requires { ⌜ Low (times 2) start × (v ≤ mostVariables) ⌝ }
-    ensures { λ r. ⌜ CubesAre mostNodeBits (bitsIn (now (bytes .entry))) start (getNode v (drop (start .at) (bitsIn (now (bytes .entry))))) (now (words .entry)) (now (words .exit)) r ⌝ }
+    ensures { λ r. ⌜ CubesAre mostNodeBits (bitsIn (now (bytes .entry))) start (getNode v (drop (start .at) (bitsIn (now (bytes .entry)))))
+        (now (words .entry)) (now (words .exit)) r ⌝ }
 {
     let f = fields::field_at(bytes, start.at, image_laws::CUBES_WIDTH);
     let Field::Is(k) = f else {
@@ -90,7 +92,8 @@ pub fn nodes(
     counts: &mut [usize],
 ) -> Step
     requires { ⌜ Low (times 1) start × (v ≤ mostVariables) × (first + number ≤ length (now counts)) × (number ≤ mostVariables) ⌝ }
-    ensures { λ r. ⌜ NodesAre number (bitsIn (now (bytes .entry))) start (getMany (getNode v) number (drop (start .at) (bitsIn (now (bytes .entry))))) (now (words .entry)) (now (words .exit)) first (now (counts .entry)) (now (counts .exit)) r ⌝ }
+    ensures { λ r. ⌜ NodesAre number (bitsIn (now (bytes .entry))) start (getMany (getNode v) number (drop (start .at) (bitsIn (now (bytes .entry)))))
+        (now (words .entry)) (now (words .exit)) first (now (counts .entry)) (now (counts .exit)) r ⌝ }
 {
     let mut s = start;
     let mut i = 0;

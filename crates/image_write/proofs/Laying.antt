@@ -13,7 +13,8 @@ use Rattle.image_write.specs.Parts.{overlaid, RoomFor, LaidBits}
 
 -- ---- one bit more
 
-module _ (o old : List ℕ) (l : List Bool) (b : Bool) (at x : ℕ) (n : length l ≡ at) (e : o ≡ overlaid l old) (w : x ≡ cond b (2 ^ (7 - at % 8)) 0) (r : at + 1 ≤ 8 * length o) where
+module _ (o old : List ℕ) (l : List Bool) (b : Bool) (at x : ℕ) (n : length l ≡ at) (e : o ≡ overlaid l old) (w : x ≡ cond b (2 ^ (7 - at % 8)) 0)
+    (r : at + 1 ≤ 8 * length o) where
   size : length (bytesOf l) ≡ bytesFor at
   size = bytes-length l ∙ ap bytesFor n
 
@@ -24,8 +25,15 @@ module _ (o old : List ℕ) (l : List Bool) (b : Bool) (at x : ℕ) (n : length 
   pub bit-new : at % 8 ≡ 0 → set o (at / 8) x ≡ overlaid (l ++ (b ∷ [])) old
   bit-new z =
       let q : bytesFor at ≡ at / 8 = omega arith in
-      let h : at / 8 < length old = omega (arith, ap length e, length-append (bytesOf l) (drop (bytesFor (length l)) old), size, length-drop (bytesFor (length l)) old) in
-      let f : drop (bytesFor (length l)) old ≡ getD old (at / 8) 0 ∷ drop (suc (at / 8)) old = ap (λ i. drop i old) (ap bytesFor n ∙ q) ∙ drop-cons old (at / 8) 0 h in
+      let h : at / 8 < length old = omega (
+        arith,
+        ap length e,
+        length-append (bytesOf l) (drop (bytesFor (length l)) old),
+        size,
+        length-drop (bytesFor (length l)) old,
+      ) in
+      let f : drop (bytesFor (length l)) old ≡ getD old (at / 8) 0 ∷ drop (suc (at / 8)) old =
+      ap (λ i. drop i old) (ap bytesFor n ∙ q) ∙ drop-cons old (at / 8) 0 h in
       let v : x ≡ cond b 128 0 = w ∙ ap (λ i. cond b (2 ^ (7 - i)) 0) z in
       ap (λ (u : List ℕ). set u (at / 8) x) (e ∙ ap (bytesOf l ++_) f)
       ∙ set-at (bytesOf l) _ (drop (suc (at / 8)) old) x (at / 8) (size ∙ q)
@@ -59,8 +67,14 @@ module _ (o old : List ℕ) (l : List Bool) (b : Bool) (at x : ℕ) (n : length 
     -- the byte stays one
     pub bit-fits : getD o (at / 8) 0 + x < 256
     bit-fits =
-        let g : getD (bytesOf (l ++ (b ∷ []))) (at / 8) 0 ≡ getD o (at / 8) 0 + x = ap (λ (u : List ℕ). getD u (at / 8) 0) more ∙ getD-set-same (bytesOf l) (at / 8) (getD o (at / 8) 0 + x) 0 inside in
-        omega (arith, g, from-small (bytesFor (length (l ++ (b ∷ [])))) (l ++ (b ∷ [])) _ (at-in (bytesOf (l ++ (b ∷ []))) (at / 8) 0 (omega (arith, bytes-length (l ++ (b ∷ [])), next))))
+        let g : getD (bytesOf (l ++ (b ∷ []))) (at / 8) 0 ≡ getD o (at / 8) 0 + x =
+        ap (λ (u : List ℕ). getD u (at / 8) 0) more ∙ getD-set-same (bytesOf l) (at / 8) (getD o (at / 8) 0 + x) 0 inside in
+        omega (
+          arith,
+          g,
+          from-small (bytesFor (length (l ++ (b ∷ [])))) (l ++ (b ∷ [])) _
+              (at-in (bytesOf (l ++ (b ∷ []))) (at / 8) 0 (omega (arith, bytes-length (l ++ (b ∷ [])), next))),
+        )
 
 -- ---- bits after bits
 
@@ -83,13 +97,15 @@ module _ {o : List ℕ} {at : ℕ} {bs : List Bool} {o′ : List ℕ} {p : ℕ} 
   pub going-as : {rest rest′ : List Bool} → Going o at bs o′ p rest → rest ≡ rest′ → Going o at bs o′ p rest′
   going-as g e = record { done = g .done; whole = g .whole ∙ ap (g .done ++_) e; laid = g .laid; same = g .same }
 
-  pub going-next : {o″ : List ℕ} {r : ℕ} {x rest : List Bool} → Going o at bs o′ p (x ++ rest) → LaidBits o′ o″ p r x → length o″ ≡ length o′ → Going o at bs o″ r rest
+  pub going-next : {o″ : List ℕ} {r : ℕ} {x rest : List Bool} → Going o at bs o′ p (x ++ rest) → LaidBits o′ o″ p r x → length o″ ≡ length o′
+      → Going o at bs o″ r rest
   going-next {x = x} {rest = rest} g k s = record {
     done = g .done ++ x;
     whole = g .whole ∙ sym (append-assoc (g .done) x rest);
     laid = record {
       place = omega (arith, k .place, g .laid .place, length-append (g .done) x);
-      adds = λ l old n e. k .adds (l ++ g .done) old (length-append l (g .done) ∙ omega (arith, g .laid .place)) (g .laid .adds l old n e) ∙ ap (λ u. overlaid u old) (append-assoc l (g .done) x);
+      adds = λ l old n e. k .adds (l ++ g .done) old (length-append l (g .done) ∙ omega (arith, g .laid .place)) (g .laid .adds l old n e)
+          ∙ ap (λ u. overlaid u old) (append-assoc l (g .done) x);
     };
     same = s ∙ g .same;
   }
@@ -97,7 +113,8 @@ module _ {o : List ℕ} {at : ℕ} {bs : List Bool} {o′ : List ℕ} {p : ℕ} 
   -- there is room for the bits that come next
   pub going-ready : (x rest : List Bool) → Going o at bs o′ p (x ++ rest) → RoomFor o at (length bs) → RoomFor o′ p (length x)
   going-ready x rest g r =
-      let t : length bs ≡ length (g .done) + (length x + length rest) = ap length (g .whole) ∙ length-append (g .done) (x ++ rest) ∙ ap (length (g .done) +_) (length-append x rest) in
+      let t : length bs ≡ length (g .done) + (length x + length rest) =
+      ap length (g .whole) ∙ length-append (g .done) (x ++ rest) ∙ ap (length (g .done) +_) (length-append x rest) in
       record {
         bits = r .bits ++ g .done;
         old = r .old;

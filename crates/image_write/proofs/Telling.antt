@@ -50,7 +50,8 @@ module _ (r : Network) (m : Net) (h : Holds r m) where
   from-zero i = let z : i - 0 ≡ i = omega arith in ap (λ j. take j all) z
 
   outputs-held : take (r .outputs) all ≡ m .outputs
-  outputs-held = sym (take-take (r .outputs) e all (omega arith)) ∙ ap (take (r .outputs)) front ∙ take-at (m .outputs) (divisorCubes m) (r .outputs) (sym (h .outputs))
+  outputs-held = sym (take-take (r .outputs) e all (omega arith)) ∙ ap (take (r .outputs)) front
+      ∙ take-at (m .outputs) (divisorCubes m) (r .outputs) (sym (h .outputs))
 
   divisors-held : nodesFrom (r .outputs) e (r .words) (r .counts) ≡ divisorCubes m
   divisors-held =
@@ -62,7 +63,8 @@ module _ (r : Network) (m : Net) (h : Holds r m) where
 
   pub bits-held : allBits (r .inputs) (r .outputs) (r .divisors) (r .words) (r .counts) ≡ fieldBits (netFields m)
   bits-held =
-      ap₂ _++_ (ap₂ (λ (i o : ℕ). fieldBits (headFields i o (r .divisors))) (h .inputs) (h .outputs) ∙ ap (λ d. fieldBits (headFields (m .inputs) (length (m .outputs)) d)) (h .divisors))
+      ap₂ _++_ (ap₂ (λ (i o : ℕ). fieldBits (headFields i o (r .divisors))) (h .inputs) (h .outputs)
+      ∙ ap (λ d. fieldBits (headFields (m .inputs) (length (m .outputs)) d)) (h .divisors))
       (ap₂ (λ (x y : List (List (List ℕ))). nodeBits x ++ nodeBits y) divisors-held (from-zero (r .outputs) ∙ outputs-held))
       ∙ sym (net-bits m)
 
@@ -79,9 +81,14 @@ module _ (n : Network) (shape : Shaped n) (lawful : rules n ≡ true) (r : Netwo
   sizes =
       let f = rules-lawful n shape lawful in
       let o : r .outputs ≡ n .outputs = h .outputs ∙ length-map ((netOf n) .outputs) _ ∙ rules-outputs n shape lawful in
-      let d : r .divisors ≡ n .divisors = h .divisors ∙ numbered-length (n .inputs) _ ∙ length-map (listing (netOf n)) (λ v. newNode (n .inputs) (listing (netOf n)) (cubesAt v ((netOf n) .divisors))) ∙ (rules-sound n lawful) .whole ∙ rules-divisors n shape lawful in
-      let u = rules-outputs n shape lawful in
-      (omega (arith, h .inputs, f .inputs), omega (arith, o, u, f .outputs), omega (arith, o, u, d, f .outputs, f .inputs, f .within .variables, rules-divisors n shape lawful))
+      let d : r .divisors ≡ n .divisors = h .divisors ∙ numbered-length (n .inputs) _
+      ∙ length-map (listing (netOf n)) (λ v. newNode (n .inputs) (listing (netOf n)) (cubesAt v ((netOf n) .divisors))) ∙ (rules-sound n lawful) .whole
+      ∙ rules-divisors n shape lawful in
+      let u = rules-outputs n shape lawful in (
+        omega (arith, h .inputs, f .inputs),
+        omega (arith, o, u, f .outputs),
+        omega (arith, o, u, d, f .outputs, f .inputs, f .within .variables, rules-divisors n shape lawful),
+      )
 
   module _ (whole : Shaped r) where
     pub held : Held (r .words) (r .counts) (r .outputs + r .divisors)

@@ -68,7 +68,8 @@ pub record Turn (net : Net) (todo : ℕ) (order : List ℕ) (count : ℕ) (k : L
   pub spans : BothWays (net .inputs) (take count order) k
   pub going : listMore todo net (take count order) ≡ listing net
 
-pub turn-first : (net : Net) (todo : ℕ) (k : List ℕ) → todo ≡ length (net .divisors) → BothWays (net .inputs) [] k → Turn net todo (replicate mostVariables 0) 0 k
+pub turn-first : (net : Net) (todo : ℕ) (k : List ℕ) → todo ≡ length (net .divisors) → BothWays (net .inputs) [] k
+    → Turn net todo (replicate mostVariables 0) 0 k
 unfolding listing
 turn-first net todo k e s = record { whole = refl; rest = refl; spans = s; going = rw e }
 
@@ -91,7 +92,8 @@ module _ (net : Net) (order : List ℕ) (count : ℕ) (k : List ℕ) where
         less x y z = rw z
 
   -- the listing is what is listed so far
-  closed : count ≤ mostVariables → length order ≡ mostVariables → drop count order ≡ replicate (mostVariables - count) 0 → take count order ≡ listing net → PaddedList (listing net) count order
+  closed : count ≤ mostVariables → length order ≡ mostVariables → drop count order ≡ replicate (mostVariables - count) 0 → take count order ≡ listing net
+      → PaddedList (listing net) count order
   closed h w r e =
       let n : count ≡ length (listing net) = sym (length-take-le count order (omega arith)) ∙ ap length e in
       record { number = n; places = sym (take-append-drop count order) ∙ ap₂ _++_ e (r ∙ ap (λ x. replicate (mostVariables - x) 0) n) }

@@ -58,7 +58,8 @@ node c = let l = c .before .before .before in c .part .ensures .0
 
 more : (c : tie.After-count-in Inv-loop μ-loop) → CountingAll (lits (start (c .before .before .before .before) .args .a))
     (lits (start (c .before .before .before .before) .args .b)) (held (c .before .before .before .before)) (c .before .before .before .before .loop .i + 1)
-    (c .before .before .before .before .loop .uses + c .count-in .result .uses) (c .before .before .before .before .loop .literals + c .count-in .result .literals)
+    (c .before .before .before .before .loop .uses + c .count-in .result .uses)
+    (c .before .before .before .before .loop .literals + c .count-in .result .literals)
 more c =
     let l = c .before .before .before .before in
     all-more _ _ (held l) (l .loop .i) (l .loop .uses) (l .loop .literals) (l .loop .inv .2) (omega (arith, many l)) _ _

@@ -41,7 +41,8 @@ loop-holds c =
     let s = c .before .before .before .before in (
       omega (arith, c .number .ensures),
       subst (λ x. Adds (Nodes (held s)) (known s) (gather (sumOf (lits (s .args .c))) x) (s .args .held) (s .args .held))
-          (sym (drop-of-length-le (cubesOf (s .args .s .now)) {i = c .number .result} (omega (arith, c .number .ensures)))) (adds-none (known s) (s .args .held)),
+          (sym (drop-of-length-le (cubesOf (s .args .s .now)) {i = c .number .result} (omega (arith, c .number .ensures))))
+          (adds-none (known s) (s .args .held)),
     )
 
 sub-j : tie.Need-sub-j Inv-loop μ-loop

@@ -1,4 +1,5 @@
--- `image_number::build` meets its contract. The loop's invariant: the nodes passed stand one after the other, renumbered, their counts beside them. Assumes nothing.
+-- `image_number::build` meets its contract. The loop's invariant: the nodes passed stand one after the other, renumbered, their counts
+-- beside them. Assumes nothing.
 use Prim.Native.Nat.{ℕ, _+_, _-_, _<_, _≤_}
 use mathlib.Core.Path.{_≡_, sym, _∙_, ap, subst}
 use mathlib.Core.List.{List, [], map}
@@ -130,8 +131,12 @@ loop-again c =
     let h = head (chosen o) in
     let s = start h in
     let z = small (s .pre) in
-    let n = new-many (s .pre) in
-    (omega arith, search needs, laid-more (fs s) (h .loop .inv .2) (omega (arith, n)) (omega (arith, n, z .0, z .1)) (becomes o) (as-many o) (c .before .put-node .ensures))
+    let n = new-many (s .pre) in (
+      omega arith,
+      search needs,
+      laid-more (fs s) (h .loop .inv .2) (omega (arith, n)) (omega (arith, n, z .0, z .1)) (becomes o) (as-many o)
+          (c .before .put-node .ensures),
+    )
 
 returns : tie.Need-returns Inv-loop μ-loop
 returns c =

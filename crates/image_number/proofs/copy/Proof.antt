@@ -62,8 +62,11 @@ loop-again c =
     let l : h .loop .i < length f = omega (arith, n .before .before .before .before .number .ensures) in
     let g = cubeBy (s .args .places .now) in
     let e = n .new-cube .ensures ∙ ap g (n .before .cube-at .ensures) ∙ sym (getD-map g f (h .loop .i) [] [] l) in
-    let m = length-map f g in
-    (omega arith, copied-next (renewed s) (omega (arith, m)) (omega (arith, s .pre .1)) (h .loop .inv .1) e (c .before .before .put-cube .ensures), search needs)
+    let m = length-map f g in (
+      omega arith,
+      copied-next (renewed s) (omega (arith, m)) (omega (arith, s .pre .1)) (h .loop .inv .1) e (c .before .before .put-cube .ensures),
+      search needs,
+    )
 
 same-length : tie.Need-same-length Inv-loop μ-loop
 same-length c = search needs

@@ -1,4 +1,5 @@
--- `image_number::new_cube` meets its contract. The loop's invariant: the new literals of what is left, joined to those that are there, are those of the cube. Assumes nothing.
+-- `image_number::new_cube` meets its contract. The loop's invariant: the new literals of what is left, joined to those that are there, are
+-- those of the cube. Assumes nothing.
 use mathlib.Core.Path.{_≡_, sym, _∙_, ap}
 use mathlib.Core.List.{_∷_}
 use mathlib.Core.Option.{none, some}
@@ -37,7 +38,8 @@ enum-told c = search needs
 
 returns : tie.Need-returns Inv-loop μ-loop
 returns c =
-    let h : firstFrom 0 (lits (c .before .before .before .loop .rest)) ≡ none = sym (c .before .before .first-from .ensures) ∙ ap answer (c .enum-told .given .1) in
+    let h : firstFrom 0 (lits (c .before .before .before .loop .rest)) ≡ none =
+    sym (c .before .before .first-from .ensures) ∙ ap answer (c .enum-told .given .1) in
     sym (by-all _ _ _ (first-none _ h)) ∙ c .before .before .before .loop .inv
 
 -- where a literal is taken, and what is left there
@@ -76,7 +78,8 @@ without-requires c κs = search needs
 others : (c : tie.After-without Inv-loop μ-loop) → lits (left (taken c) .loop .rest) ≡ head (taken c) ∷ lits (c .without .result)
 others c =
     let f = taken c in
-    rest-next _ _ _ _ _ (lits-asc (left f .loop .rest)) (head-told f) (head-small f) (c .before .before .empty2 .ensures) (c .before .with2 .ensures) (c .without .ensures)
+    rest-next _ _ _ _ _ (lits-asc (left f .loop .rest)) (head-told f) (head-small f) (c .before .before .empty2 .ensures) (c .before .with2 .ensures)
+    (c .without .ensures)
 
 loop-less : tie.Need-loop-less Inv-loop μ-loop
 loop-less c = omega (arith, ap length (others c))

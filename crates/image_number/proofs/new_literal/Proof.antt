@@ -23,13 +23,15 @@ negated-requires : tie.Need-negated-requires
 negated-requires c κs = search needs
 
 returns : tie.Need-returns
-returns c = let n = c .before .before in let v = n .before .before .before in literal-negated _ _ _ _ (v .before .before .pre .0) (v .variable-of .ensures) _ (n .is-negated .ensures) (c .before .if1 .taken) (c .negated .ensures)
+returns c = let n = c .before .before in let v = n .before .before .before in
+    literal-negated _ _ _ _ (v .before .before .pre .0) (v .variable-of .ensures) _ (n .is-negated .ensures) (c .before .if1 .taken) (c .negated .ensures)
 
 plain-requires : tie.Need-plain-requires
 plain-requires c κs = search needs
 
 returns-2 : tie.Need-returns-2
-returns-2 c = let n = c .before .before in let v = n .before .before .before in literal-plain _ _ _ _ (v .before .before .pre .0) (v .variable-of .ensures) _ (n .is-negated .ensures) (c .before .if1 .left) (c .plain .ensures)
+returns-2 c = let n = c .before .before in let v = n .before .before .before in
+    literal-plain _ _ _ _ (v .before .before .pre .0) (v .variable-of .ensures) _ (n .is-negated .ensures) (c .before .if1 .left) (c .plain .ensures)
 
 pub new-literal-spec : {M : Type 1} → statement M
 new-literal-spec =

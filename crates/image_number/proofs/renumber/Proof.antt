@@ -55,7 +55,12 @@ lawful c = accepted-rules _ (sym (c .before .before .judge .ensures) ∙ c .enum
 build-requires : tie.Need-build-requires
 build-requires c κs =
     let l = c .before .before .before .before .before .before in
-    record { lawful = lawful (l .before); shape = shape-of _ (search needs) (search needs); listed = rules-order _ (lawful (l .before)) _ (l .listing .ensures) }
+    record {
+      lawful = lawful (l .before);
+      shape = shape-of _ (search needs) (search needs);
+      listed =
+          rules-order _ (lawful (l .before)) _ (l .listing .ensures);
+    }
 
 hand-requires : tie.Need-hand-requires
 hand-requires c κs = search needs

@@ -15,13 +15,15 @@ use Rattle.image_read.proofs.all_earlier.Tie as tie
 
 abbrev Inv-loop : tie.InvT-loop
 Inv-loop words counts n a₀ i₀ a i =
-    (i ≤ length counts) × (a + total (λ c. c) (drop i counts) ≡ total (λ c. c) counts) × (readsEarlier (n + i) (cut (drop i counts) (drop a (cubesOf words))) ≡ readsEarlier n (cut counts (cubesOf words)))
+    (i ≤ length counts) × (a + total (λ c. c) (drop i counts) ≡ total (λ c. c) counts)
+    × (readsEarlier (n + i) (cut (drop i counts) (drop a (cubesOf words))) ≡ readsEarlier n (cut counts (cubesOf words)))
 
 abbrev μ-loop : tie.MeasureT-loop
 μ-loop words counts n a₀ i₀ a i = length counts - i
 
 -- the sum of the counts leaves room for the next
-room : (l : tie.At-loop Inv-loop μ-loop) → l .loop .i < length (l .before .before .before .args .counts .now) → l .loop .a + getD (l .before .before .before .args .counts .now) (l .loop .i) 0 ≤ 1088
+room : (l : tie.At-loop Inv-loop μ-loop) → l .loop .i < length (l .before .before .before .args .counts .now)
+    → l .loop .a + getD (l .before .before .before .args .counts .now) (l .loop .i) 0 ≤ 1088
 room l h = omega (arith, sum-next (l .before .before .before .args .counts .now) (l .loop .i) h, l .loop .inv .1, l .before .before .before .pre .0)
 
 loop-holds : tie.Need-loop-holds Inv-loop μ-loop
@@ -55,7 +57,8 @@ returns c =
     let p = c .before .before in
     let l = p .before .before .before in
     let s = l .before .before .before in
-    sym (earlier-stop (s .args .counts .now) (cubesOf (s .args .words .now)) (l .loop .i) (l .loop .a) (p .before .before .loop-test .taken) _ refl _ (p .part .ensures .0) (s .args .n + l .loop .i) (sym (c .before .reaches .ensures) ∙ not-true _ (c .if1 .taken))) ∙ l .loop .inv .2
+    sym (earlier-stop (s .args .counts .now) (cubesOf (s .args .words .now)) (l .loop .i) (l .loop .a) (p .before .before .loop-test .taken) _ refl _
+    (p .part .ensures .0) (s .args .n + l .loop .i) (sym (c .before .reaches .ensures) ∙ not-true _ (c .if1 .taken))) ∙ l .loop .inv .2
 
 add-i : tie.Need-add-i Inv-loop μ-loop
 add-i c = search needs
@@ -73,13 +76,17 @@ loop-again c =
     let v : s .args .n + (l .loop .i + 1) ≡ suc (s .args .n + l .loop .i) = omega arith in (
       omega (arith, h),
       omega (arith, sum-next n (l .loop .i) h, l .loop .inv .1),
-      ap (λ x. readsEarlier x (cut (drop (l .loop .i + 1) n) (drop (l .loop .a + getD n (l .loop .i) 0) (cubesOf (s .args .words .now))))) v ∙ sym (earlier-on n (cubesOf (s .args .words .now)) (l .loop .i) (l .loop .a) h _ refl _ (p .part .ensures .0) (s .args .n + l .loop .i) (sym (c .before .reaches .ensures) ∙ not-false _ (c .if1 .left))) ∙ l .loop .inv .2,
+      ap (λ x. readsEarlier x (cut (drop (l .loop .i + 1) n) (drop (l .loop .a + getD n (l .loop .i) 0) (cubesOf (s .args .words .now))))) v
+          ∙ sym (earlier-on n (cubesOf (s .args .words .now)) (l .loop .i) (l .loop .a) h _ refl _ (p .part .ensures .0) (s .args .n + l .loop .i)
+          (sym (c .before .reaches .ensures) ∙ not-false _ (c .if1 .left))) ∙ l .loop .inv .2,
     )
 
 returns-2 : tie.Need-returns-2 Inv-loop μ-loop
 unfolding readsEarlier
 returns-2 c =
-    let l = c .before in let s = l .before .before .before in sym (ap (readsEarlier (s .args .n + l .loop .i)) (cut-done (s .args .counts .now) (drop (l .loop .a) (cubesOf (s .args .words .now))) (l .loop .i) (c .loop-test .left))) ∙ l .loop .inv .2
+    let l = c .before in let s = l .before .before .before in
+    sym (ap (readsEarlier (s .args .n + l .loop .i))
+    (cut-done (s .args .counts .now) (drop (l .loop .a) (cubesOf (s .args .words .now))) (l .loop .i) (c .loop-test .left))) ∙ l .loop .inv .2
 
 pub all-earlier-spec : {M : Type 1} → statement M
 all-earlier-spec =

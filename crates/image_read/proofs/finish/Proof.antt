@@ -55,7 +55,8 @@ returns-2 : tie.Need-returns-2
 returns-2 c =
     let e = c .before .before .before .before in
     let j = e .before .before in
-    whole-told (start j .pre) (j .judge .result) (j .judge .ensures) (e .enum-told .given .1) _ (c .before .before .copy .ensures) (c .hand .result) (c .hand .ensures)
+    whole-told (start j .pre) (j .judge .result) (j .judge .ensures) (e .enum-told .given .1) _ (c .before .before .copy .ensures) (c .hand .result)
+    (c .hand .ensures)
 
 pub finish-spec : {M : Type 1} → statement M
 finish-spec =

@@ -7,7 +7,8 @@ use Rattle.image_fields.specs.Fields.{bitsIn}
 use Rattle.image_laws.specs.Widths.{editionField, edition1}
 use Rattle.image_read.specs.Parts.{FieldIs}
 use Rattle.image_read.specs.declared.fields.Field.the-variants.{Is}
-use Rattle.image_read.proofs.Heading.{inputsAt, outputsAt, divisorsAt, field-below, field-is, field-short, edition-cut, edition-bad, front-cut, sizes-are}
+use Rattle.image_read.proofs.Heading.{inputsAt, outputsAt, divisorsAt, field-below, field-is, field-short, edition-cut, edition-bad, front-cut}
+use Rattle.image_read.proofs.Heading.{sizes-are}
 use Rattle.image_read.proofs.front.Statement.{statement}
 use Rattle.image_read.proofs.front.Tie as tie
 
@@ -28,10 +29,12 @@ inputs : (v : tie.After-value-at2) → FieldIs (edition1 .inputs) (drop inputsAt
 inputs v = field-is (start (first v) .args .bytes .now) inputsAt (edition1 .inputs) _ (omega (arith, v .before .if3 .left)) (v .value-at2 .ensures)
 
 outputs : (v : tie.After-value-at3) → FieldIs (edition1 .outputs) (drop outputsAt (bits (start (first (v .before))))) (Is (v .value-at3 .result))
-outputs v = field-is (start (first (v .before)) .args .bytes .now) outputsAt (edition1 .outputs) _ (omega (arith, v .before .before .if3 .left)) (v .value-at3 .ensures)
+outputs v = field-is (start (first (v .before)) .args .bytes .now) outputsAt (edition1 .outputs) _ (omega (arith, v .before .before .if3 .left))
+    (v .value-at3 .ensures)
 
 divisors : (v : tie.After-value-at4) → FieldIs (edition1 .divisors) (drop divisorsAt (bits (start (first (v .before .before))))) (Is (v .value-at4 .result))
-divisors v = field-is (start (first (v .before .before)) .args .bytes .now) divisorsAt (edition1 .divisors) _ (omega (arith, v .before .before .before .if3 .left)) (v .value-at4 .ensures)
+divisors v = field-is (start (first (v .before .before)) .args .bytes .now) divisorsAt (edition1 .divisors) _
+    (omega (arith, v .before .before .before .if3 .left)) (v .value-at4 .ensures)
 
 returns : tie.Need-returns
 returns c = let s = c .before .before in edition-cut (bits s) (field-short (s .args .bytes .now) 0 editionField 0 (omega (arith, c .if1 .taken)) (omega arith))
@@ -72,7 +75,8 @@ returns-4 c =
     let b = d .before in
     let a = b .before in
     let e = first a in
-    sizes-are (bits (start e)) _ (edition e) (a .before .before .if2 .left) _ (inputs a) _ (outputs b) _ (divisors d) (c .sizes-of .result) (c .sizes-of .ensures)
+    sizes-are (bits (start e)) _ (edition e) (a .before .before .if2 .left) _ (inputs a) _ (outputs b) _ (divisors d) (c .sizes-of .result)
+    (c .sizes-of .ensures)
 
 pub front-spec : {M : Type 1} → statement M
 front-spec =

@@ -31,7 +31,8 @@ all-tidy-requires c κs = c .before .before .before .before .before .pre .0 .div
 
 returns-2 : tie.Need-returns-2
 returns-2 c =
-    let s = start (c .before) in stop-second (s .args .ascending) (divisors s) (outputs s) (earlier s) (not-false _ (c .before .before .if1 .left)) (sym (c .before .all-tidy .ensures) ∙ not-true _ (c .if2 .taken))
+    let s = start (c .before) in stop-second (s .args .ascending) (divisors s) (outputs s) (earlier s) (not-false _ (c .before .before .if1 .left))
+    (sym (c .before .all-tidy .ensures) ∙ not-true _ (c .if2 .taken))
 
 all-tidy-requires-2 : tie.Need-all-tidy-requires-2
 all-tidy-requires-2 c κs = c .before .before .before .before .before .before .before .pre .0 .outputs
@@ -40,7 +41,8 @@ returns-3 : tie.Need-returns-3
 returns-3 c =
     let a = c .before .before .before in
     let s = start a in
-    stop-third (s .args .ascending) (divisors s) (outputs s) (earlier s) (not-false _ (a .before .if1 .left)) (sym (a .all-tidy .ensures) ∙ not-false _ (c .before .before .if2 .left)) (sym (c .before .all-tidy2 .ensures) ∙ not-true _ (c .if3 .taken))
+    stop-third (s .args .ascending) (divisors s) (outputs s) (earlier s) (not-false _ (a .before .if1 .left))
+    (sym (a .all-tidy .ensures) ∙ not-false _ (c .before .before .if2 .left)) (sym (c .before .all-tidy2 .ensures) ∙ not-true _ (c .if3 .taken))
 
 all-earlier-requires : tie.Need-all-earlier-requires
 all-earlier-requires c κs =
@@ -51,7 +53,9 @@ returns-4 c =
     let b = c .before .before in
     let a = b .before .before in
     let s = start a in
-    stop-last (c .all-earlier .result) (s .args .ascending) (divisors s) (outputs s) (earlier s) (not-false _ (a .before .if1 .left)) (sym (a .all-tidy .ensures) ∙ not-false _ (b .before .if2 .left)) (sym (b .all-tidy2 .ensures) ∙ not-false _ (c .before .if3 .left)) (c .all-earlier .ensures)
+    stop-last (c .all-earlier .result) (s .args .ascending) (divisors s) (outputs s) (earlier s) (not-false _ (a .before .if1 .left))
+    (sym (a .all-tidy .ensures) ∙ not-false _ (b .before .if2 .left)) (sym (b .all-tidy2 .ensures) ∙ not-false _ (c .before .if3 .left))
+    (c .all-earlier .ensures)
 
 pub in-order-spec : {M : Type 1} → statement M
 in-order-spec =

@@ -51,7 +51,8 @@ returns-3 c =
     let l = drop (s .args .at) (bitsIn (s .args .bytes .now)) in
     let n = left-length (s .args .bytes .now) (s .args .at) in
     let m = c .before .before .if1 .left in
-    ap (λ v. eqb v 0) (c .value-at .ensures ∙ ap valueOf (take-all (8 * length (s .args .bytes .now) - s .args .at) l (omega (arith, n)))) ∙ value-zero l ∙ sym (ap (_&& all not l) (lt-ltb (length l) 8 (omega (arith, n, m))))
+    ap (λ v. eqb v 0) (c .value-at .ensures ∙ ap valueOf (take-all (8 * length (s .args .bytes .now) - s .args .at) l (omega (arith, n)))) ∙ value-zero l
+    ∙ sym (ap (_&& all not l) (lt-ltb (length l) 8 (omega (arith, n, m))))
 
 pub is-padded-spec : {M : Type 1} → statement M
 is-padded-spec =

@@ -13,14 +13,17 @@ is-expression-requires c κs = search needs
 
 returns : tie.Need-returns
 returns c =
-    let s = c .before .before .before in sym (ap (λ (x : Bool). x && ordered (cubesOf (s .args .f .now))) (sym (c .before .is-expression .ensures) ∙ not-true _ (c .if1 .taken)))
+    let s = c .before .before .before in sym (ap (λ (x : Bool). x && ordered (cubesOf (s .args .f .now)))
+    (sym (c .before .is-expression .ensures) ∙ not-true _ (c .if1 .taken)))
 
 is-ordered-requires : tie.Need-is-ordered-requires
 is-ordered-requires c κs = search needs
 
 returns-2 : tie.Need-returns-2
 returns-2 c =
-    let s = c .before .before .before .before in c .is-ordered .ensures ∙ sym (ap (λ (x : Bool). x && ordered (cubesOf (s .args .f .now))) (sym (c .before .before .is-expression .ensures) ∙ not-false _ (c .before .if1 .left)))
+    let s = c .before .before .before .before in c .is-ordered .ensures
+    ∙ sym (ap (λ (x : Bool). x && ordered (cubesOf (s .args .f .now)))
+    (sym (c .before .before .is-expression .ensures) ∙ not-false _ (c .before .if1 .left)))
 
 pub is-tidy-spec : {M : Type 1} → statement M
 is-tidy-spec =

@@ -57,7 +57,8 @@ abbrev lentOutputs : tie.Start → List ℕ
 lentOutputs s = take (s .args .z .outputs - 0) (s .args .counts .now)
 
 front : (s : tie.Start) → lentDivisors s ≡ divisorCounts (s .args .z) (s .args .counts .now)
-front s = let e : s .args .z .outputs + s .args .z .divisors - s .args .z .outputs ≡ s .args .z .divisors = omega arith in ap (λ n. take n (drop (s .args .z .outputs) (s .args .counts .now))) e
+front s = let e : s .args .z .outputs + s .args .z .divisors - s .args .z .outputs ≡ s .args .z .divisors = omega arith in
+    ap (λ n. take n (drop (s .args .z .outputs) (s .args .counts .now))) e
 
 back : (s : tie.Start) → lentOutputs s ≡ outputCounts (s .args .z) (s .args .counts .now)
 back s = let e : s .args .z .outputs - 0 ≡ s .args .z .outputs = omega arith in ap (λ n. take n (s .args .counts .now)) e

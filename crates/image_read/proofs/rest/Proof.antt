@@ -21,7 +21,9 @@ abbrev Read : tie.After-nodes → Step → Type 0
 Read n x =
     let s = start n in
     let bits = bitsIn (s .args .bytes .now) in
-    NodesAre (s .args .z .outputs) bits (second (s .args .s)) (getMany (getNode (s .args .z .inputs + s .args .z .divisors)) (s .args .z .outputs) (drop (s .args .s .at) bits)) blankWords (n .nodes .last .1 .1 .1 .1 .1 .0) 0 (s .args .given) (n .nodes .last .1 .1 .1 .1 .1 .1 .0) x
+    NodesAre (s .args .z .outputs) bits (second (s .args .s))
+    (getMany (getNode (s .args .z .inputs + s .args .z .divisors)) (s .args .z .outputs) (drop (s .args .s .at) bits)) blankWords
+    (n .nodes .last .1 .1 .1 .1 .1 .0) 0 (s .args .given) (n .nodes .last .1 .1 .1 .1 .1 .1 .0) x
 
 read : (n : tie.After-nodes) (x : Step) → n .nodes .result ≡ x → Read n x
 read n x e = subst (Read n) e (n .nodes .ensures)

@@ -31,7 +31,10 @@ add-result-2 : tie.Need-add-result-2
 add-result-2 c = omega (arith, little c)
 
 returns : tie.Need-returns
-returns c = (node-size (c .before .before .before .args .f .now) _ _ (c .before .before .before .pre) (c .before .number .ensures) (c .literals .ensures), omega (arith, little c))
+returns c = (
+  node-size (c .before .before .before .args .f .now) _ _ (c .before .before .before .pre) (c .before .number .ensures) (c .literals .ensures),
+  omega (arith, little c),
+)
 
 pub node-bits-spec : {M : Type 1} → statement M
 node-bits-spec =

@@ -20,7 +20,11 @@ same-length c = search needs
 returns : tie.Need-returns
 returns c =
     let s = c .before .before .before in
-    record { place = refl; adds = λ l old n e. bit-new (s .args .o .now) old l (s .args .b) (s .args .at) _ n e (c .before .worth .ensures) (s .pre .room) (c .if1 .taken) }
+    record {
+      place = refl;
+      adds = λ l old n e. bit-new (s .args .o .now) old l (s .args .b) (s .args .at) _ n e (c .before .worth .ensures) (s .pre .room)
+          (c .if1 .taken);
+    }
 
 slice-read-y : tie.Need-slice-read-y
 slice-read-y c = search needs
@@ -29,7 +33,10 @@ add-o : tie.Need-add-o
 add-o c =
     let s = c .before .before .before .before in
     let q = s .pre in
-    record { fits = bit-fits (s .args .o .now) (q .old) (q .bits) (s .args .b) (s .args .at) _ (q .number) (q .bytes) (c .before .before .worth .ensures) (q .room) (c .before .if1 .left) }
+    record {
+      fits = bit-fits (s .args .o .now) (q .old) (q .bits) (s .args .b) (s .args .at) _ (q .number) (q .bytes) (c .before .before .worth .ensures)
+          (q .room) (c .before .if1 .left);
+    }
 
 slice-write-o-2 : tie.Need-slice-write-o-2
 slice-write-o-2 c = search needs
@@ -43,7 +50,11 @@ same-length-2 c = search needs
 returns-2 : tie.Need-returns-2
 returns-2 c =
     let s = c .before .before .before .before in
-    record { place = refl; adds = λ l old n e. bit-old (s .args .o .now) old l (s .args .b) (s .args .at) _ n e (c .before .before .worth .ensures) (s .pre .room) (c .before .if1 .left) }
+    record {
+      place = refl;
+      adds = λ l old n e. bit-old (s .args .o .now) old l (s .args .b) (s .args .at) _ n e (c .before .before .worth .ensures)
+          (s .pre .room) (c .before .if1 .left);
+    }
 
 pub put-bit-spec : {M : Type 1} → statement M
 put-bit-spec =

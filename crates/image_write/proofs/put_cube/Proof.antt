@@ -36,10 +36,12 @@ cast-put-field c = search needs
 abbrev Owed : tie.Start Inv-loop μ-loop → List ℕ → ℕ → List Bool → Type 0
 Owed s o p t = Going (s .args .o .now) (s .args .at) (fieldBits (cubeFields (lits (s .args .c)))) o p t
 
-opened : (c : tie.After-count Inv-loop μ-loop) → let s = c .before .before .before in Owed s (s .args .o .now) (s .args .at) (literalsBits (c .count .result) ++ spread (lits (s .args .c)))
+opened : (c : tie.After-count Inv-loop μ-loop) → let s = c .before .before .before in
+    Owed s (s .args .o .now) (s .args .at) (literalsBits (c .count .result) ++ spread (lits (s .args .c)))
 opened c = going-as (going-all _ _ _) (cube-bits _ _ (c .count .ensures))
 
-begun : (c : tie.After-put-field Inv-loop μ-loop) → let s = c .before .before .before .before in Owed s (c .put-field .last .0) (c .put-field .result) (spread (lits (s .args .c)))
+begun : (c : tie.After-put-field Inv-loop μ-loop) → let s = c .before .before .before .before in
+    Owed s (c .put-field .last .0) (c .put-field .result) (spread (lits (s .args .c)))
 begun c = going-next (opened (c .before)) (c .put-field .ensures) (c .put-field .kept .0)
 
 put-field-requires : tie.Need-put-field-requires Inv-loop μ-loop
@@ -62,8 +64,10 @@ same-length c = c .before .before .before .loop .inv .same ∙ c .before .before
 
 returns : tie.Need-returns Inv-loop μ-loop
 returns c =
-    let h : firstFrom 0 (lits (c .before .before .before .loop .rest)) ≡ none = sym (c .before .before .first-from .ensures) ∙ ap answer (c .enum-told .given .1) in
-    going-done (going-as (going-trans (begun (c .before .before .before .before .before .before)) (c .before .before .before .loop .inv)) (literals-none _ (first-none _ h)))
+    let h : firstFrom 0 (lits (c .before .before .before .loop .rest)) ≡ none =
+    sym (c .before .before .first-from .ensures) ∙ ap answer (c .enum-told .given .1) in
+    going-done (going-as (going-trans (begun (c .before .before .before .before .before .before)) (c .before .before .before .loop .inv))
+    (literals-none _ (first-none _ h)))
 
 -- the smallest literal of what is left
 abbrev head : tie.After-found Inv-loop μ-loop → ℕ
@@ -77,14 +81,20 @@ head-small c = first-inside width _ _ 0 _ (sym (head-told c))
 
 -- its field is due
 ahead : (c : tie.After-found Inv-loop μ-loop) → let h = c .before .before .before in
-    Owed (h .before .before .before .before .before .before .before) (h .loop .o) (h .loop .p) (literalBits (head c) ++ spread (without (lits (h .loop .rest)) (head c ∷ [])))
-ahead c = going-as (going-trans (begun (c .before .before .before .before .before .before)) (c .before .before .before .loop .inv)) (literals-next _ _ _ (first-some _ _ (literals-asc width _ _) (head-told c)))
+    Owed (h .before .before .before .before .before .before .before) (h .loop .o) (h .loop .p)
+    (literalBits (head c) ++ spread (without (lits (h .loop .rest)) (head c ∷ [])))
+ahead c = going-as (going-trans (begun (c .before .before .before .before .before .before)) (c .before .before .before .loop .inv))
+    (literals-next _ _ _ (first-some _ _ (literals-asc width _ _) (head-told c)))
 
 cast-put-field-2 : tie.Need-cast-put-field-2 Inv-loop μ-loop
 cast-put-field-2 c = search needs
 
 put-field-requires-2 : tie.Need-put-field-requires-2 Inv-loop μ-loop
-put-field-requires-2 c κs = (omega arith, going-ready (literalBits _) _ (ahead (c .before .before .before)) (c .before .before .before .before .before .before .before .before .before .before .before .before .before .pre))
+put-field-requires-2 c κs = (
+  omega arith,
+  going-ready (literalBits _) _ (ahead (c .before .before .before))
+      (c .before .before .before .before .before .before .before .before .before .before .before .before .before .pre),
+)
 
 empty-requires : tie.Need-empty-requires Inv-loop μ-loop
 empty-requires c κs = search needs
@@ -96,8 +106,12 @@ without-requires : tie.Need-without-requires Inv-loop μ-loop
 without-requires c κs = search needs
 
 -- and the others
-others : (c : tie.After-without Inv-loop μ-loop) → lits (c .before .before .before .before .before .before .before .before .before .before .before .before .loop .rest) ≡ head (c .before .before .before .before .before .before .before .before .before) ∷ lits (c .without .result)
-others c = let f = c .before .before .before .before .before .before .before .before .before in rest-next _ _ _ _ _ (literals-asc width _ _) (head-told f) (head-small f) (c .before .before .empty .ensures) (c .before .with .ensures) (c .without .ensures)
+others : (c : tie.After-without Inv-loop μ-loop) → lits
+    (c .before .before .before .before .before .before .before .before .before .before .before .before .loop .rest)
+    ≡ head (c .before .before .before .before .before .before .before .before .before) ∷ lits (c .without .result)
+others c = let f = c .before .before .before .before .before .before .before .before .before in
+    rest-next _ _ _ _ _ (literals-asc width _ _) (head-told f) (head-small f) (c .before .before .empty .ensures) (c .before .with .ensures)
+    (c .without .ensures)
 
 loop-less : tie.Need-loop-less Inv-loop μ-loop
 loop-less c = omega (arith, ap length (others c))

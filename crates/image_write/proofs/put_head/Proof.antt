@@ -41,7 +41,8 @@ outputs-due : (c : tie.After-put-field2) → let s = opened (edition c) in
     Owed s (c .put-field2 .last .0) (c .put-field2 .result) (outputsBits (s .args .m) ++ (divisorsBits (s .args .k) ++ []))
 outputs-due c = going-next (inputs-due (edition c)) (c .put-field2 .ensures) (c .put-field2 .kept .0)
 
-divisors-due : (c : tie.After-put-field3) → let s = opened (edition (inputs c)) in Owed s (c .put-field3 .last .0) (c .put-field3 .result) (divisorsBits (s .args .k) ++ [])
+divisors-due : (c : tie.After-put-field3) → let s = opened (edition (inputs c)) in
+    Owed s (c .put-field3 .last .0) (c .put-field3 .result) (divisorsBits (s .args .k) ++ [])
 divisors-due c = going-next (outputs-due (inputs c)) (c .put-field3 .ensures) (c .put-field3 .kept .0)
 
 all-laid : (c : tie.After-put-field4) → let s = opened (edition (inputs (outputs c))) in Owed s (c .put-field4 .last .0) (c .put-field4 .result) []

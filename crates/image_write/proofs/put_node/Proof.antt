@@ -28,10 +28,12 @@ number-requires c κs = search needs
 abbrev Owed : tie.Start Inv-loop μ-loop → List ℕ → ℕ → List Bool → Type 0
 Owed s o p t = Going (s .args .o .now) (s .args .at) (fieldBits (nodeFields (cubesOf (s .args .f .now)))) o p t
 
-opened : (c : tie.After-number Inv-loop μ-loop) → let s = c .before .before .before in Owed s (s .args .o .now) (s .args .at) (cubesBits (c .number .result) ++ spreadFrom (cubesOf (s .args .f .now)) 0)
+opened : (c : tie.After-number Inv-loop μ-loop) → let s = c .before .before .before in
+    Owed s (s .args .o .now) (s .args .at) (cubesBits (c .number .result) ++ spreadFrom (cubesOf (s .args .f .now)) 0)
 opened c = going-as (going-all _ _ _) (node-bits _ _ (c .number .ensures))
 
-begun : (c : tie.After-put-field Inv-loop μ-loop) → let s = c .before .before .before .before .before in Owed s (c .put-field .last .0) (c .put-field .result) (spreadFrom (cubesOf (s .args .f .now)) 0)
+begun : (c : tie.After-put-field Inv-loop μ-loop) → let s = c .before .before .before .before .before in
+    Owed s (c .put-field .last .0) (c .put-field .result) (spreadFrom (cubesOf (s .args .f .now)) 0)
 begun c = going-next (opened (c .before .before)) (c .put-field .ensures) (c .put-field .kept .0)
 
 put-field-requires : tie.Need-put-field-requires Inv-loop μ-loop
@@ -44,14 +46,19 @@ cube-at-requires : tie.Need-cube-at-requires Inv-loop μ-loop
 cube-at-requires c κs = search needs
 
 -- the next cube's fields are due
-ahead : (c : tie.After-cube-at Inv-loop μ-loop) → let h = c .before .before .before in let b = h .before .before .before in let f = cubesOf (b .before .before .before .before .before .args .f .now) in
-    Going (b .put-field .last .0) (b .put-field .result) (spreadFrom f 0) (h .loop .o) (h .loop .p) (fieldBits (cubeFields (lits (c .cube-at .result))) ++ spreadFrom f (h .loop .i + 1))
+ahead : (c : tie.After-cube-at Inv-loop μ-loop) → let h = c .before .before .before in let b = h .before .before .before in let f =
+    cubesOf (b .before .before .before .before .before .args .f .now) in
+    Going (b .put-field .last .0) (b .put-field .result) (spreadFrom f 0) (h .loop .o) (h .loop .p)
+    (fieldBits (cubeFields (lits (c .cube-at .result))) ++ spreadFrom f (h .loop .i + 1))
 ahead c =
     let h = c .before .before .before in
-    going-as (h .loop .inv .1) (cubes-next (cubesOf (h .before .before .before .before .before .before .before .before .args .f .now)) (h .loop .i) _ (omega (arith, h .before .before .before .before .before .number .ensures)) (c .cube-at .ensures))
+    going-as (h .loop .inv .1) (cubes-next (cubesOf (h .before .before .before .before .before .before .before .before .args .f .now)) (h .loop .i) _
+    (omega (arith, h .before .before .before .before .before .number .ensures)) (c .cube-at .ensures))
 
 put-cube-requires : tie.Need-put-cube-requires Inv-loop μ-loop
-put-cube-requires c κs = going-ready (fieldBits (cubeFields (lits (c .cube-at .result)))) _ (going-trans (begun (c .before .before .before .before .before .before)) (ahead c)) (c .before .before .before .before .before .before .before .before .before .before .before .pre)
+put-cube-requires c κs = going-ready (fieldBits (cubeFields (lits (c .cube-at .result)))) _
+    (going-trans (begun (c .before .before .before .before .before .before)) (ahead c))
+    (c .before .before .before .before .before .before .before .before .before .before .before .pre)
 
 add-i : tie.Need-add-i Inv-loop μ-loop
 add-i c = search needs
@@ -68,7 +75,9 @@ same-length c = c .before .loop .inv .1 .same ∙ c .before .before .before .bef
 returns : tie.Need-returns Inv-loop μ-loop
 returns c =
     let h = c .before in
-    going-done (going-as (going-trans (begun (c .before .before .before .before)) (h .loop .inv .1)) (cubes-none (cubesOf (h .before .before .before .before .before .before .before .before .args .f .now)) (h .loop .i) (omega (arith, h .before .before .before .before .before .number .ensures))))
+    going-done (going-as (going-trans (begun (c .before .before .before .before)) (h .loop .inv .1))
+    (cubes-none (cubesOf (h .before .before .before .before .before .before .before .before .args .f .now)) (h .loop .i)
+    (omega (arith, h .before .before .before .before .before .number .ensures))))
 
 pub put-node-spec : {M : Type 1} → statement M
 put-node-spec =

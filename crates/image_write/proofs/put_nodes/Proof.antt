@@ -31,10 +31,12 @@ ahead : (c : tie.After-node Inv-loop μ-loop) → let h = c .before .before .bef
 ahead c =
     let h = c .before .before .before in
     let s = h .before .before .before .before in
-    going-as (h .loop .inv .1) (nodes-next (s .args .words .now) (s .args .counts .now) (h .loop .i) (s .args .e) _ (omega arith) (s .pre .1 .counted) (c .node .ensures .0))
+    going-as (h .loop .inv .1) (nodes-next (s .args .words .now) (s .args .counts .now) (h .loop .i) (s .args .e) _ (omega arith) (s .pre .1 .counted)
+    (c .node .ensures .0))
 
 put-node-requires : tie.Need-put-node-requires Inv-loop μ-loop
-put-node-requires c κs = going-ready (fieldBits (nodeFields (cubesOf (c .node .result .now)))) _ (ahead c) (c .before .before .before .before .before .before .before .pre .2)
+put-node-requires c κs = going-ready (fieldBits (nodeFields (cubesOf (c .node .result .now)))) _ (ahead c)
+    (c .before .before .before .before .before .before .before .pre .2)
 
 add-i : tie.Need-add-i Inv-loop μ-loop
 add-i c = search needs

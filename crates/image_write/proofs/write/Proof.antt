@@ -13,7 +13,8 @@ use Rattle.image_write.proofs.write.Statement.{statement}
 use Rattle.image_write.proofs.write.Tie as tie
 
 -- the network is by the rules, and what renumbering gave holds it
-by : (c : tie.After-enum-told) → (rules (c .before .before .before .before .args .n) ≡ true) × Holds (c .before .before .renumber .result .network) (renumbered (netOf (c .before .before .before .before .args .n)))
+by : (c : tie.After-enum-told) → (rules (c .before .before .before .before .args .n) ≡ true)
+    × Holds (c .before .before .renumber .result .network) (renumbered (netOf (c .before .before .before .before .args .n)))
 by c = told-accepted _ _ _ (c .before .before .renumber .ensures) (c .enum-told .given .1)
 
 shape : (c : tie.After-enum-told) → Shaped (c .before .before .before .before .args .n)
@@ -81,7 +82,8 @@ returns-3 : tie.Need-returns-3
 returns-3 c =
     let t = c .before .before .before .before .before .before .before .before .before .before .before .before .before .before in
     let b = c .before .before .before .before .before .before .before in
-    told-written _ (shape t) (by t .0) _ (by t .1) (whole t) _ _ (b .nodes-bits .ensures .0) (c .before .before .before .before .before .before .if1 .left) _ _ (c .before .before .put-all .ensures)
+    told-written _ (shape t) (by t .0) _ (by t .1) (whole t) _ _ (b .nodes-bits .ensures .0)
+    (c .before .before .before .before .before .before .if1 .left) _ _ (c .before .before .put-all .ensures)
 
 pub write-spec : {M : Type 1} → statement M
 write-spec =

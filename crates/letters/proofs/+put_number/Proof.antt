@@ -42,7 +42,8 @@ module _ (t : ℕ) where
   same-length c = search needs
 
   returns : lts.Need-returns (known t) (at t) reads.Post
-  returns c = due-last (due-all _ _ (omega arith) (omega arith) (decimal-one _ (c .before .before .before .before .if1 .taken))) (c .before .before .put .ensures)
+  returns c = due-last (due-all _ _ (omega arith) (omega arith) (decimal-one _ (c .before .before .before .before .if1 .taken)))
+      (c .before .before .put .ensures)
 
   -- the digits of a tenth are due, then the last one
   digits : (c : lts.Else1 (known t) (at t) reads.Post) → let s = c .before .before .args in

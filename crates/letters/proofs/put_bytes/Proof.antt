@@ -29,7 +29,8 @@ module _ (c : tie.In-loop Inv-loop μ-loop) where
 
   -- the byte at i is due, then those after it
   next : let s = start .args in
-      Due (s .o .now) (s .at) (s .s .now) (c .before .loop .o) (c .before .loop .p) (getD (s .s .now) (c .before .loop .i) 0 ∷ drop (c .before .loop .i + 1) (s .s .now))
+      Due (s .o .now) (s .at) (s .s .now) (c .before .loop .o) (c .before .loop .p)
+      (getD (s .s .now) (c .before .loop .i) 0 ∷ drop (c .before .loop .i + 1) (s .s .now))
   next = due-as (c .before .loop .inv .1) (drop-next (start .args .s .now) (c .before .loop .i) 0 (c .loop-test .taken))
 
 put-requires : tie.Need-put-requires Inv-loop μ-loop

@@ -45,7 +45,8 @@ loop-again c =
     let a = h .before .args .j * mostVariables in (
       search needs,
       search needs,
-      next (h .loop .cells) a (h .loop .v) (c .has .result) (λ u. mem (plainOf u) (lits (h .before .args .set))) (omega arith) (c .has .ensures) (h .loop .inv .2),
+      next (h .loop .cells) a (h .loop .v) (c .has .result) (λ u. mem (plainOf u) (lits (h .before .args .set))) (omega arith) (c .has .ensures)
+          (h .loop .inv .2),
       λ i k. getD-set-other (h .loop .cells) (a + h .loop .v) i (c .has .result) false (λ q. omega arith) ∙ h .loop .inv .3 i k,
     )
 

@@ -25,13 +25,15 @@ returns : tie.Need-returns
 returns c =
     let s = c .before .before .before .before in
     let p = s .args .p in
-    ap (λ b. cond b 1 0) (sym (ap (λ x. bit x (7 - p % 8)) (sym (c .before .wide .ensures)) ∙ sym (bit-test (c .before .wide .result) (7 - p % 8)) ∙ eq-eqb _ _ (c .if1 .taken)))
+    ap (λ b. cond b 1 0) (sym (ap (λ x. bit x (7 - p % 8)) (sym (c .before .wide .ensures)) ∙ sym (bit-test (c .before .wide .result) (7 - p % 8))
+    ∙ eq-eqb _ _ (c .if1 .taken)))
 
 returns-2 : tie.Need-returns-2
 returns-2 c =
     let s = c .before .before .before .before in
     let p = s .args .p in
-    ap (λ b. cond b 1 0) (sym (ap (λ x. bit x (7 - p % 8)) (sym (c .before .wide .ensures)) ∙ sym (bit-test (c .before .wide .result) (7 - p % 8)) ∙ ne-eqb _ _ (c .if1 .left)))
+    ap (λ b. cond b 1 0) (sym (ap (λ x. bit x (7 - p % 8)) (sym (c .before .wide .ensures)) ∙ sym (bit-test (c .before .wide .result) (7 - p % 8))
+    ∙ ne-eqb _ _ (c .if1 .left)))
 
 pub bit-at-spec : {M : Type 1} → statement M
 bit-at-spec =

@@ -37,7 +37,8 @@ returns : tie.Need-returns
 returns c =
     let a = c .before .before in
     let s = a .before .before in
-    cube-cut (bitsIn (s .args .bytes .now)) (s .args .v) (s .args .at) (subst (λ (x : Field). FieldIs (edition1 .literals) (bits-from s) x) (c .enum-told .given .1) (a .field-at .ensures))
+    cube-cut (bitsIn (s .args .bytes .now)) (s .args .v) (s .args .at)
+    (subst (λ (x : Field). FieldIs (edition1 .literals) (bits-from s) x) (c .enum-told .given .1) (a .field-at .ensures))
 
 returns-2 : tie.Need-returns-2
 returns-2 c =
@@ -52,7 +53,8 @@ literals-requires c κs =
 
 returns-3 : tie.Need-returns-3
 returns-3 c =
-    let s = start (c .before .before) in cube-is (bitsIn (s .args .bytes .now)) (s .args .v) (s .args .at) _ (read (c .before .before)) (c .before .if1 .left) (c .literals .result) (c .literals .ensures)
+    let s = start (c .before .before) in cube-is (bitsIn (s .args .bytes .now)) (s .args .v) (s .args .at) _ (read (c .before .before)) (c .before .if1 .left)
+    (c .literals .result) (c .literals .ensures)
 
 pub cube-at-spec : {M : Type 1} → statement M
 cube-at-spec =

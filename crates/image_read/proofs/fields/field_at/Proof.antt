@@ -17,7 +17,8 @@ add-if1-2 c = search needs
 returns : tie.Need-returns
 returns c =
     let s = c .before .before in
-    let short : length (drop (s .args .at) (bitsIn (s .args .bytes .now))) < s .args .w = omega (arith, c .if1 .taken, s .pre .1, left-length (s .args .bytes .now) (s .args .at)) in
+    let short : length (drop (s .args .at) (bitsIn (s .args .bytes .now))) < s .args .w =
+    omega (arith, c .if1 .taken, s .pre .1, left-length (s .args .bytes .now) (s .args .at)) in
     short
 
 value-at-requires : tie.Need-value-at-requires

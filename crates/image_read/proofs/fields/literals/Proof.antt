@@ -61,7 +61,8 @@ returns : tie.Need-returns Inv-loop μ-loop
 returns c =
     let a = c .before .before in
     let l = a .before .before in
-    gather-cut (l .loop .inv .2) (a .before .loop-test .taken) (subst (λ (x : Field). FieldIs (edition1 .literal) (bits-from l) x) (c .enum-told .given .1) (a .field-at .ensures))
+    gather-cut (l .loop .inv .2) (a .before .loop-test .taken)
+    (subst (λ (x : Field). FieldIs (edition1 .literal) (bits-from l) x) (c .enum-told .given .1) (a .field-at .ensures))
 
 cast-t13 : tie.Need-cast-t13 Inv-loop μ-loop
 cast-t13 c = omega (arith, value-of c)
@@ -73,7 +74,8 @@ returns-2 : tie.Need-returns-2 Inv-loop μ-loop
 returns-2 c =
     let k = c .before .before in
     let l = head k in
-    gather-bad (l .loop .inv .2) (k .before .before .before .before .loop-test .taken) (value k) (read k) (sym (c .before .is-allowed .ensures) ∙ not-true _ (c .if1 .taken))
+    gather-bad (l .loop .inv .2) (k .before .before .before .before .loop-test .taken) (value k) (read k)
+    (sym (c .before .is-allowed .ensures) ∙ not-true _ (c .if1 .taken))
 
 is-below-requires : tie.Need-is-below-requires Inv-loop μ-loop
 is-below-requires c κs = search needs
@@ -104,7 +106,9 @@ loop-again c =
     let more = k .before .before .before .before .loop-test .taken in (
       omega (arith, more),
       omega (arith, l .loop .inv .1),
-      gather-next (l .loop .inv .2) more (value k) (read k) (s .pre .1) (sym (c .before .before .before .before .is-allowed .ensures) ∙ not-false _ (c .before .before .before .if1 .left)) _ (c .with .ensures) _ (c .before .both .ensures ∙ ap (l .loop .ascending &&_) (c .before .before .is-below .ensures)),
+      gather-next (l .loop .inv .2) more (value k) (read k) (s .pre .1)
+          (sym (c .before .before .before .before .is-allowed .ensures) ∙ not-false _ (c .before .before .before .if1 .left)) _ (c .with .ensures) _
+          (c .before .both .ensures ∙ ap (l .loop .ascending &&_) (c .before .before .is-below .ensures)),
     )
 
 returns-3 : tie.Need-returns-3 Inv-loop μ-loop

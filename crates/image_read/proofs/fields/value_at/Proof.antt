@@ -41,7 +41,14 @@ add-v c =
     let l = c .before .before in
     let s = l .before .before in
     let q = (s .args .at + l .loop .i) in
-    omega (arith, l .loop .inv .1, value-small (l .loop .i) (drop (s .args .at) (bitsIn (s .args .bytes .now))) (omega (arith, s .pre .2, c .before .loop-test .taken)), c .bit-at .ensures, bit-small (bit (getD (s .args .bytes .now) (q / 8) 0) (7 - q % 8)))
+    omega (
+      arith,
+      l .loop .inv .1,
+      value-small (l .loop .i) (drop (s .args .at) (bitsIn (s .args .bytes .now)))
+          (omega (arith, s .pre .2, c .before .loop-test .taken)),
+      c .bit-at .ensures,
+      bit-small (bit (getD (s .args .bytes .now) (q / 8) 0) (7 - q % 8)),
+    )
 
 add-i : tie.Need-add-i Inv-loop μ-loop
 add-i c = search needs
@@ -55,8 +62,10 @@ loop-again c =
     let s = l .before .before in
     let bs = s .args .bytes .now in (
       omega arith,
-      (let e : 2 * l .loop .v + c .bit-at .result ≡ 2 * valueOf (take (l .loop .i) (drop (s .args .at) (bitsIn bs))) + cond (bit (getD bs ((s .args .at + l .loop .i) / 8) 0) (7 - (s .args .at + l .loop .i) % 8)) 1 0 = omega (arith, l .loop .inv .1, c .bit-at .ensures) in
-          e ∙ sym (ap (λ n. valueOf (take n (drop (s .args .at) (bitsIn bs)))) (add-one (l .loop .i)) ∙ value-next bs (s .args .at) (l .loop .i) (omega (arith, s .pre .0, c .before .loop-test .taken)))),
+      (let e : 2 * l .loop .v + c .bit-at .result ≡ 2 * valueOf (take (l .loop .i) (drop (s .args .at) (bitsIn bs))) + cond
+          (bit (getD bs ((s .args .at + l .loop .i) / 8) 0) (7 - (s .args .at + l .loop .i) % 8)) 1 0 = omega (arith, l .loop .inv .1, c .bit-at .ensures) in
+          e ∙ sym (ap (λ n. valueOf (take n (drop (s .args .at) (bitsIn bs)))) (add-one (l .loop .i))
+          ∙ value-next bs (s .args .at) (l .loop .i) (omega (arith, s .pre .0, c .before .loop-test .taken)))),
     )
 
 returns : tie.Need-returns Inv-loop μ-loop

@@ -1,4 +1,5 @@
--- `image_read::cubes` meets its contract. The loop's invariant: the cubes read so far are put and counted, and with those to come are those of the definition. Assumes nothing.
+-- `image_read::cubes` meets its contract. The loop's invariant: the cubes read so far are put and counted, and with those to come are those
+-- of the definition. Assumes nothing.
 use Prim.Native.Nat.{_-_, _≤_, _<_}
 use mathlib.Core.Path.{_≡_, refl, subst, _∙_}
 use native.Mathlib.Omega.{arith}
@@ -42,7 +43,8 @@ loop-holds c = (omega arith, refl, fill-none _ _ _ _ _)
 
 cube-at-requires : tie.Need-cube-at-requires Inv-loop μ-loop
 cube-at-requires c κs =
-    let l = c .before in let s = l .before .before .before in (omega (arith, l .loop .inv .2 .near .at, s .pre .0 .at, s .pre .2, c .loop-test .taken), s .pre .1)
+    let l = c .before in let s = l .before .before .before in
+    (omega (arith, l .loop .inv .2 .near .at, s .pre .0 .at, s .pre .2, c .loop-test .taken), s .pre .1)
 
 enum-known-t : tie.Need-enum-known-t Inv-loop μ-loop
 enum-known-t c = search needs
@@ -69,7 +71,12 @@ added-requires c κs =
     let s = l .before .before .before in
     let n = l .loop .inv .2 .near in
     let r = read (k .before .before .before) _ (k .before .t2 .given .1) in (
-      record { at = omega (arith, n .at, s .pre .0 .at, s .pre .2, more k); cubes = omega (arith, n .cubes, s .pre .0 .cubes, s .pre .2, more k); literals = omega (arith, n .literals, s .pre .0 .literals, s .pre .2, more k) },
+      record {
+        at = omega (arith, n .at, s .pre .0 .at, s .pre .2, more k);
+        cubes = omega (arith, n .cubes, s .pre .0 .cubes, s .pre .2, more k);
+        literals =
+            omega (arith, n .literals, s .pre .0 .literals, s .pre .2, more k);
+      },
       omega (arith, r .literals, r .few),
     )
 
@@ -85,7 +92,8 @@ loop-again c =
     let l = k .before .before .before .before .before in (
       omega (arith, more k),
       c .before .before .before .put-cube .kept .0 ∙ l .loop .inv .1,
-      fill-next (l .loop .inv .2) (more k) _ (read (k .before .before .before) _ (k .before .t2 .given .1)) _ (c .before .before .before .put-cube .ensures) _ (c .added .ensures),
+      fill-next (l .loop .inv .2) (more k) _ (read (k .before .before .before) _ (k .before .t2 .given .1)) _ (c .before .before .before .put-cube .ensures) _
+          (c .added .ensures),
     )
 
 same-length-2 : tie.Need-same-length-2 Inv-loop μ-loop

@@ -37,7 +37,8 @@ returns : tie.Need-returns
 returns c =
     let a = c .before .before in
     let s = a .before .before .before in
-    node-cut (bitsIn (s .args .bytes .now)) (s .args .v) (s .args .start) (subst (λ (x : Field). FieldIs (edition1 .cubes) (bits-from s) x) (c .enum-told .given .1) (a .field-at .ensures))
+    node-cut (bitsIn (s .args .bytes .now)) (s .args .v) (s .args .start)
+    (subst (λ (x : Field). FieldIs (edition1 .cubes) (bits-from s) x) (c .enum-told .given .1) (a .field-at .ensures))
 
 returns-2 : tie.Need-returns-2
 returns-2 c =
@@ -48,7 +49,16 @@ add-s c = let s = start (c .before .before) in omega (arith, s .pre .0 .at)
 
 cubes-requires : tie.Need-cubes-requires
 cubes-requires c κs =
-    let s = start (c .before .before .before) in (record { at = omega (arith, s .pre .0 .at); cubes = omega (arith, s .pre .0 .cubes); literals = omega (arith, s .pre .0 .literals) }, s .pre .1, c .before .before .if1 .left)
+    let s = start (c .before .before .before) in (
+      record {
+        at = omega (arith, s .pre .0 .at);
+        cubes = omega (arith, s .pre .0 .cubes);
+        literals =
+            omega (arith, s .pre .0 .literals);
+      },
+      s .pre .1,
+      c .before .before .if1 .left,
+    )
 
 same-length : tie.Need-same-length
 same-length c = search needs
@@ -56,7 +66,8 @@ same-length c = search needs
 returns-3 : tie.Need-returns-3
 returns-3 c =
     let k = c .before .before .before .before .before .before in
-    node-are (bitsIn (start k .args .bytes .now)) (start k .args .v) (start k .args .start) _ (read k) (c .before .before .before .before .before .if1 .left) _ _ (c .before .before .cubes .result) (c .before .before .cubes .ensures)
+    node-are (bitsIn (start k .args .bytes .now)) (start k .args .v) (start k .args .start) _ (read k)
+    (c .before .before .before .before .before .if1 .left) _ _ (c .before .before .cubes .result) (c .before .before .cubes .ensures)
 
 pub node-spec : {M : Type 1} → statement M
 node-spec =

@@ -1,4 +1,5 @@
--- `image_read::nodes` meets its contract. The loop's invariant: the nodes read so far are put and counted, and with those to come are those of the definition. Assumes nothing.
+-- `image_read::nodes` meets its contract. The loop's invariant: the nodes read so far are put and counted, and with those to come are those
+-- of the definition. Assumes nothing.
 use Prim.Native.Nat.{_+_, _-_, _≤_, _<_}
 use mathlib.Core.Path.{_≡_, refl, sym, subst, _∙_}
 use native.Mathlib.Omega.{arith}
@@ -46,7 +47,12 @@ node-requires c κs =
     let s = l .before .before .before .before in
     let n = l .loop .inv .3 .near in
     let more = c .before .loop-test .taken in (
-      record { at = omega (arith, n .at, s .pre .0 .at, s .pre .3, more); cubes = omega (arith, n .cubes, s .pre .0 .cubes, s .pre .3, more); literals = omega (arith, n .literals, s .pre .0 .literals, s .pre .3, more) },
+      record {
+        at = omega (arith, n .at, s .pre .0 .at, s .pre .3, more);
+        cubes = omega (arith, n .cubes, s .pre .0 .cubes, s .pre .3, more);
+        literals =
+            omega (arith, n .literals, s .pre .0 .literals, s .pre .3, more);
+      },
       s .pre .1,
     )
 
@@ -69,7 +75,9 @@ returns c =
     let l = a .before .before .before in
     let s = l .before .before .before .before in
     let bits = bitsIn (s .args .bytes .now) in
-    subst (λ (x : Step). NodesAre (s .args .number) bits (s .args .start) (getMany (getNode (s .args .v)) (s .args .number) (drop (s .args .start .at) bits)) (s .args .words .now) (a .node .last .1 .1 .1 .0) (s .args .first) (s .args .counts .now) (l .loop .counts) x) (sym (c .enum-told .given .1)) (count-bad (l .loop .inv .3) (a .before .before .loop-test .taken) _ (read a _ (c .enum-told .given .1)))
+    subst (λ (x : Step). NodesAre (s .args .number) bits (s .args .start) (getMany (getNode (s .args .v)) (s .args .number) (drop (s .args .start .at) bits))
+    (s .args .words .now) (a .node .last .1 .1 .1 .0) (s .args .first) (s .args .counts .now) (l .loop .counts) x) (sym (c .enum-told .given .1))
+    (count-bad (l .loop .inv .3) (a .before .before .loop-test .taken) _ (read a _ (c .enum-told .given .1)))
 
 sub-counts : tie.Need-sub-counts Inv-loop μ-loop
 sub-counts c =
@@ -114,7 +122,8 @@ same-length-4 c = c .before .loop .inv .2
 
 returns-2 : tie.Need-returns-2 Inv-loop μ-loop
 returns-2 c =
-    let l = c .before in let s = l .before .before .before .before in count-end (l .loop .inv .3) (omega (arith, c .loop-test .left, l .loop .inv .0)) (omega (arith, s .pre .3, l .loop .inv .0))
+    let l = c .before in let s = l .before .before .before .before in
+    count-end (l .loop .inv .3) (omega (arith, c .loop-test .left, l .loop .inv .0)) (omega (arith, s .pre .3, l .loop .inv .0))
 
 pub nodes-spec : {M : Type 1} → statement M
 nodes-spec =
