@@ -1,21 +1,18 @@
 -- What a run answers leaves one answer, and says of the networks before and after it what the paper asks. Assumes nothing.
-use Prim.Native.Nat.{ℕ, zero, suc, _+_, _^_, _<_, _≤_}
+use Prim.Native.Nat.{ℕ, zero, suc, _+_, _<_, _≤_}
 use mathlib.Core.Path.{_≡_, refl, sym, ap, ap₂, _∙_, subst}
 use mathlib.Core.Logic.{_↔_}
 use mathlib.Core.Bool.{Bool, true, _&&_}
 use mathlib.Core.List.{List, [], _∷_, map, nil≢cons, cons≢nil, head-eq-of-cons-eq, tail-eq-of-cons-eq}
 use mathlib.Core.Option.{Option, none, some}
 use native.Mathlib.Omega.{arith}
-use lib.Dec.{ltb}
 use lib.IntN.{pos, _-ℤ_}
 use lib.ListN.{length, take, drop}
-use borrow.Author.Tests.{ltb-true}
 use Rattle.sets.specs.Lists.{all}
 use Rattle.sets.proofs.Truth.{both}
 use Rattle.sets.proofs.Lists.{_∈_}
-use Rattle.sets.proofs.Literals.{plain-injective, negated-injective}
-use Rattle.cube.specs.Cube.{width, lits}
-use Rattle.cube.specs.declared.Cube.{Cube}
+use Rattle.cube.proofs.Lits.{fitCube, cube-one}
+use Rattle.cube.specs.Cube.{lits}
 use Rattle.network.specs.Net.{Net, literalCount}
 use Rattle.network.specs.Held.{netOf, rules}
 use Rattle.network.specs.Handed.{Holds, Shaped}
@@ -42,20 +39,7 @@ use Rattle.extract.specs.declared.Ran.{Ran}
 
 -- ---- one answer
 
--- masks of 64 bits are known from their literals
-abbrev pub fitCube : Cube → Bool
-fitCube c = ltb (c .plain) (2 ^ width) && ltb (c .negated) (2 ^ width)
-
-cube-one : (a b : Cube) → fitCube a ≡ true → fitCube b ≡ true → lits a ≡ lits b → a ≡ b
-cube-one a b h k e =
-    let p = both (ltb (a .plain) (2 ^ width)) (ltb (a .negated) (2 ^ width)) h in
-    let q = both (ltb (b .plain) (2 ^ width)) (ltb (b .negated) (2 ^ width)) k in
-    λ i. record {
-      plain = plain-injective width (a .plain) (a .negated) (b .plain) (b .negated) (ltb-true _ _ (p .0)) (ltb-true _ _ (q .0)) e i;
-      negated = negated-injective width (a .plain) (a .negated) (b .plain) (b .negated) (ltb-true _ _ (p .1)) (ltb-true _ _ (q .1)) e i;
-    }
-
--- the masks of a step's parts are of 64 bits
+-- the parts of a step as the language holds them
 abbrev pub fitDivisor : Divisor → Bool
 fitDivisor (Pair p q) = true
 fitDivisor (Sum a b) = fitCube a && fitCube b

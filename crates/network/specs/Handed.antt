@@ -5,7 +5,7 @@ use mathlib.Core.Bool.{cond}
 use mathlib.Core.List.{List, [], _∷_, _++_, map}
 use lib.ListN.{length, replicate}
 use Rattle.sets.specs.Lists.{total}
-use Rattle.expression.specs.Words.{cubesOf, spareOf}
+use Rattle.expression.specs.Words.{cubeWords, cubesOf, spareOf}
 use Rattle.expression.specs.declared.Verdict.the-variants.{Accepted, Refused}
 use Rattle.network.specs.Net.{Net, nodes, cubeCount}
 use Rattle.network.specs.Held.{mostOutputs, mostVariables, mostCubes, rules}
@@ -28,7 +28,7 @@ abbrev pub cubeSlots : ℕ
 cubeSlots = mostCubes
 
 abbrev pub wordSlots : ℕ
-wordSlots = 2 * cubeSlots
+wordSlots = cubeWords * cubeSlots
 
 -- the arrays have their lengths
 pub record Shaped (n : Network) : Type 0 where

@@ -1,12 +1,13 @@
 -- The network that the fields of the struct hold, and the rules on networks.
-use Prim.Native.Nat.{ℕ, suc, _+_, _-_, _/_}
+use Prim.Native.Nat.{ℕ, suc, _+_, _-_}
 use mathlib.Core.Bool.{Bool, _&&_}
 use mathlib.Core.List.{List, [], _∷_}
-use lib.Dec.{leb, ltb, eqb}
+use lib.Dec.{leb, eqb}
 use lib.ListN.{length, take, drop}
 use Rattle.sets.specs.Lists.{all, total}
 use Rattle.expression.specs.Words.{cubesOf}
 use Rattle.expression.specs.Expression.{expression}
+pub use Rattle.expression.specs.Expression.{reach}
 use Rattle.network_nodes.specs.Nodes.{cut}
 use Rattle.network.specs.Net.{Node, Net, nodes, over, literalCount}
 use Rattle.network.specs.Listing.{listing}
@@ -66,10 +67,6 @@ upTo most n = leb 1 n && leb n most
 abbrev pub sized : Network → Bool
 sized n =
     upTo mostInputs (n .inputs) && (upTo mostOutputs (n .outputs) && (leb (n .inputs + n .divisors) mostVariables && leb (total (λ c. c) (used n)) mostCubes))
-
--- every literal is of a variable below v
-abbrev pub reach : ℕ → List (List ℕ) → Bool
-reach v f = all (all (λ l. ltb (l / 2) v)) f
 
 -- every node an expression over the network's variables, few enough literals, and no divisor reads itself through others: all are listed
 unfoldable pub ruled : Net → Bool

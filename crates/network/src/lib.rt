@@ -19,7 +19,7 @@ pub const LITERAL_COUNT: u64 = 32768;
 // Slots for nodes and for words of cubes.
 pub const NODES: usize = OUTPUTS + VARIABLES;
 
-pub const WORDS: usize = 2 * CUBES;
+pub const WORDS: usize = expression::WORDS * CUBES;
 
 // Counts and cubes of the outputs first, then of the divisors by number; slots past those in use mean nothing.
 pub struct Network {

@@ -1,4 +1,4 @@
--- Which output of a network hangs on which variable, as a table of cells.
+-- Which output of a network hangs on which divisor, as a table of cells.
 use Prim.Native.Nat.{ℕ, _+_, _*_, _<_}
 use mathlib.Core.Path.{_≡_}
 use mathlib.Core.Bool.{Bool, false, cond}
@@ -14,6 +14,6 @@ use Rattle.network_hangs.specs.Hangs.{hangsAt}
 unfoldable pub rowOf : Network → ℕ → List ℕ
 rowOf n j = cond (ltb j (n .outputs)) (hangsAt n j) []
 
--- cell v of row j says whether output j hangs on the variable v
+-- cell v of row j says whether output j hangs on the divisor of number v; it does on no input
 pub record Crossed (n : Network) (cells : List Bool) : Type 0 where
   pub each : (j v : ℕ) → j < mostOutputs → v < mostVariables → getD cells (j * mostVariables + v) false ≡ mem v (rowOf n j)

@@ -1,4 +1,4 @@
-// Which output of a network hangs on which variable: the dispatcher's map as a table of cells.
+// Which output of a network hangs on which divisor: the dispatcher's map as a table of cells.
 use cube::Cube;
 use cube::Variable;
 use network::Network;
@@ -51,7 +51,7 @@ fn set_row(cells: &mut [bool; CELLS], j: usize, set: Cube)
     }
 }
 
-// Cell v of row j says whether output j hangs on the variable v, directly or through others.
+// Cell v of row j says whether output j hangs on the divisor of number v, directly or through others; no input is one.
 pub fn cells(n: Network) -> [bool; CELLS]
     ensures { λ r. ⌜ Crossed n r ⌝ }
 {
