@@ -21,8 +21,8 @@ use Rattle.network.specs.declared.Network.{Network}
 use Rattle.network.specs.declared.Number.the-variants.{Is}
 use Rattle.network.proofs.Handing.{holds-net, holds-one, blank-one, Typed}
 use Rattle.extract_laws.specs.Run as extraction
-use Rattle.extract_laws.specs.Run.{Result, done, asked, numbers, rows, making, run}
-use Rattle.extract_laws.specs.Meaning.{Worth, Leads, Ends, fall}
+use Rattle.extract_laws.specs.Run.{Result, done, asked, numbers, rows, run}
+use Rattle.extract_laws.specs.Meaning.{Leads, StepOf, Ends, fall}
 use Rattle.extract_laws.proofs.Running.{first, run-leads, run-stop, run-few, run-network-add, run-stop-add}
 use Rattle.extract_laws.proofs.Keeping.{leads-counts, first-good, run-good, run-literals}
 use Rattle.extract_laws.proofs.Following.{rules-good, run-rules, run-evaluated}
@@ -170,8 +170,7 @@ module _ (k : ℕ) (n : Network) (r : Ran) (shape : Shaped n)
   )
 
   -- each step listed carries the number of its node, and the literals of the network after it: those before it less the weight
-  pub ran-counts : (s : extraction.Made) → s ∈ stepsOf r
-      → (p : Net) × Worth p (s .divisor) × (s ≡ making p (s .divisor)) × (pos (s .literals) ≡ pos (literalCount p) -ℤ s .weight)
+  pub ran-counts : (s : extraction.Made) → s ∈ stepsOf r → StepOf (first (netOf n)) (stepsOf r) s
   ran-counts = leads-counts ran-leads (first-good (netOf n) (rules-good n shape h))
 
   -- a run of k steps makes at most k

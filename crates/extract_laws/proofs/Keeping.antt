@@ -4,7 +4,7 @@ use Prim.Native.Nat.{ℕ, _+_, _≤_, max}
 use mathlib.Core.Path.{_≡_, refl, sym, ap, _∙_, subst}
 use mathlib.Core.Logic.{inl, inr}
 use mathlib.Core.Bool.{true}
-use mathlib.Core.List.{List, List·Memᴰ·not-nil, List·Memᴰ·cases-cons}
+use mathlib.Core.List.{List, [], _∷_, List·Memᴰ·not-nil, List·Memᴰ·cases-cons}
 use native.Mathlib.Omega.{arith}
 use lib.ListN.{length, length-map}
 use lib.IntN.{ℤ, pos, negℤ, _+ℤ_, _-ℤ_, +ℤ-idr, +ℤ-assoc, negℤ-+ℤ}
@@ -16,7 +16,7 @@ use Rattle.network.specs.Held.{mostVariables, mostCubes}
 use Rattle.extract_laws.specs.Divisor.{Divisor}
 use Rattle.extract_laws.specs.Extract.{weight, step}
 use Rattle.extract_laws.specs.Run.{Made, making, prepare, inOrder, run}
-use Rattle.extract_laws.specs.Meaning.{Good, Within, Fit, Worth, Leads, fall}
+use Rattle.extract_laws.specs.Meaning.{Good, Within, Fit, Worth, Leads, StepOf, fall}
 use Rattle.extract_laws.specs.Meaning.Leads.{stay, onward}
 use Rattle.extract_laws.proofs.Weighing.{step-literals, step-smaller}
 use Rattle.extract_laws.proofs.Offering.{candidate-fit}
@@ -84,13 +84,30 @@ leads-fewer stay g = omega arith
 leads-fewer (onward {n = n} d w a b t) g =
     omega (arith, leads-fewer t (after-good g w), prepares .literals (step n d), step-smaller n g d (worth-fit g w .whole) (w .above))
 
--- each step is made of the best divisor of some network, and the count that it carries is that network's less the weight
-pub leads-counts : {n m : Net} {l : List Made} → Leads n l m → Good n → (s : Made) → s ∈ l
-    → (p : Net) × Worth p (s .divisor) × (s ≡ making p (s .divisor)) × (pos (s .literals) ≡ pos (literalCount p) -ℤ s .weight)
+-- each step is made of the best divisor of the network that those before it lead to
+pub leads-counts : {n m : Net} {l : List Made} → Leads n l m → Good n → (s : Made) → s ∈ l → StepOf n l s
 leads-counts stay g s i = absurd (List·Memᴰ·not-nil i)
-leads-counts (onward {n = n} d w a b t) g s i = elim (List·Memᴰ·cases-cons i) [
-  | inl p ↦ rw p (n, w, refl, step-literals n g d (worth-fit g w .whole))
-  | inr j ↦ leads-counts t (after-good g w) s j
+leads-counts (onward {n = n} {l = l} d w a b t) g s i = elim (List·Memᴰ·cases-cons i) [
+  | inl p ↦ rw p (record {
+    earlier = [];
+    later = l;
+    on = n;
+    stands = refl;
+    path = stay;
+    best = w;
+    is = refl;
+    falls = step-literals n g d (worth-fit g w .whole);
+  })
+  | inr j ↦ let r = leads-counts t (after-good g w) s j in record {
+    earlier = making n d ∷ r .earlier;
+    later = r .later;
+    on = r .on;
+    stands = ap (making n d ∷_) (r .stands);
+    path = onward d w a b (r .path);
+    best = r .best;
+    is = r .is;
+    falls = r .falls;
+  }
 ]
 
 -- the weights one by one, or their sum

@@ -3,8 +3,8 @@ use Prim.Native.Nat.{ℕ, _<_, _≤_}
 use mathlib.Core.Path.{_≡_}
 use mathlib.Core.Logic.{_⊎_}
 use mathlib.Core.Bool.{true, false}
-use mathlib.Core.List.{List, [], _∷_, List·Memᴰ}
-use lib.IntN.{ℤ, pos, _+ℤ_}
+use mathlib.Core.List.{List, [], _∷_, _++_, List·Memᴰ}
+use lib.IntN.{ℤ, pos, _+ℤ_, _-ℤ_}
 use lib.Signed.{ltZ}
 use lib.ListN.{length}
 use Rattle.sets.specs.Sets.{mem, sub, apart, asc, union, without, meet, before}
@@ -122,6 +122,18 @@ pub data Leads : Net → List Made → Net → Type 0 where
   stay : {n : Net} → Leads n [] n
   onward : {n m : Net} {l : List Made} (d : Divisor) → Worth n d → variables n < mostVariables → cubeCount (step n d) ≤ mostCubes
       → Leads (prepare (step n d)) l m → Leads n (making n d ∷ l) m
+
+-- s is one of the steps l from n: those before it lead to the network that it is made on, whose best divisor it takes; it carries the
+-- number and the literal count that the step gives, and the count is that of this network less the weight
+pub record StepOf (n : Net) (l : List Made) (s : Made) : Type 0 where
+  pub earlier : List Made
+  pub later : List Made
+  pub on : Net
+  pub stands : l ≡ earlier ++ (s ∷ later)
+  pub path : Leads n earlier on
+  pub best : Worth on (s .divisor)
+  pub is : s ≡ making on (s .divisor)
+  pub falls : pos (s .literals) ≡ pos (literalCount on) -ℤ s .weight
 
 -- why a run of k steps ends at a network after j of them: the first reason that applies
 pub data Ends (k j : ℕ) (n : Net) : Stop → Type 0 where
