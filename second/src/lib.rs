@@ -10,6 +10,7 @@ pub mod extract;
 pub mod factor;
 pub mod generate;
 pub mod image;
+pub mod map;
 pub mod network;
 pub mod protocol;
 pub mod refusal;

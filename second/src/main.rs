@@ -1,14 +1,17 @@
 //! Without an argument it answers the line protocol; else it generates
-//! requests, compares two programs' answers, or counts what answers reach.
+//! requests, compares two programs' answers, counts what answers reach, or
+//! says what `show` and `map` of the shop's program should.
 
-use second::{compare, generate, protocol};
+use second::{compare, extract, generate, image, map, protocol, report, table};
 use std::io::{self, BufWriter, Write};
 use std::process::ExitCode;
 
 const USAGE: &str = "second
 second generate SEED COUNT [OPERATION ...]
 second compare REQUESTS LEFT RIGHT
-second cover REQUESTS ANSWERS";
+second cover REQUESTS ANSWERS
+second show IMAGE
+second map TABLE";
 
 fn main() -> ExitCode {
     let words: Vec<String> = std::env::args().skip(1).collect();
@@ -18,6 +21,8 @@ fn main() -> ExitCode {
         ["generate", seed, count, names @ ..] => print_requests(seed, count, names),
         ["compare", requests, left, right] => compare_files(requests, left, right),
         ["cover", requests, answers] => cover_files(requests, answers),
+        ["show", file] => show_file(file),
+        ["map", file] => map_file(file),
         _ => Err(io::Error::other(USAGE)),
     };
     done.unwrap_or_else(|error| {
@@ -57,5 +62,20 @@ fn compare_files(requests: &str, left: &str, right: &str) -> io::Result<ExitCode
 fn cover_files(requests: &str, answers: &str) -> io::Result<ExitCode> {
     let printed = compare::cover(&std::fs::read(requests)?, &std::fs::read(answers)?);
     io::stdout().write_all(printed.as_bytes())?;
+    Ok(ExitCode::SUCCESS)
+}
+
+fn show_file(file: &str) -> io::Result<ExitCode> {
+    let read = image::read(&std::fs::read(file)?);
+    let network = read.map_err(|number| io::Error::other(format!("refused {number}")))?;
+    print!("{}", map::show(&network));
+    Ok(ExitCode::SUCCESS)
+}
+
+fn map_file(file: &str) -> io::Result<ExitCode> {
+    let read = table::read(&std::fs::read(file)?);
+    let mut network = read.map_err(|refusal| io::Error::other(format!("refused {}", refusal.number)))?;
+    extract::run(&mut network, report::STEPS);
+    print!("{}", map::map(&network));
     Ok(ExitCode::SUCCESS)
 }

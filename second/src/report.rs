@@ -5,7 +5,7 @@ use crate::extract::{run, Divisor};
 use crate::table;
 
 /// The program asks for so many steps.
-const STEPS: u64 = 64;
+pub const STEPS: u64 = 64;
 
 /// The report, every line ended by LF.
 pub fn report(text: &[u8]) -> String {

@@ -174,3 +174,13 @@ fn the_image_lists_the_smallest_number_whose_divisors_are_listed() {
     assert_eq!(back.divisors, [read(0), read(2), read(3), read(1)]);
     assert_eq!(back.outputs, [read(4)]);
 }
+
+#[test]
+fn the_map_and_what_is_shown() {
+    let text = b".i 4\n.o 1\n1-1- 1\n1--1 1\n-11- 1\n-1-1 1\n.e\n";
+    let mut network = second::table::read(text).expect("a table");
+    second::extract::run(&mut network, second::report::STEPS);
+    assert_eq!(second::map::map(&network), "x4 x0+x1 y0\ny0 x4*(x2+x3) x4\n");
+    let shown = "inputs 4 outputs 1 divisors 1 literals 6\nx4 = x0+x1 literals 2\ny0 = x4*(x2+x3) literals 4\n";
+    assert_eq!(second::map::show(&network), shown);
+}
