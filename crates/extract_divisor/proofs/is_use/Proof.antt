@@ -38,37 +38,13 @@ searched c =
     (ap isSome (c .find .ensures)
     ∙ ap (λ z. isSome (findIn z (cubesOf (s .s .now)))) (c .before .union .ensures ∙ ap (λ z. union z (lits (s .b))) (t .before .before .without .ensures)))
 
-contains-requires : tie.Need-contains-requires
-contains-requires c κs = search needs
-
 returns : tie.Need-returns
 unfolding foundUse
 returns c = rw (sym (c .before .contains .ensures) ∙ not-true _ (c .if1 .taken))
 
-without-requires : tie.Need-without-requires
-without-requires c κs = search needs
-
-common-requires : tie.Need-common-requires
-common-requires c κs = search needs
-
-is-empty-requires : tie.Need-is-empty-requires
-is-empty-requires c κs = search needs
-
 returns-2 : tie.Need-returns-2
 unfolding foundUse
 returns-2 c = rw (inside (c .before .before .before .before), free (c .before) ∙ not-true _ (c .if2 .taken))
-
-union-requires : tie.Need-union-requires
-union-requires c κs = search needs
-
-find-requires : tie.Need-find-requires
-find-requires c κs = search needs
-
-enum-told : tie.Need-enum-told
-enum-told c = search needs
-
-enum-told-2 : tie.Need-enum-told-2
-enum-told-2 c = search needs
 
 returns-3 : tie.Need-returns-3
 returns-3 c = ap (λ p. isSome (placeOf p)) (sym (c .enum-told .given .1)) ∙ searched (c .before .before)
@@ -79,16 +55,5 @@ returns-4 c = ap (λ p. isSome (placeOf p)) (sym (c .enum-told2 .given .1)) ∙ 
 pub is-use-spec : {M : Type 1} → statement M
 is-use-spec =
     tie.close
-    (tie.spec
-    contains-requires
-    returns
-    without-requires
-    common-requires
-    is-empty-requires
-    returns-2
-    union-requires
-    find-requires
-    enum-told
-    enum-told-2
-    returns-3
-    returns-4)
+    (tie.spec (λ c κs. search needs) returns (λ c κs. search needs) (λ c κs. search needs) (λ c κs. search needs) returns-2 (λ c κs. search needs)
+    (λ c κs. search needs) (λ c. search needs) (λ c. search needs) returns-3 returns-4)

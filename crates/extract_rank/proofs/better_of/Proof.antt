@@ -27,12 +27,6 @@ decided c =
     ap (λ b. cond b (s .s) (s .held)) (c .is-better .ensures
     ∙ (λ i. outweighs (read-new c i) (read-held c i) (c .before .before .before .is-sooner .ensures i)))
 
-is-sooner-requires : tie.Need-is-sooner-requires
-is-sooner-requires c κs = search needs
-
-is-better-requires : tie.Need-is-better-requires
-is-better-requires c κs = search needs
-
 returns : tie.Need-returns
 returns c =
     let s = start (c .before) .args in
@@ -44,6 +38,4 @@ returns-2 c =
     ap (λ b. cond b (s .s) (s .held)) (sym (c .if1 .left)) ∙ decided (c .before)
 
 pub better-of-spec : {M : Type 1} → statement M
-better-of-spec =
-    tie.close
-    (tie.spec is-sooner-requires is-better-requires returns returns-2)
+better-of-spec = tie.close (tie.spec (λ c κs. search needs) (λ c κs. search needs) returns returns-2)

@@ -4,18 +4,6 @@ use borrow.Author.Needs.{needs}
 use Rattle.extract_rank.proofs.is_before.Statement.{statement}
 use Rattle.extract_rank.proofs.is_before.Tie as tie
 
-compare-requires : tie.Need-compare-requires
-compare-requires c κs = search needs
-
-enum-told : tie.Need-enum-told
-enum-told c = search needs
-
-enum-told-2 : tie.Need-enum-told-2
-enum-told-2 c = search needs
-
-enum-told-3 : tie.Need-enum-told-3
-enum-told-3 c = search needs
-
 returns : tie.Need-returns
 returns c = says-before _ _ _ (c .before .before .compare .ensures) (c .enum-told .given .1)
 
@@ -26,6 +14,4 @@ returns-3 : tie.Need-returns-3
 returns-3 c = says-after _ _ _ (c .before .before .compare .ensures) (c .enum-told3 .given .1)
 
 pub is-before-spec : {M : Type 1} → statement M
-is-before-spec =
-    tie.close
-    (tie.spec compare-requires enum-told enum-told-2 enum-told-3 returns returns-2 returns-3)
+is-before-spec = tie.close (tie.spec (λ c κs. search needs) (λ c. search needs) (λ c. search needs) (λ c. search needs) returns returns-2 returns-3)

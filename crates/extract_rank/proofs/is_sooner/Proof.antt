@@ -11,30 +11,6 @@ use Rattle.extract_rank.proofs.is_sooner.Tie as tie
 abbrev order : Divisor → Divisor → Bool
 order d e = sooner (divisorOf d) (divisorOf e)
 
-enum-known-d : tie.Need-enum-known-d
-enum-known-d c = search needs
-
-enum-known-e : tie.Need-enum-known-e
-enum-known-e c = search needs
-
-is-pair-before-requires : tie.Need-is-pair-before-requires
-is-pair-before-requires c κs = search needs
-
-enum-told : tie.Need-enum-told
-enum-told c = search needs
-
-enum-known-d-2 : tie.Need-enum-known-d-2
-enum-known-d-2 c = search needs
-
-enum-told-2 : tie.Need-enum-told-2
-enum-told-2 c = search needs
-
-enum-known-e-2 : tie.Need-enum-known-e-2
-enum-known-e-2 c = search needs
-
-is-sum-before-requires : tie.Need-is-sum-before-requires
-is-sum-before-requires c κs = search needs
-
 returns : tie.Need-returns
 unfolding sooner
 returns c = c .is-pair-before .ensures ∙ ap₂ order (sym (c .before .before .before .before .before .d .given .1)) (sym (c .before .before .e .given .1))
@@ -54,16 +30,5 @@ returns-4 c = c .is-sum-before .ensures ∙ ap₂ order (sym (c .before .before 
 pub is-sooner-spec : {M : Type 1} → statement M
 is-sooner-spec =
     tie.close
-    (tie.spec
-    enum-known-d
-    enum-known-e
-    is-pair-before-requires
-    enum-told
-    enum-known-d-2
-    enum-told-2
-    enum-known-e-2
-    is-sum-before-requires
-    returns
-    returns-2
-    returns-3
-    returns-4)
+    (tie.spec (λ c. search needs) (λ c. search needs) (λ c κs. search needs) (λ c. search needs) (λ c. search needs) (λ c. search needs) (λ c. search needs)
+    (λ c κs. search needs) returns returns-2 returns-3 returns-4)

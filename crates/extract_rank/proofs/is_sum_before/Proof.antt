@@ -6,33 +6,16 @@ use borrow.Author.Needs.{needs}
 use Rattle.extract_rank.proofs.is_sum_before.Statement.{statement}
 use Rattle.extract_rank.proofs.is_sum_before.Tie as tie
 
-is-before-requires : tie.Need-is-before-requires
-is-before-requires c κs = search needs
-
 returns : tie.Need-returns
 returns c = lex-first before _ _ _ (sym (c .before .is-before .ensures) ∙ c .if1 .taken)
-
-is-before-requires-2 : tie.Need-is-before-requires-2
-is-before-requires-2 c κs = search needs
 
 returns-2 : tie.Need-returns-2
 returns-2 c = lex-last before _ _ _ (sym (c .before .before .before .is-before .ensures) ∙ c .before .before .if1 .left)
     (sym (c .before .is-before2 .ensures) ∙ c .if2 .taken)
-
-is-before-requires-3 : tie.Need-is-before-requires-3
-is-before-requires-3 c κs = search needs
 
 returns-3 : tie.Need-returns-3
 returns-3 c = c .is-before3 .ensures ∙ lex-tie before _ _ _ (sym (c .before .before .before .before .is-before .ensures)
     ∙ c .before .before .before .if1 .left) (sym (c .before .before .is-before2 .ensures) ∙ c .before .if2 .left)
 
 pub is-sum-before-spec : {M : Type 1} → statement M
-is-sum-before-spec =
-    tie.close
-    (tie.spec
-    is-before-requires
-    returns
-    is-before-requires-2
-    returns-2
-    is-before-requires-3
-    returns-3)
+is-sum-before-spec = tie.close (tie.spec (λ c κs. search needs) returns (λ c κs. search needs) returns-2 (λ c κs. search needs) returns-3)

@@ -43,25 +43,10 @@ tested c =
     ap ordered (nodes-at (a .counts .now) (a .words .now) (a .e) (l .loop .i) (omega arith) ∙ sym (c .before .node .ensures .0))
     ∙ sym (c .is-ordered .ensures)
 
-loop-holds : tie.Need-loop-holds Inv-loop μ-loop
-loop-holds c = search needs
-
-node-requires : tie.Need-node-requires Inv-loop μ-loop
-node-requires c κs = search needs
-
-is-ordered-requires : tie.Need-is-ordered-requires Inv-loop μ-loop
-is-ordered-requires c κs = search needs
-
 returns : tie.Need-returns Inv-loop μ-loop
 returns c =
     let l = head (c .before) in
     sym (all-stop (held l) (l .loop .i) [] (omega (arith, many l)) ordered (tested (c .before) ∙ not-true _ (c .if1 .taken))) ∙ l .loop .inv .1
-
-add-i : tie.Need-add-i Inv-loop μ-loop
-add-i c = search needs
-
-loop-less : tie.Need-loop-less Inv-loop μ-loop
-loop-less c = search needs
 
 loop-again : tie.Need-loop-again Inv-loop μ-loop
 loop-again c =
@@ -74,14 +59,5 @@ returns-2 c = let l = c .before in sym (all-done (held l) (l .loop .i) (omega (a
 pub all-ordered-spec : {M : Type 1} → statement M
 all-ordered-spec =
     tie.close
-    (tie.spec
-    Inv-loop
-    μ-loop
-    loop-holds
-    node-requires
-    is-ordered-requires
-    returns
-    add-i
-    loop-less
-    loop-again
+    (tie.spec Inv-loop μ-loop (λ c. search needs) (λ c κs. search needs) (λ c κs. search needs) returns (λ c. search needs) (λ c. search needs) loop-again
     returns-2)

@@ -39,44 +39,17 @@ shape s = shape-of _ (search needs) (search needs)
 limited : (c : tie.After-enum-told) → Limited (start c .args .n)
 limited c = let s = start c in rules-sized (s .args .n) (shape s) (kept c)
 
-judge-requires : tie.Need-judge-requires
-judge-requires c κs = search needs
-
-enum-told : tie.Need-enum-told
-enum-told c = search needs
-
-enum-told-2 : tie.Need-enum-told-2
-enum-told-2 c = search needs
-
-refuse-requires : tie.Need-refuse-requires
-refuse-requires c κs = search needs
-
 returns : tie.Need-returns
 returns c =
     let j = c .before .before .before in
     let n = j .before .args .n in
     told-refuses n (inOrder (netOf n)) (c .refuse .result) (refused-rules n _ (sym (j .judge .ensures) ∙ c .before .enum-told2 .given .1)) (c .refuse .ensures)
 
-slice-aggregate-lay-nodes : tie.Need-slice-aggregate-lay-nodes
-slice-aggregate-lay-nodes c = search needs
-
-slice-aggregate-lay-nodes-2 : tie.Need-slice-aggregate-lay-nodes-2
-slice-aggregate-lay-nodes-2 c = search needs
-
 add-lay-nodes : tie.Need-add-lay-nodes
 add-lay-nodes c = let z = limited (accepted c) in omega (arith, z .narrow, z .variables)
 
-slice-aggregate-lay-nodes-3 : tie.Need-slice-aggregate-lay-nodes-3
-slice-aggregate-lay-nodes-3 c = search needs
-
-slice-aggregate-lay-nodes-4 : tie.Need-slice-aggregate-lay-nodes-4
-slice-aggregate-lay-nodes-4 c = search needs
-
 lay-nodes-requires : tie.Need-lay-nodes-requires
 lay-nodes-requires c κs = let a = accepted (c .before .before) in (limited-room (start a .args .n) (limited a), (refl, refl))
-
-hand-requires : tie.Need-hand-requires
-hand-requires c κs = search needs
 
 returns-2 : tie.Need-returns-2
 returns-2 c =
@@ -90,17 +63,5 @@ returns-2 c =
 pub in-order-spec : {M : Type 1} → statement M
 in-order-spec =
     tie.close
-    (tie.spec
-    judge-requires
-    enum-told
-    enum-told-2
-    refuse-requires
-    returns
-    slice-aggregate-lay-nodes
-    slice-aggregate-lay-nodes-2
-    add-lay-nodes
-    slice-aggregate-lay-nodes-3
-    slice-aggregate-lay-nodes-4
-    lay-nodes-requires
-    hand-requires
-    returns-2)
+    (tie.spec (λ c κs. search needs) (λ c. search needs) (λ c. search needs) (λ c κs. search needs) returns (λ c. search needs) (λ c. search needs)
+    add-lay-nodes (λ c. search needs) (λ c. search needs) lay-nodes-requires (λ c κs. search needs) returns-2)

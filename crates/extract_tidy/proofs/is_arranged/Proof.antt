@@ -19,17 +19,8 @@ limits c = sym (c .before .is-sized .ensures) ∙ not-false _ (c .if1 .left)
 small : (c : tie.Else1) → Limited (c .before .before .args .n)
 small c = sized-out (c .before .before .args .n) (shape-of _ (search needs) (search needs)) (limits c)
 
-is-sized-requires : tie.Need-is-sized-requires
-is-sized-requires c κs = search needs
-
 returns : tie.Need-returns
 returns c = arranged-as (c .before .before .args .n) false (sym (c .before .is-sized .ensures) ∙ not-true _ (c .if1 .taken))
-
-slice-aggregate-all-ordered : tie.Need-slice-aggregate-all-ordered
-slice-aggregate-all-ordered c = search needs
-
-slice-aggregate-all-ordered-2 : tie.Need-slice-aggregate-all-ordered-2
-slice-aggregate-all-ordered-2 c = search needs
 
 add-all-ordered : tie.Need-add-all-ordered
 add-all-ordered c = let z = small (c .before .before .before .before .before) in omega (arith, z .narrow, z .variables)
@@ -43,13 +34,4 @@ returns-2 c =
     c .all-ordered .ensures ∙ arranged-as (e .before .before .args .n) true (limits e)
 
 pub is-arranged-spec : {M : Type 1} → statement M
-is-arranged-spec =
-    tie.close
-    (tie.spec
-    is-sized-requires
-    returns
-    slice-aggregate-all-ordered
-    slice-aggregate-all-ordered-2
-    add-all-ordered
-    all-ordered-requires
-    returns-2)
+is-arranged-spec = tie.close (tie.spec (λ c κs. search needs) returns (λ c. search needs) (λ c. search needs) add-all-ordered all-ordered-requires returns-2)

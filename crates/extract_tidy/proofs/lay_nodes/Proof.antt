@@ -64,24 +64,9 @@ loop-holds c =
       refl,
     )
 
-node-requires : tie.Need-node-requires Inv-loop μ-loop
-node-requires c κs = search needs
-
-number-requires : tie.Need-number-requires Inv-loop μ-loop
-number-requires c κs = search needs
-
-copy-requires : tie.Need-copy-requires Inv-loop μ-loop
-copy-requires c κs = search needs
-
 add-sort-part : tie.Need-add-sort-part Inv-loop μ-loop
 add-sort-part c =
     let n = counted (copied c) in record { fits = omega (arith, n .number .ensures, fits n, cubes-few (head n .loop .out)) }
-
-sort-part-requires : tie.Need-sort-part-requires Inv-loop μ-loop
-sort-part-requires c κs = search needs
-
-mul-sizes : tie.Need-mul-sizes Inv-loop μ-loop
-mul-sizes c = search needs
 
 slice-write-sizes : tie.Need-slice-write-sizes Inv-loop μ-loop
 slice-write-sizes c =
@@ -89,12 +74,6 @@ slice-write-sizes c =
 
 add-at : tie.Need-add-at Inv-loop μ-loop
 add-at c = let n = at c in record { fits = omega (arith, n .number .ensures, fits n, cubes-few (head n .loop .out)) }
-
-add-i : tie.Need-add-i Inv-loop μ-loop
-add-i c = search needs
-
-loop-less : tie.Need-loop-less Inv-loop μ-loop
-loop-less c = search needs
 
 loop-again : tie.Need-loop-again Inv-loop μ-loop
 loop-again c =
@@ -126,21 +105,5 @@ returns c =
 pub lay-nodes-spec : {M : Type 1} → statement M
 lay-nodes-spec =
     tie.close
-    (tie.spec
-    Inv-loop
-    μ-loop
-    loop-holds
-    node-requires
-    number-requires
-    copy-requires
-    add-sort-part
-    sort-part-requires
-    mul-sizes
-    slice-write-sizes
-    add-at
-    add-i
-    loop-less
-    loop-again
-    same-length
-    same-length-2
-    returns)
+    (tie.spec Inv-loop μ-loop loop-holds (λ c κs. search needs) (λ c κs. search needs) (λ c κs. search needs) add-sort-part (λ c κs. search needs)
+    (λ c. search needs) slice-write-sizes add-at (λ c. search needs) (λ c. search needs) loop-again same-length same-length-2 returns)
