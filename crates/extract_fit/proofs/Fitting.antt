@@ -1,20 +1,18 @@
 -- Which divisors a network can take: the test in the words of the laws of extraction, and as the code makes it. Assumes nothing.
-use Prim.Native.Nat.{ℕ, _*_, _/_, _<_, _≤_}
+use Prim.Native.Nat.{ℕ, _/_, _<_, _≤_}
 use mathlib.Core.Path.{_≡_, refl, sym, subst}
 use mathlib.Core.Logic.{_↔_}
 use mathlib.Core.Bool.{Bool, true, false, cond, _&&_}
 use mathlib.Core.List.{List, [], _∷_, List·Memᴰ·head as here, List·Memᴰ·tail as there, List·Memᴰ·eq-of-singleton}
-use mathlib.Core.Option.{none, some}
 use native.Mathlib.Omega.{arith}
 use lib.Dec.{ltb}
 use lib.ListN.{length}
 use borrow.Author.Tests.{ltb-true, lt-ltb, le-ltb, ne-eqb}
 use Rattle.sets.specs.Literal.{oppositeOf}
-use Rattle.sets.specs.Sets.{mem, apart, asc, proper, firstFrom, before}
-use Rattle.sets.proofs.Truth.{both, iff, clash, refuted, stand, below, equal, beyond}
+use Rattle.sets.specs.Sets.{mem, apart, asc, proper, readsBelow, before}
+use Rattle.sets.proofs.Truth.{both, iff, clash, refuted}
 use Rattle.sets.proofs.Lists.{_∈_, all-in}
-use Rattle.sets.proofs.Sets.{mem-of, all-mem, mem-all, proper-out}
-use Rattle.sets.proofs.First.{none-first, some-first}
+use Rattle.sets.proofs.Sets.{mem-of, proper-out}
 use Rattle.cube.specs.Cube.{orderOf}
 use Rattle.cube.specs.declared.Order.{Order}
 use Rattle.cube.specs.declared.Order.the-variants.{Before, Same, After}
@@ -28,7 +26,7 @@ use Rattle.extract_laws.specs.Divisor.{Divisor, pair, sum, own, small, sound}
 use Rattle.extract_laws.specs.Meaning.{Fit}
 use Rattle.extract_laws.proofs.Using.{cube-proper, sum-parts, small-sub, apart-flip}
 use Rattle.extract_fit.specs.Fitness.{fitting}
-use Rattle.extract_fit.specs.Parts.{allBelow, fitPart}
+use Rattle.extract_fit.specs.Parts.{fitPart}
 
 -- ---- the test
 
@@ -100,47 +98,24 @@ module _ (v p q : ℕ) where
 
 -- ---- the parts of a sum
 
-module _ (v : ℕ) (a : List ℕ) where
-  -- no literal, or more than two
-  pub part-none : length a < 1 → false ≡ fitPart v a
+module _ (a : List ℕ) where
+  pub small-none : length a < 1 → small a ≡ false
   unfolding small
-  part-none h = rw (le-ltb 0 (length a) (omega arith))
+  small-none h = rw (le-ltb 0 (length a) (omega arith))
 
-  pub part-many : 2 < length a → false ≡ fitPart v a
+  pub small-many : 2 < length a → small a ≡ false
   unfolding small
-  part-many h = rw (lt-ltb 0 (length a) (omega arith), le-ltb (length a) 3 (omega arith))
+  small-many h = rw (lt-ltb 0 (length a) (omega arith)) (le-ltb (length a) 3 (omega arith))
 
-  module _ (one : 1 ≤ length a) (few : length a ≤ 2) where
-    part-small : small a ≡ true
-    unfolding small
-    part-small = rw (lt-ltb 0 (length a) (omega arith)) (lt-ltb (length a) 3 (omega arith))
+  pub small-few : 1 ≤ length a → length a ≤ 2 → small a ≡ true
+  unfolding small
+  small-few h k = rw (lt-ltb 0 (length a) (omega arith)) (lt-ltb (length a) 3 (omega arith))
 
-    pub part-both-ways : proper a ≡ false → false ≡ fitPart v a
-    part-both-ways e = rw (part-small, e)
-
-    pub part-rest : proper a ≡ true → allBelow v a ≡ fitPart v a
-    part-rest e = rw (part-small, e)
-
-  pub some-beyond : (x : ℕ) → asc a ≡ true → firstFrom (2 * v) a ≡ some x → false ≡ allBelow v a
-  some-beyond x s f =
-      let w = some-first (2 * v) a x s f in
-      sym (refuted (λ h. let k = ltb-true (x / 2) v (mem-all (λ l. ltb (l / 2) v) a x h (w .isIn)) in omega (arith, w .notBelow)))
-
-  pub none-beyond : ((x : ℕ) → mem x a ≡ true → x < 2 * v) → true ≡ allBelow v a
-  none-beyond h = sym (all-mem (λ l. ltb (l / 2) v) a (λ x m. lt-ltb (x / 2) v (omega (arith, h x m))))
-
-  pub none-found : firstFrom (2 * v) a ≡ none → true ≡ allBelow v a
-  none-found f = none-beyond (λ x m. elim (stand x (2 * v)) [
-    | below l _ _ ↦ l
-    | equal l _ _ ↦ clash m (none-first (2 * v) a f x (omega arith))
-    | beyond l _ _ ↦ clash m (none-first (2 * v) a f x (omega arith))
-  ])
-
-  part-out : fitPart v a ≡ true → (small a ≡ true) × (proper a ≡ true) × (allBelow v a ≡ true)
-  part-out h =
-      let p = both (small a) (proper a && allBelow v a) h in
-      let q = both (proper a) (allBelow v a) (p .1) in
-      (p .0, q .0, q .1)
+part-out : (v : ℕ) (a : List ℕ) → fitPart v a ≡ true → (small a ≡ true) × (proper a ≡ true) × (readsBelow v a ≡ true)
+part-out v a h =
+    let p = both (small a) (proper a && readsBelow v a) h in
+    let q = both (proper a) (readsBelow v a) (p .1) in
+    (p .0, q .0, q .1)
 
 -- ---- sums
 
@@ -168,7 +143,7 @@ sum-fits v a b sa sb = iff into back
     into h =
         let t = fitting-out v (sum a b) h in
         let w = sum-parts a b (t .whole) in
-        let known : (c : List ℕ) → c ∈ own (sum a b) → allBelow v c ≡ true = λ c m. all-in (λ l. ltb (l / 2) v) c
+        let known : (c : List ℕ) → c ∈ own (sum a b) → readsBelow v c ≡ true = λ c m. all-in (λ l. ltb (l / 2) v) c
         (λ l i. lt-ltb (l / 2) v (t .known (l / 2) (c, m, (l, i, refl)))) in
         rw (
           w .small-a,

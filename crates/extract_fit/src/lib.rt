@@ -1,16 +1,14 @@
 // Whether a network of so many variables can take a divisor.
 use cube::Cube;
-use cube::Found;
 use cube::Literal;
 use cube::Order;
-use cube::Variable;
 use extract_divisor::Divisor;
 ghost use mathlib.Core.Path.{_≡_};
 ghost use Rattle.cube.specs.Cube.{lits};
 ghost use Rattle.extract_laws.specs.Divisor.{pair, sum};
 ghost use Rattle.extract_divisor.specs.Divisor.{divisorOf};
 ghost use Rattle.extract_fit.specs.Fitness.{fitting};
-ghost use Rattle.extract_fit.specs.Parts.{allBelow, fitPart};
+ghost use Rattle.extract_fit.specs.Parts.{fitPart};
 
 // Whether two literals are of different variables below v, the smaller first.
 fn is_pair(p: Literal, q: Literal, v: usize) -> bool
@@ -27,20 +25,6 @@ fn is_pair(p: Literal, q: Literal, v: usize) -> bool
     (x.0 as usize) < v
 }
 
-// Whether each literal of a is of a variable below v.
-fn is_below(a: Cube, v: usize) -> bool
-    ensures { λ r. ⌜ r ≡ allBelow v (lits a) ⌝ }
-{
-    if v >= network::VARIABLES {
-        return true;
-    }
-    let f = cube_order::first_from(a, cube::plain(Variable(v as u32)));
-    match f {
-        Found::At(_) => false,
-        Found::Nothing => true,
-    }
-}
-
 // Whether a part has one or two literals, of different variables below v.
 fn is_part(a: Cube, v: usize) -> bool
     ensures { λ r. ⌜ r ≡ fitPart v (lits a) ⌝ }
@@ -55,7 +39,7 @@ fn is_part(a: Cube, v: usize) -> bool
     if !cube_sets::is_proper(a) {
         return false;
     }
-    is_below(a, v)
+    cube_order::is_below(a, v)
 }
 
 // Whether two parts are fit, share no literal and stand in cube order.

@@ -10,17 +10,8 @@ use Rattle.extract_fit.proofs.is_pair.Tie as tie
 returns : tie.Need-returns
 returns c = pair-falls _ _ _ (c .if1 .taken)
 
-opposite-requires : tie.Need-opposite-requires
-opposite-requires c κs = search needs
-
 returns-2 : tie.Need-returns-2
 returns-2 c = pair-both-ways _ _ _ (sym (c .before .before .before .opposite .ensures) ∙ c .if2 .taken)
-
-variable-of-requires : tie.Need-variable-of-requires
-variable-of-requires c κs = search needs
-
-cast-result : tie.Need-cast-result
-cast-result c = search needs
 
 returns-3 : tie.Need-returns-3
 returns-3 c =
@@ -32,6 +23,4 @@ returns-3 c =
     ∙ pair-fits (s .args .v) _ _ (o .before .if1 .left) (λ k. e .if2 .left (o .opposite .ensures ∙ k))
 
 pub is-pair-spec : {M : Type 1} → statement M
-is-pair-spec =
-    tie.close
-    (tie.spec returns opposite-requires returns-2 variable-of-requires cast-result returns-3)
+is-pair-spec = tie.close (tie.spec returns (λ c κs. search needs) returns-2 (λ c κs. search needs) (λ c. search needs) returns-3)

@@ -5,8 +5,8 @@ use borrow.Author.Tests.{not-true, not-false}
 use Rattle.sets.specs.Lists.{isNil}
 use Rattle.sets.specs.Sets.{apart, before}
 use Rattle.sets.proofs.Sets.{meet-none}
-use Rattle.sets.proofs.Literals.{literals-asc}
-use Rattle.cube.specs.Cube.{width, lits}
+use Rattle.cube.specs.Cube.{lits}
+use Rattle.cube.proofs.Lits.{lits-asc}
 use Rattle.extract_laws.specs.Divisor.{sum}
 use Rattle.extract_fit.specs.Fitness.{fitting}
 use Rattle.extract_fit.specs.Parts.{fitPart}
@@ -15,65 +15,50 @@ use borrow.Author.Needs.{needs}
 use Rattle.extract_fit.proofs.is_sum.Statement.{statement}
 use Rattle.extract_fit.proofs.is_sum.Tie as tie
 
+-- ---- the states of the walk
+
+abbrev one : tie.Else1 → tie.Start
+one c = c .before .before
+
+abbrev two : tie.Else2 → tie.Start
+two c = one (c .before .before)
+
 abbrev start : tie.After-is-empty → tie.Start
-start c = c .before .before .before .before .before .before
+start c = two (c .before .before)
+
+-- ---- what holds there
 
 -- the tests that are left
 tests : (s : tie.Start) → let a = s .args in fitting (a .v) (sum (lits (a .a)) (lits (a .b))) ≡
     (fitPart (a .v) (lits (a .a)) && (fitPart (a .v) (lits (a .b)) && (apart (lits (a .a)) (lits (a .b)) && before (lits (a .a)) (lits (a .b)))))
-tests s = sum-fits (s .args .v) (lits (s .args .a)) (lits (s .args .b)) (literals-asc width _ _) (literals-asc width _ _)
+tests s = sum-fits (s .args .v) (lits (s .args .a)) (lits (s .args .b)) (lits-asc (s .args .a)) (lits-asc (s .args .b))
 
-first : (c : tie.Else1) → fitPart (c .before .before .args .v) (lits (c .before .before .args .a)) ≡ true
+first : (c : tie.Else1) → fitPart (one c .args .v) (lits (one c .args .a)) ≡ true
 first c = sym (c .before .is-part .ensures) ∙ not-false _ (c .if1 .left)
 
-second : (c : tie.Else2) → let s = c .before .before .before .before in fitPart (s .args .v) (lits (s .args .b)) ≡ true
+second : (c : tie.Else2) → fitPart (two c .args .v) (lits (two c .args .b)) ≡ true
 second c = sym (c .before .is-part2 .ensures) ∙ not-false _ (c .if2 .left)
 
 shared : (c : tie.After-is-empty) → apart (lits (start c .args .a)) (lits (start c .args .b)) ≡ c .is-empty .result
 shared c = sym (c .is-empty .ensures ∙ ap isNil (c .before .common .ensures) ∙ meet-none _ _)
 
-last : (c : tie.After-compare) → isFirst (c .compare .result) ≡ fitting (start (c .before .before) .args .v)
-    (sum (lits (start (c .before .before) .args .a)) (lits (start (c .before .before) .args .b)))
+last : (c : tie.After-compare) → let a = start (c .before .before) .args in isFirst (c .compare .result) ≡ fitting (a .v) (sum (lits (a .a)) (lits (a .b)))
 last c =
     let m = c .before .before in
     let t = m .before .before in
     ap isFirst (c .compare .ensures) ∙ first-before _ _ ∙ sym
     (tests (start m) ∙ rw (first (t .before .before), second t, shared m ∙ not-false _ (c .before .if3 .left)))
 
-is-part-requires : tie.Need-is-part-requires
-is-part-requires c κs = search needs
-
 returns : tie.Need-returns
 returns c = sym (tests (c .before .before) ∙ rw (sym (c .before .is-part .ensures) ∙ not-true _ (c .if1 .taken)))
 
-is-part-requires-2 : tie.Need-is-part-requires-2
-is-part-requires-2 c κs = search needs
-
 returns-2 : tie.Need-returns-2
-returns-2 c = sym (tests (c .before .before .before .before) ∙ rw (first (c .before .before), sym (c .before .is-part2 .ensures) ∙ not-true _ (c .if2 .taken)))
-
-common-requires : tie.Need-common-requires
-common-requires c κs = search needs
-
-is-empty-requires : tie.Need-is-empty-requires
-is-empty-requires c κs = search needs
+returns-2 c = sym (tests (one (c .before .before)) ∙ rw (first (c .before .before), sym (c .before .is-part2 .ensures) ∙ not-true _ (c .if2 .taken)))
 
 returns-3 : tie.Need-returns-3
 returns-3 c =
     let t = c .before .before .before in
     sym (tests (start (c .before)) ∙ rw (first (t .before .before), second t, shared (c .before) ∙ not-true _ (c .if3 .taken)))
-
-compare-requires : tie.Need-compare-requires
-compare-requires c κs = search needs
-
-enum-told : tie.Need-enum-told
-enum-told c = search needs
-
-enum-told-2 : tie.Need-enum-told-2
-enum-told-2 c = search needs
-
-enum-told-3 : tie.Need-enum-told-3
-enum-told-3 c = search needs
 
 returns-4 : tie.Need-returns-4
 returns-4 c = ap isFirst (sym (c .enum-told .given .1)) ∙ last (c .before .before)
@@ -87,18 +72,5 @@ returns-6 c = ap isFirst (sym (c .enum-told3 .given .1)) ∙ last (c .before .be
 pub is-sum-spec : {M : Type 1} → statement M
 is-sum-spec =
     tie.close
-    (tie.spec
-    is-part-requires
-    returns
-    is-part-requires-2
-    returns-2
-    common-requires
-    is-empty-requires
-    returns-3
-    compare-requires
-    enum-told
-    enum-told-2
-    enum-told-3
-    returns-4
-    returns-5
-    returns-6)
+    (tie.spec (λ c κs. search needs) returns (λ c κs. search needs) returns-2 (λ c κs. search needs) (λ c κs. search needs) returns-3 (λ c κs. search needs)
+    (λ c. search needs) (λ c. search needs) (λ c. search needs) returns-4 returns-5 returns-6)
