@@ -24,113 +24,111 @@ use Rattle.network.proofs.Handing.{Typed, cut-flat, holds-one, blank-one}
 use Rattle.network.proofs.Laying.{laid-next, laid-holds}
 use Rattle.network.proofs.Parts.{nodes-length}
 use Rattle.extract_laws.specs.Divisor.{own, rewrite}
-use Rattle.extract_laws.specs.Divisor as extraction
+use Rattle.extract_laws.specs.Divisor as divisor
 use Rattle.extract_laws.specs.Extract.{redo, nextFree, step}
 use Rattle.extract_laws.specs.Run.{Move, finished, stuck, makes, roomFor, done, asked, numbers, rows}
 use Rattle.extract_laws.proofs.Making.{next-free, step-nodes}
 use Rattle.extract_tidy.specs.Tidy.{arranged}
 use Rattle.extract_tidy.proofs.Arranged.{arranged-parts, arranged-sized}
-use Rattle.extract_tidy.proofs.Laid.{limited-room}
+use Rattle.extract_tidy.proofs.Laid.{limited-room, nodes-few}
 use Rattle.extract_divisor.specs.Divisor.{divisorOf}
 use Rattle.extract_divisor.specs.declared.Divisor.{Divisor}
 use Rattle.extract_fit.specs.Fitness.{fitting}
 use Rattle.extract_step.specs.Replace.{allowed, outcome, Zeros, Stepped}
-use Rattle.extract_step.specs.Parts.{SourceNodes}
+use Rattle.extract_step.specs.Parts.{SourceNodes, Ready}
+use Rattle.extract_step.proofs.Becoming.{rewrite-length}
 use Rattle.extract_step.specs.declared.Next.{Next}
 
 -- ---- the network of a step, from the nodes laid
 
-capped-over : (t : ℕ) → ltb mostLiterals (capped t) ≡ ltb mostLiterals t
-capped-over t = go (ltb t 18446744073709551616) refl
+-- a count that is cut off passes the limit as it would have
+capped-limit : {x : ℕ} (t : ℕ) → x ≡ capped t → (mostLiterals < x → mostLiterals < t) × (x ≤ mostLiterals → x ≡ t)
+capped-limit {x} t = go (ltb t 18446744073709551616) refl
   where
-    go : (b : Bool) → ltb t 18446744073709551616 ≡ b → ltb mostLiterals (cond b t 18446744073709551615) ≡ ltb mostLiterals t
-    go true e = refl
-    go false e = sym (lt-ltb mostLiterals t (omega (arith, ltb-false t 18446744073709551616 e)))
+    go : (b : Bool) → ltb t 18446744073709551616 ≡ b → x ≡ cond b t 18446744073709551615 → (mostLiterals < x → mostLiterals < t) × (x ≤ mostLiterals → x ≡ t)
+    go true e q = (λ h. omega arith, λ h. q)
+    go false e q = (λ h. omega (arith, ltb-false t 18446744073709551616 e), λ h. absurd (omega arith))
 
--- a count that was not cut off
-capped-is : (x t : ℕ) → x ≡ capped t → x ≤ mostLiterals → x ≡ t
-capped-is x t = go (ltb t 18446744073709551616)
-  where
-    go : (b : Bool) → x ≡ cond b t 18446744073709551615 → x ≤ mostLiterals → x ≡ t
-    go true e h = e
-    go false e h = absurd (omega arith)
-
-module _ (n m k : ℕ) (words counts : List ℕ) (s : SourceNodes words counts (m + k)) where
+module _ {n m k : ℕ} {words counts : List ℕ} {d : Divisor} (s : Ready n m k words counts d) where
   abbrev net : Net
   net = netAt n m k counts words
 
+  abbrev pub after : Net
+  after = step net (divisorOf d)
+
+  -- the nodes as the code lays them
+  abbrev pub rewritten : List (List (List ℕ))
+  rewritten = map (rewrite (2 * (n + k)) (divisorOf d)) (nodesOf (m + k) counts words)
+
   few : m + k ≤ length counts
-  few = s .room .counted
+  few = s .source .room .counted
 
   numbered : variables net ≡ n + k
   numbered = ap (n +_) (divisors-held (heldIn n m k counts words) few)
 
   -- the new node's number
-  pub next : nextFree net ≡ n + k
-  next = next-free net ∙ numbered
+  pub next-number : nextFree net ≡ n + k
+  next-number = next-free net ∙ numbered
 
-  module _ (d : extraction.Divisor) where
-    -- the nodes that the code lays, and the divisor's own
-    pub laid-nodes : map (rewrite (2 * (n + k)) d) (nodesOf (m + k) counts words) ++ (own d ∷ []) ≡ nodes (step net d)
-    laid-nodes =
-        sym (step-nodes net d
-        ∙ ap₂ (λ (v : ℕ) (fs : List (List (List ℕ))). map (rewrite (2 * v) d) fs ++ (own d ∷ [])) next (nodes-held (heldIn n m k counts words)))
+  -- and the divisor's own
+  laid-nodes : rewritten ++ (own (divisorOf d) ∷ []) ≡ nodes after
+  laid-nodes =
+      sym (step-nodes net (divisorOf d) ∙ ap₂ (λ (v : ℕ) (fs : List (List (List ℕ))). map (rewrite (2 * v) (divisorOf d)) fs ++ (own (divisorOf d) ∷ []))
+      next-number (nodes-held (heldIn n m k counts words)))
 
-    pub laid-count : {ws sizes : List ℕ} {t : ℕ} → LaidNodes ws sizes t (map (rewrite (2 * (n + k)) d) (nodesOf (m + k) counts words))
-        → cubeCount (step net d) ≡ t + length (own d)
-    laid-count l =
-        let fs = map (rewrite (2 * (n + k)) d) (nodesOf (m + k) counts words) in
-        omega (arith, ap (total length) laid-nodes, total-append length fs (own d ∷ []), l .place)
+  module _ {ws sizes : List ℕ} {t : ℕ} where
+    -- no more cubes than there are places
+    pub laid-few : LaidNodes ws sizes t rewritten → t ≤ cubeSlots
+    laid-few l = omega (arith, l .place, nodes-few (rewrite (2 * (n + k)) (divisorOf d)) (rewrite-length (2 * (n + k)) (divisorOf d)) (s .source .room))
+
+    pub laid-count : LaidNodes ws sizes t rewritten → cubeCount after ≡ t + length (own (divisorOf d))
+    laid-count l = omega (arith, ap (total length) laid-nodes, total-append length rewritten (own (divisorOf d) ∷ []), l .place)
 
     -- the literals in the words are those of the network
-    pub laid-literals : {ws sizes : List ℕ} {t : ℕ} {f : List (List ℕ)} → LaidNodes ws sizes t (nodes (step net d))
-        → f ≡ front (t - 0) (drop 0 (cubesOf ws)) → literalsOf f ≡ literalCount (step net d)
-    laid-literals {t = t} l e =
-        let fs = nodes (step net d) in
-        let k : t - 0 ≡ total (λ c. c) (map length fs) = omega (arith, l .place, total-map (λ c. c) length fs) in
+    pub laid-literals : {f : List (List ℕ)} → LaidNodes ws sizes t (nodes after) → f ≡ front (t - 0) (drop 0 (cubesOf ws)) → literalsOf f ≡ literalCount after
+    laid-literals l e =
+        let k : t - 0 ≡ total (λ c. c) (map length (nodes after)) = omega (arith, l .place, total-map (λ c. c) length (nodes after)) in
         ap literalsOf e ∙ ap₂ (λ (k : ℕ) (g : List (List ℕ)). literalsOf (front k g)) k (l .cubes)
-        ∙ sym (cut-total length (map length fs) (flat fs ++ replicate (cubeSlots - t) []))
-        ∙ ap (total literalsOf) (cut-flat fs (replicate (cubeSlots - t) []))
+        ∙ sym (cut-total length (map length (nodes after)) (flat (nodes after) ++ replicate (cubeSlots - t) []))
+        ∙ ap (total literalsOf) (cut-flat (nodes after) (replicate (cubeSlots - t) []))
 
     -- the divisor's own node after the others
-    pub step-laid : {ws new sizes : List ℕ} {t u : ℕ} → LaidNodes ws sizes t (map (rewrite (2 * (n + k)) d) (nodesOf (m + k) counts words))
-        → Appends ws new t (own d) u → LaidNodes new (set sizes (m + k) (u - t)) u (nodes (step net d))
-    step-laid {new = new} {sizes} {t} {u} l o =
-        let fs = map (rewrite (2 * (n + k)) d) (nodesOf (m + k) counts words) in
+    pub step-laid : {new : List ℕ} {u : ℕ} → LaidNodes ws sizes t rewritten → Appends ws new t (own (divisorOf d)) u
+        → LaidNodes new (set sizes (m + k) (u - t)) u (nodes after)
+    step-laid {new} {u} l o =
         let e : t + (u - t) ≡ u = omega (arith, o .next) in
-        let i : length fs ≡ m + k = length-map (nodesOf (m + k) counts words) (rewrite (2 * (n + k)) d) ∙ nodes-length counts words (m + k) few in
+        let i : length rewritten ≡ m + k = length-map (nodesOf (m + k) counts words) _ ∙ nodes-length counts words (m + k) few in
         subst (LaidNodes new (set sizes (m + k) (u - t)) u) laid-nodes
-        (subst (λ z. LaidNodes new (set sizes (m + k) (u - t)) z (fs ++ (own d ∷ []))) e (laid-next l (sym i) (s .free) (omega (arith, o .next)) (o .placed)))
+        (subst (λ z. LaidNodes new (set sizes (m + k) (u - t)) z (rewritten ++ (own (divisorOf d) ∷ []))) e
+        (laid-next l (sym i) (s .source .free) (omega (arith, o .next)) (o .placed)))
 
-    pub step-held : {ws sizes : List ℕ} {t : ℕ} → LaidNodes ws sizes t (nodes (step net d)) → Holds (heldIn n m (k + 1) sizes ws) (step net d)
+    pub step-held : LaidNodes ws sizes t (nodes after) → Holds (heldIn n m (k + 1) sizes ws) after
     step-held l =
-        laid-holds l (step net d) refl refl (sym (length-map (net .outputs) (rewrite (2 * nextFree net) d) ∙ outputs-held (heldIn n m k counts words) few))
+        laid-holds l after refl refl (sym (length-map (net .outputs) _ ∙ outputs-held (heldIn n m k counts words) few))
         (omega (
           arith,
-          length-append (map (redo (2 * nextFree net) d) (net .divisors)) (record { number = nextFree net; cubes = own d } ∷ []),
-          length-map (net .divisors) (redo (2 * nextFree net) d),
+          length-append (map (redo (2 * nextFree net) (divisorOf d)) (net .divisors)) (record { number = nextFree net; cubes = own (divisorOf d) } ∷ []),
+          length-map (net .divisors) (redo (2 * nextFree net) (divisorOf d)),
           divisors-held (heldIn n m k counts words) few,
         ))
 
-    module _ (h : n + k < mostVariables) where
-      pub room-rows : mostCubes < cubeCount (step net d) → roomFor net d ≡ stuck rows
-      unfolding roomFor
-      room-rows c = rw (ap (λ (v : ℕ). ltb v mostVariables) numbered ∙ lt-ltb (n + k) mostVariables h, lt-ltb mostCubes _ c)
+  room-by : {b : Bool} → ltb mostCubes (cubeCount after) ≡ b → roomFor net (divisorOf d) ≡ cond b (stuck rows) (makes (divisorOf d))
+  unfolding roomFor
+  room-by e = rw (ap (λ (v : ℕ). ltb v mostVariables) numbered ∙ lt-ltb (n + k) mostVariables (s .number), e)
 
-      room-take : cubeCount (step net d) ≤ mostCubes → roomFor net d ≡ makes d
-      unfolding roomFor
-      room-take c = rw (ap (λ (v : ℕ). ltb v mostVariables) numbered ∙ lt-ltb (n + k) mostVariables h, le-ltb mostCubes _ c)
+  pub room-rows : mostCubes < cubeCount after → allowed net (roomFor net (divisorOf d)) ≡ some (stuck rows)
+  room-rows h = ap (allowed net) (room-by (lt-ltb mostCubes _ h))
 
-      -- and the literals, as they were counted
-      module _ (c : cubeCount (step net d) ≤ mostCubes) (x : ℕ) (e : x ≡ capped (literalCount (step net d))) where
-        pub room-over : mostLiterals < x → allowed net (roomFor net d) ≡ none
-        room-over l = rw (room-take c, sym (capped-over (literalCount (step net d))) ∙ ap (ltb mostLiterals) (sym e) ∙ lt-ltb mostLiterals x l)
+  -- and the literals, as they were counted
+  module _ (h : cubeCount after ≤ mostCubes) {x : ℕ} (e : x ≡ capped (literalCount after)) where
+    pub room-over : mostLiterals < x → allowed net (roomFor net (divisorOf d)) ≡ none
+    room-over l = rw (room-by (le-ltb mostCubes _ h), lt-ltb mostLiterals _ (capped-limit _ e .0 l))
 
-        pub room-literals : x ≤ mostLiterals → x ≡ literalCount (step net d)
-        room-literals = capped-is x (literalCount (step net d)) e
+    pub room-literals : x ≤ mostLiterals → x ≡ literalCount after
+    room-literals l = capped-limit _ e .1 l
 
-        pub room-made : x ≤ mostLiterals → allowed net (roomFor net d) ≡ some (makes d)
-        room-made l = rw (room-take c, sym (capped-over (literalCount (step net d))) ∙ ap (ltb mostLiterals) (sym e) ∙ le-ltb mostLiterals x l)
+    pub room-made : x ≤ mostLiterals → allowed net (roomFor net (divisorOf d)) ≡ some (makes (divisorOf d))
+    room-made l = rw (room-by (le-ltb mostCubes _ h), le-ltb mostLiterals (literalCount after) (omega (arith, room-literals l)))
 
 -- ---- the cases of an answer
 
@@ -148,7 +146,7 @@ module _ (n : Network) (shape : Shaped n) (a : arranged n ≡ true) where
   pub arranged-variables : variables (netOf n) ≡ n .inputs + n .divisors
   arranged-variables = ap (n .inputs +_) (divisors-held n (within .counted))
 
-  pub room-full : (d : extraction.Divisor) → mostVariables ≤ n .inputs + n .divisors → roomFor (netOf n) d ≡ stuck numbers
+  pub room-full : (d : divisor.Divisor) → mostVariables ≤ n .inputs + n .divisors → roomFor (netOf n) d ≡ stuck numbers
   unfolding roomFor
   room-full d h = rw (ap (λ (v : ℕ). ltb v mostVariables) arranged-variables ∙ le-ltb (n .inputs + n .divisors) mostVariables h)
 
@@ -180,16 +178,16 @@ module _ (n : Network) (d : Divisor) (r t : Next) (x : Typed (r .network)) (y : 
       join : r .outcome ≡ t .outcome → r .network ≡ t .network → r .number .0 ≡ t .number .0 → r .literals ≡ t .literals → r ≡ t
       join p q u v = λ i. record { outcome = p i; network = q i; number = record { 0 = u i }; literals = v i }
 
-      zeros : r .outcome ≡ t .outcome → Zeros r → Zeros t → r ≡ t
-      zeros p h k = join p (blank-one (r .network) (t .network) (h .blank) (k .blank)) (h .number ∙ sym (k .number)) (h .literals ∙ sym (k .literals))
+      unmade : r .outcome ≡ t .outcome → Zeros r → Zeros t → r ≡ t
+      unmade p h k = join p (blank-one (r .network) (t .network) (h .blank) (k .blank)) (h .number ∙ sym (k .number)) (h .literals ∙ sym (k .literals))
 
       go : (o : Option Move) → Stepped n o r → Stepped n o t → r ≡ t
       go (some (makes e)) (p, h) (q, k) =
           join (p ∙ sym q) (holds-one (r .network) (t .network) (step (netOf n) e) x y (h .held) (k .held))
           (h .number ∙ sym (k .number)) (h .literals ∙ sym (k .literals))
-      go (some (stuck numbers)) (p, h) (q, k) = zeros (p ∙ sym q) h k
-      go (some (stuck rows)) (p, h) (q, k) = zeros (p ∙ sym q) h k
+      go (some (stuck numbers)) (p, h) (q, k) = unmade (p ∙ sym q) h k
+      go (some (stuck rows)) (p, h) (q, k) = unmade (p ∙ sym q) h k
       go (some (stuck done)) h k = absurd h
       go (some (stuck asked)) h k = absurd h
       go (some finished) h k = absurd h
-      go none (p, h) (q, k) = zeros (p ∙ sym q) h k
+      go none (p, h) (q, k) = unmade (p ∙ sym q) h k

@@ -38,14 +38,14 @@ module _ {A B : Type 0} (g : A → Option B) where
 
   -- one more element
   module _ (l : List A) (i : ℕ) (d : A) (h : i < length l) where
-    next : become g (take (i + 1) l) ≡ become g (take i l) ++ push (g (getD l i d)) []
-    next = rw (add-one i, take-suc l i d h) (become-append (take i l) (getD l i d ∷ []))
+    one-more : become g (take (i + 1) l) ≡ become g (take i l) ++ push (g (getD l i d)) []
+    one-more = rw (add-one i, take-suc l i d h) (become-append (take i l) (getD l i d ∷ []))
 
     pub become-none : g (getD l i d) ≡ none → become g (take (i + 1) l) ≡ become g (take i l)
-    become-none e = next ∙ rw e (append-nil (become g (take i l)))
+    become-none e = one-more ∙ rw e (append-nil (become g (take i l)))
 
     pub become-one : (y : B) → g (getD l i d) ≡ some y → become g (take (i + 1) l) ≡ become g (take i l) ++ (y ∷ [])
-    become-one y e = next ∙ rw e
+    become-one y e = one-more ∙ rw e
 
 module _ (x : ℕ) (d : Divisor) (f : List (List ℕ)) where
   -- however the cubes of the uses and the others are mixed, they sort alike

@@ -15,7 +15,7 @@ use Rattle.network.specs.Handed.{Shaped}
 use Rattle.network.specs.declared.Network.{Network}
 use Rattle.network.proofs.Ruling.{rules-lawful}
 use Rattle.network.proofs.Handing.{holds-net}
-use Rattle.extract_laws.specs.Divisor as extraction
+use Rattle.extract_laws.specs.Divisor as divisor
 use Rattle.extract_laws.specs.Divisor.{rewrite}
 use Rattle.extract_laws.specs.Extract.{nextFree, step}
 use Rattle.extract_laws.specs.Run.{roomFor, stuck, makes, numbers, rows}
@@ -36,7 +36,7 @@ use Rattle.extract_fit.proofs.Fitting.{fitting-iff}
 -- ---- what was made
 
 -- the divisor is fit, there was room for the step, and the network after it is held
-pub record Takes (n : Net) (d : extraction.Divisor) (t : Next) : Type 0 where
+pub record Takes (n : Net) (d : divisor.Divisor) (t : Next) : Type 0 where
   pub fit : Fit n d
   pub number : variables n < mostVariables
   pub rows : cubeCount (step n d) ≤ mostCubes
@@ -52,7 +52,7 @@ stepped-takes n d t s q =
     m : Net
     m = netOf n
 
-    e : extraction.Divisor
+    e : divisor.Divisor
     e = divisorOf d
 
     go : (f v c l : Bool) → (arranged n && fitting (variables m) e) ≡ f → ltb (variables m) mostVariables ≡ v
@@ -73,7 +73,7 @@ stepped-takes n d t s q =
 -- ---- from a network by the rules
 
 module _ (n : Network) (shape : Shaped n) (r : rules n ≡ true)
-    (d : extraction.Divisor) (x : Next) (t : Takes (netOf n) d x) where
+    (d : divisor.Divisor) (x : Next) (t : Takes (netOf n) d x) where
   good : Good (step (netOf n) d)
   good = step-good (netOf n) (rules-good n shape r) d (t .fit)
 

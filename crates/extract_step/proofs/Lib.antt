@@ -1,4 +1,3 @@
-pub mod Testing
 pub mod Becoming
 pub mod Answering
 pub mod Keeping

@@ -1,5 +1,5 @@
 -- What the parts of a step promise each other.
-use Prim.Native.Nat.{ℕ, _*_, _<_}
+use Prim.Native.Nat.{ℕ, _+_, _*_, _<_}
 use mathlib.Core.Path.{_≡_}
 use mathlib.Core.Bool.{true, cond}
 use mathlib.Core.List.{List, [], _∷_}
@@ -8,6 +8,7 @@ use Rattle.sets.specs.Lists.{all}
 use Rattle.cube.specs.Cube.{width, lits}
 use Rattle.cube.specs.declared.Literal.{Literal}
 use Rattle.expression.specs.Expression.{ordered}
+use Rattle.network.specs.Held.{mostVariables}
 use Rattle.network.specs.Handed.{nodeSlots}
 use Rattle.network.specs.Parts.{nodesOf}
 use Rattle.extract_laws.specs.Divisor.{Divisor, part, hit, gone, swap}
@@ -15,8 +16,8 @@ use Rattle.extract_tidy.specs.Parts.{Room}
 use Rattle.extract_divisor.specs.Divisor.{divisorOf}
 use Rattle.extract_divisor.specs.declared.Divisor as declared
 use Rattle.extract_fit.specs.Fitness.{fitting}
-use Rattle.extract_step.specs.declared.Fate.{Fate}
-use Rattle.extract_step.specs.declared.Fate.the-variants.{Becomes, Goes}
+use Rattle.extract_step.specs.declared.Remade.{Remade}
+use Rattle.extract_step.specs.declared.Remade.the-variants.{Becomes, Goes}
 
 -- ---- the cubes of a node
 
@@ -24,7 +25,7 @@ use Rattle.extract_step.specs.declared.Fate.the-variants.{Becomes, Goes}
 unfoldable pub fate : ℕ → Divisor → List (List ℕ) → List ℕ → Option (List ℕ)
 fate x d f c = cond (hit d f c) (some (swap x (part d) c)) (cond (gone d f c) none (some c))
 
-abbrev pub fateOf : Fate → Option (List ℕ)
+abbrev pub fateOf : Remade → Option (List ℕ)
 fateOf (Becomes c) = some (lits c)
 fateOf Goes = none
 
@@ -50,3 +51,9 @@ pub record SourceNodes (words counts : List ℕ) (e : ℕ) : Type 0 where
   pub room : Room e counts words
   pub free : e < nodeSlots
   pub order : all ordered (nodesOf e counts words) ≡ true
+
+-- the nodes of n inputs, m outputs and k divisors, with a number for one more, and a divisor that is fit
+pub record Ready (n m k : ℕ) (words counts : List ℕ) (d : declared.Divisor) : Type 0 where
+  pub source : SourceNodes words counts (m + k)
+  pub number : n + k < mostVariables
+  pub divisor : fitting width (divisorOf d) ≡ true

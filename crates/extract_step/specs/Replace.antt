@@ -7,7 +7,7 @@ use Rattle.network.specs.Net.{Net, variables, literalCount}
 use Rattle.network.specs.Held.{netOf, mostLiterals}
 use Rattle.network.specs.Handed.{Holds, Blank}
 use Rattle.network.specs.declared.Network.{Network}
-use Rattle.extract_laws.specs.Divisor as extraction
+use Rattle.extract_laws.specs.Divisor as divisor
 use Rattle.extract_laws.specs.Extract.{nextFree, step}
 use Rattle.extract_laws.specs.Run.{Move, finished, stuck, makes, roomFor, done, asked, numbers, rows}
 use Rattle.extract_tidy.specs.Tidy.{arranged}
@@ -28,7 +28,7 @@ unfoldable pub outcome : Network → Divisor → Option Move
 outcome n d = cond (arranged n && fitting (variables (netOf n)) (divisorOf d)) (allowed (netOf n) (roomFor (netOf n) (divisorOf d))) none
 
 -- the network after the step, the number of its new node, and its literal count
-pub record After (n : Net) (d : extraction.Divisor) (r : Next) : Type 0 where
+pub record After (n : Net) (d : divisor.Divisor) (r : Next) : Type 0 where
   pub held : Holds (r .network) (step n d)
   pub number : r .number .0 ≡ nextFree n
   pub literals : r .literals ≡ literalCount (step n d)

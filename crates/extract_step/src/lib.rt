@@ -7,12 +7,11 @@ use network::Network;
 ghost use mathlib.Core.Path.{_≡_};
 ghost use mathlib.Core.Bool.{true};
 ghost use mathlib.Core.List.{[], map};
-ghost use Prim.Native.Nat.{_+_, _<_, _≤_};
+ghost use Prim.Native.Nat.{_+_, _≤_};
 ghost use lib.ListN.{length, replicate};
 ghost use Rattle.cube.specs.Cube.{width, lits};
 ghost use Rattle.expression.specs.Words.{cubesOf, Appends};
 ghost use Rattle.expression.specs.Expression.{ordered};
-ghost use Rattle.network.specs.Held.{mostVariables};
 ghost use Rattle.network.specs.Handed.{nodeSlots, wordSlots, LaidNodes};
 ghost use Rattle.network.specs.Parts.{nodesOf, heldIn, netAt};
 ghost use Rattle.extract_laws.specs.Divisor.{own, part, hit, gone, rewrite};
@@ -20,7 +19,7 @@ ghost use Rattle.extract_laws.specs.Run.{roomFor};
 ghost use Rattle.extract_divisor.specs.Divisor.{divisorOf};
 ghost use Rattle.extract_fit.specs.Fitness.{fitting};
 ghost use Rattle.extract_step.specs.Replace.{allowed, Zeros, Stepped, outcome};
-ghost use Rattle.extract_step.specs.Parts.{fate, fateOf, become, Fitted, SourceNodes};
+ghost use Rattle.extract_step.specs.Parts.{fate, fateOf, become, Fitted, SourceNodes, Ready};
 
 pub enum Outcome {
     Made,
@@ -38,7 +37,7 @@ pub struct Next {
 }
 
 // What becomes of a cube in a step.
-enum Fate {
+enum Remade {
     Becomes(Cube),
     Goes,
 }
@@ -92,17 +91,17 @@ fn part_of(d: Divisor) -> Cube
 }
 
 // A use's cube takes the literal x in place of the part, the other cube of a use goes, and any other cube stays.
-fn remake(f: &[u64], d: Divisor, x: Literal, c: Cube) -> Fate
+fn remake(f: &[u64], d: Divisor, x: Literal, c: Cube) -> Remade
     requires { ⌜ (ordered (cubesOf (now f)) ≡ true) × Fitted d x ⌝ }
     ensures { λ r. ⌜ fateOf r ≡ fate (x .0) (divisorOf d) (cubesOf (now (f .entry))) (lits c) ⌝ }
 {
     if is_hit(f, d, c) {
-        return Fate::Becomes(cube::with(cube_sets::without(c, part_of(d)), x));
+        return Remade::Becomes(cube::with(cube_sets::without(c, part_of(d)), x));
     }
     if is_gone(f, d, c) {
-        return Fate::Goes;
+        return Remade::Goes;
     }
-    Fate::Becomes(c)
+    Remade::Becomes(c)
 }
 
 // What the cubes of f become, from place `at` on; the place after them.
@@ -117,7 +116,7 @@ fn write_node(f: &[u64], d: Divisor, x: Literal, out: &mut [u64], at: usize) -> 
     while i < n {
         let t = remake(f, d, x, expression::cube_at(f, i));
         i += 1;
-        let Fate::Becomes(c) = t else {
+        let Remade::Becomes(c) = t else {
             continue;
         };
         expression::put_cube(out, to, c);
@@ -201,7 +200,7 @@ fn refused(outcome: Outcome) -> Next
 
 // The step, where a number is free: the new literal is the plain one of the next free number.
 fn made(words: &[u64], counts: &[usize], n: usize, m: usize, k: usize, d: Divisor) -> Next
-    requires { ⌜ SourceNodes (now words) (now counts) (m + k) × (n + k < mostVariables) × (fitting width (divisorOf d) ≡ true) ⌝ }
+    requires { ⌜ Ready n m k (now words) (now counts) d ⌝ }
     ensures { λ r. ⌜ Stepped (heldIn n m k (now (counts .entry)) (now (words .entry)))
         (allowed (netAt n m k (now (counts .entry)) (now (words .entry))) (roomFor (netAt n m k (now (counts .entry)) (now (words .entry))) (divisorOf d))) r
         ⌝ }

@@ -5,18 +5,6 @@ use borrow.Author.Needs.{needs}
 use Rattle.extract_step.proofs.is_hit.Statement.{statement}
 use Rattle.extract_step.proofs.is_hit.Tie as tie
 
-enum-known-d : tie.Need-enum-known-d
-enum-known-d c = search needs
-
-has-pair-requires : tie.Need-has-pair-requires
-has-pair-requires c κs = search needs
-
-enum-known-d-2 : tie.Need-enum-known-d-2
-enum-known-d-2 c = search needs
-
-is-use-requires : tie.Need-is-use-requires
-is-use-requires c κs = search needs
-
 returns : tie.Need-returns
 returns c = rw (c .before .before .d .given .1) (c .has-pair .ensures)
 
@@ -24,6 +12,4 @@ returns-2 : tie.Need-returns-2
 returns-2 c = rw (c .before .before .d2 .given .1) (c .is-use .ensures ∙ found-use _ _ _ _ (c .before .before .before .before .before .pre))
 
 pub is-hit-spec : {M : Type 1} → statement M
-is-hit-spec =
-    tie.close
-    (tie.spec enum-known-d has-pair-requires enum-known-d-2 is-use-requires returns returns-2)
+is-hit-spec = tie.close (tie.spec (λ c. search needs) (λ c κs. search needs) (λ c. search needs) (λ c κs. search needs) returns returns-2)

@@ -1,28 +1,26 @@
 -- `extract_step::part_of` meets its contract: a pair's two literals, or the sum's first part. Assumes nothing.
+use Prim.Native.Nat.{ℕ, _*_}
 use mathlib.Core.Path.{_≡_, _∙_, ap, subst}
 use mathlib.Core.Bool.{true}
-use Rattle.cube.specs.Cube.{joined}
+use mathlib.Core.List.{[], _∷_}
+use native.Mathlib.Omega.{arith}
+use borrow.Author.Tests.{lt-ltb, le-ltb, ne-eqb}
+use Rattle.sets.specs.Sets.{insert}
+use Rattle.cube.specs.Cube.{width, joined}
+use Rattle.extract_laws.specs.Divisor.{pair}
 use Rattle.extract_divisor.specs.Divisor.{divisorOf}
 use Rattle.extract_fit.specs.Fitness.{fitting}
-use Rattle.extract_step.proofs.Testing.{pair-part}
+use Rattle.extract_fit.proofs.Fitting.{pair-below}
 use borrow.Author.Needs.{needs}
 use Rattle.extract_step.proofs.part_of.Statement.{statement}
 use Rattle.extract_step.proofs.part_of.Tie as tie
 
-enum-known-d : tie.Need-enum-known-d
-enum-known-d c = search needs
-
-empty-requires : tie.Need-empty-requires
-empty-requires c κs = search needs
-
-with-requires : tie.Need-with-requires
-with-requires c κs = search needs
-
-with-requires-2 : tie.Need-with-requires-2
-with-requires-2 c κs = search needs
-
-enum-known-d-2 : tie.Need-enum-known-d-2
-enum-known-d-2 c = search needs
+-- the two literals of a pair, the smaller first, as a cube
+pair-part : (p q : ℕ) → fitting width (pair p q) ≡ true → joined q (joined p []) ≡ p ∷ q ∷ []
+unfolding insert
+pair-part p q h =
+    let w = pair-below width p q h in
+    rw (lt-ltb q (2 * width) (omega arith), lt-ltb p (2 * width) (omega arith), le-ltb q p (omega arith), ne-eqb q p (λ e. omega arith))
 
 returns : tie.Need-returns
 returns c =
@@ -32,7 +30,7 @@ returns c =
     rw (t .d .given .1)
     (c .with2 .ensures
     ∙ ap (joined q) (c .before .with .ensures ∙ ap (joined p) (c .before .before .empty .ensures))
-    ∙ pair-part p q (subst (λ e. fitting 64 (divisorOf e) ≡ true) (t .d .given .1) (t .before .before .pre)))
+    ∙ pair-part p q (subst (λ e. fitting width (divisorOf e) ≡ true) (t .d .given .1) (t .before .before .pre)))
 
 returns-2 : tie.Need-returns-2
 returns-2 c = rw (c .before .d2 .given .1)
@@ -40,11 +38,4 @@ returns-2 c = rw (c .before .d2 .given .1)
 pub part-of-spec : {M : Type 1} → statement M
 part-of-spec =
     tie.close
-    (tie.spec
-    enum-known-d
-    empty-requires
-    with-requires
-    with-requires-2
-    enum-known-d-2
-    returns
-    returns-2)
+    (tie.spec (λ c. search needs) (λ c κs. search needs) (λ c κs. search needs) (λ c κs. search needs) (λ c. search needs) returns returns-2)

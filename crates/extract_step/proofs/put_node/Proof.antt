@@ -19,15 +19,6 @@ fates s = fate (s .args .x .0) (divisorOf (s .args .d)) (cubesOf (s .args .f .no
 abbrev begun : tie.After-write-node → tie.Start
 begun w = w .before .before .before .before
 
-write-node-requires : tie.Need-write-node-requires
-write-node-requires c κs = search needs
-
-sort-part-requires : tie.Need-sort-part-requires
-sort-part-requires c κs = search needs
-
-same-length : tie.Need-same-length
-same-length c = search needs
-
 returns : tie.Need-returns
 returns c =
     let t = c .before .before in
@@ -36,4 +27,4 @@ returns c =
     (omega (arith, w .write-node .ensures .next, become-length (fates (begun w)) (cubesOf (begun w .args .f .now)))) (t .sort-part .ensures))
 
 pub put-node-spec : {M : Type 1} → statement M
-put-node-spec = tie.close (tie.spec write-node-requires sort-part-requires same-length returns)
+put-node-spec = tie.close (tie.spec (λ c κs. search needs) (λ c κs. search needs) (λ c. search needs) returns)

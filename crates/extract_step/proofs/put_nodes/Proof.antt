@@ -80,26 +80,11 @@ loop-holds c =
       refl,
     )
 
-node-requires : tie.Need-node-requires Inv-loop μ-loop
-node-requires c κs = search needs
-
 put-node-requires : tie.Need-put-node-requires Inv-loop μ-loop
 put-node-requires c κs = let n = c .before in ((node-ordered n, start (head n) .pre .0 .1), fits n)
 
-sub-sizes : tie.Need-sub-sizes Inv-loop μ-loop
-sub-sizes c = search needs
-
-mul-sizes : tie.Need-mul-sizes Inv-loop μ-loop
-mul-sizes c = search needs
-
 slice-write-sizes : tie.Need-slice-write-sizes Inv-loop μ-loop
 slice-write-sizes c = let l = head (at c) in omega (arith, source l .free, l .loop .inv .3, ap length (start l .pre .1 .1))
-
-add-i : tie.Need-add-i Inv-loop μ-loop
-add-i c = search needs
-
-loop-less : tie.Need-loop-less Inv-loop μ-loop
-loop-less c = search needs
 
 loop-again : tie.Need-loop-again Inv-loop μ-loop
 loop-again c =
@@ -127,18 +112,5 @@ returns c = let l = c .before in nodes-laid (changed l) (fewer l) (source l .roo
 pub put-nodes-spec : {M : Type 1} → statement M
 put-nodes-spec =
     tie.close
-    (tie.spec
-    Inv-loop
-    μ-loop
-    loop-holds
-    node-requires
-    put-node-requires
-    sub-sizes
-    mul-sizes
-    slice-write-sizes
-    add-i
-    loop-less
-    loop-again
-    same-length
-    same-length-2
-    returns)
+    (tie.spec Inv-loop μ-loop loop-holds (λ c κs. search needs) put-node-requires (λ c. search needs) (λ c. search needs) slice-write-sizes (λ c. search needs)
+    (λ c. search needs) loop-again same-length same-length-2 returns)

@@ -20,52 +20,37 @@ own-some : (d : Divisor) → 1 ≤ length (own (divisorOf d))
 own-some (Pair p q) = omega arith
 own-some (Sum a e) = omega arith
 
-part-of-requires : tie.Need-part-of-requires
-part-of-requires c κs = search needs
+abbrev start : tie.After-put-cube → tie.Start
+start p = p .before .before .before .before
 
-put-cube-requires : tie.Need-put-cube-requires
-put-cube-requires c κs = search needs
+abbrev put : tie.After-slice-known2 → tie.After-put-cube
+put c = c .before .before
 
 add-next : tie.Need-add-next
-add-next c = let s = c .before .before .before .before .before .before in
+add-next c = let s = start (put c) in
     record { fits = omega (arith, s .pre .1, own-some (s .args .d), cubes-few (s .args .out .now)) }
-
-enum-told : tie.Need-enum-told
-enum-told c = search needs
-
-enum-known-d : tie.Need-enum-known-d
-enum-known-d c = search needs
-
-put-cube-requires-2 : tie.Need-put-cube-requires-2
-put-cube-requires-2 c κs = search needs
 
 add-result : tie.Need-add-result
 add-result c =
     let t = c .before .before .before .before .before in
-    let s = t .before .before .before .before .before .before .before .before in
+    let s = start (put (t .before .before)) in
     record { fits = omega (arith, s .pre .1, ap (λ d. length (own (divisorOf d))) (t .d .given .1), cubes-few (s .args .out .now)) }
-
-same-length : tie.Need-same-length
-same-length c = search needs
 
 returns : tie.Need-returns
 returns c =
     let e = c .enum-told .given .1 in
-    let p = c .before .before .before .before in
-    let s = p .before .before .before .before in
+    let p = put (c .before .before) in
+    let s = start p in
     appends-as (ap (_∷ []) (p .before .part-of .ensures ∙ ap (λ d. part (divisorOf d)) e) ∙ sym (ap (λ d. own (divisorOf d)) e))
     (appends-put (appends-none _ _) (omega (arith, s .pre .1, ap (λ d. length (own (divisorOf d))) e)) (p .put-cube .ensures))
-
-same-length-2 : tie.Need-same-length-2
-same-length-2 c = search needs
 
 returns-2 : tie.Need-returns-2
 returns-2 c =
     let q = c .before .before in
     let t = q .before .before .before in
     let e = t .d .given .1 in
-    let p = t .before .before .before .before in
-    let s = p .before .before .before .before in
+    let p = put (t .before .before) in
+    let s = start p in
     let n = ap (λ d. length (own (divisorOf d))) e in
     appends-as (ap (_∷ lits (t .d .given .0 .1 .0) ∷ []) (p .before .part-of .ensures ∙ ap (λ d. part (divisorOf d)) e) ∙ sym (ap (λ d. own (divisorOf d)) e))
     (appends-put (appends-put (appends-none _ _) (omega (arith, s .pre .1, n)) (p .put-cube .ensures)) (omega (arith, s .pre .1, n)) (q .put-cube2 .ensures))
@@ -73,15 +58,5 @@ returns-2 c =
 pub put-own-spec : {M : Type 1} → statement M
 put-own-spec =
     tie.close
-    (tie.spec
-    part-of-requires
-    put-cube-requires
-    add-next
-    enum-told
-    enum-known-d
-    put-cube-requires-2
-    add-result
-    same-length
-    returns
-    same-length-2
-    returns-2)
+    (tie.spec (λ c κs. search needs) (λ c κs. search needs) add-next (λ c. search needs) (λ c. search needs) (λ c κs. search needs) add-result
+    (λ c. search needs) returns (λ c. search needs) returns-2)

@@ -24,51 +24,46 @@ Inv-loop f d x out₀ at n to₀ i₀ out to i =
 abbrev μ-loop : tie.MeasureT-loop
 μ-loop f d x out₀ at n to₀ i₀ out to i = n - i
 
-abbrev start : tie.At-loop Inv-loop μ-loop → tie.Start Inv-loop μ-loop
+-- ---- the states of the walk
+
+abbrev Loop : Type 0
+Loop = tie.At-loop Inv-loop μ-loop
+
+abbrev start : Loop → tie.Start Inv-loop μ-loop
 start l = l .before .before .before .before
 
-abbrev cubes : tie.At-loop Inv-loop μ-loop → List (List ℕ)
+abbrev head : tie.After-remake Inv-loop μ-loop → Loop
+head r = r .before .before .before
+
+abbrev stays : tie.After-put-cube Inv-loop μ-loop → tie.After-t Inv-loop μ-loop
+stays p = p .before .before .before
+
+abbrev remade : tie.After-t Inv-loop μ-loop → tie.After-remake Inv-loop μ-loop
+remade t = t .before .before
+
+-- ---- what holds there
+
+abbrev cubes : Loop → List (List ℕ)
 cubes l = cubesOf (start l .args .f .now)
 
-abbrev fates : tie.At-loop Inv-loop μ-loop → List ℕ → Option (List ℕ)
+abbrev fates : Loop → List ℕ → Option (List ℕ)
 fates l = fate (start l .args .x .0) (divisorOf (start l .args .d)) (cubes l)
 
 -- so far there are no more cubes than were passed
-below : (l : tie.At-loop Inv-loop μ-loop) → l .loop .to ≤ start l .args .at + l .loop .i
+below : (l : Loop) → l .loop .to ≤ start l .args .at + l .loop .i
 below l = omega (arith, l .loop .inv .2 .next, become-few (fates l) (cubes l) (l .loop .i))
 
 -- what becomes of cube i
-told : (c : tie.After-remake Inv-loop μ-loop) → let l = c .before .before .before in fates l (getD (cubes l) (l .loop .i) []) ≡ fateOf (c .remake .result)
-told c = ap (fates (c .before .before .before)) (sym (c .before .cube-at .ensures)) ∙ sym (c .remake .ensures)
-
-number-requires : tie.Need-number-requires Inv-loop μ-loop
-number-requires c κs = search needs
+told : (c : tie.After-remake Inv-loop μ-loop) → let l = head c in fates l (getD (cubes l) (l .loop .i) []) ≡ fateOf (c .remake .result)
+told c = ap (fates (head c)) (sym (c .before .cube-at .ensures)) ∙ sym (c .remake .ensures)
 
 loop-holds : tie.Need-loop-holds Inv-loop μ-loop
 loop-holds c = (c .number .ensures, omega arith, appends-none _ _, refl)
 
-cube-at-requires : tie.Need-cube-at-requires Inv-loop μ-loop
-cube-at-requires c κs = search needs
-
-remake-requires : tie.Need-remake-requires Inv-loop μ-loop
-remake-requires c κs = search needs
-
-add-i : tie.Need-add-i Inv-loop μ-loop
-add-i c = search needs
-
-enum-known-t : tie.Need-enum-known-t Inv-loop μ-loop
-enum-known-t c = search needs
-
-enum-told : tie.Need-enum-told Inv-loop μ-loop
-enum-told c = search needs
-
-loop-less : tie.Need-loop-less Inv-loop μ-loop
-loop-less c = search needs
-
 loop-again : tie.Need-loop-again Inv-loop μ-loop
 loop-again c =
     let r = c .before .before in
-    let l = r .before .before .before in (
+    let l = head r in (
       l .loop .inv .0,
       omega arith,
       appends-as
@@ -76,23 +71,17 @@ loop-again c =
       l .loop .inv .3,
     )
 
-put-cube-requires : tie.Need-put-cube-requires Inv-loop μ-loop
-put-cube-requires c κs = search needs
-
 add-to : tie.Need-add-to Inv-loop μ-loop
 add-to c =
-    let l = c .before .before .before .before .before .before .before .before .before .before in
+    let l = head (remade (stays (c .before .before))) in
     record { fits = omega (arith, below l, cubes-few (start l .args .out .now)) }
-
-loop-less-2 : tie.Need-loop-less-2 Inv-loop μ-loop
-loop-less-2 c = search needs
 
 loop-again-2 : tie.Need-loop-again-2 Inv-loop μ-loop
 loop-again-2 c =
     let p = c .before .before in
-    let t = p .before .before .before in
-    let r = t .before .before in
-    let l = r .before .before .before in (
+    let t = stays p in
+    let r = remade t in
+    let l = head r in (
       l .loop .inv .0,
       omega arith,
       appends-as (sym (become-one (fates l) (cubes l) (l .loop .i) [] (omega arith) _ (told r ∙ ap fateOf (t .t .given .1))))
@@ -111,21 +100,5 @@ returns c =
 pub write-node-spec : {M : Type 1} → statement M
 write-node-spec =
     tie.close
-    (tie.spec
-    Inv-loop
-    μ-loop
-    number-requires
-    loop-holds
-    cube-at-requires
-    remake-requires
-    add-i
-    enum-known-t
-    enum-told
-    loop-less
-    loop-again
-    put-cube-requires
-    add-to
-    loop-less-2
-    loop-again-2
-    same-length
-    returns)
+    (tie.spec Inv-loop μ-loop (λ c κs. search needs) loop-holds (λ c κs. search needs) (λ c κs. search needs) (λ c. search needs) (λ c. search needs)
+    (λ c. search needs) (λ c. search needs) loop-again (λ c κs. search needs) add-to (λ c. search needs) loop-again-2 same-length returns)
