@@ -1,9 +1,10 @@
 -- `extract_rank::better_of` meets its contract: the weights decide, and on a tie the order of the divisors. Assumes nothing.
-use mathlib.Core.Path.{_≡_, sym, _∙_, ap}
-use mathlib.Core.Bool.{cond}
+use mathlib.Core.Path.{_≡_, sym, _∙_}
 use mir.Syntax.{w32}
 use mir.Val.{toZ, ofZ}
 use mir.Facts.{toZ-ofZ}
+use Rattle.extract_laws.specs.Extract.{sooner}
+use Rattle.extract_divisor.specs.Divisor.{divisorOf}
 use Rattle.extract_rank.specs.Rank.{outweighs, taken}
 use borrow.Author.Needs.{needs}
 use Rattle.extract_rank.proofs.better_of.Statement.{statement}
@@ -20,22 +21,17 @@ read-held : (c : tie.After-is-better) → toZ w32 (ofZ w32 (start c .args .held 
 read-held c = toZ-ofZ {w = w32} {z = start c .args .held .weight} (search needs)
 
 -- what the test decides
-decided : (c : tie.After-is-better) → let s = start c in cond (c .is-better .result) (s .args .s) (s .args .held) ≡ taken (s .args .held) (s .args .s)
-unfolding taken
-decided c =
-    let s = start c .args in
-    ap (λ b. cond b (s .s) (s .held)) (c .is-better .ensures
-    ∙ (λ i. outweighs (read-new c i) (read-held c i) (c .before .before .before .is-sooner .ensures i)))
+tested : (c : tie.After-is-better) → let a = start c .args in
+    outweighs (a .s .weight) (a .held .weight) (sooner (divisorOf (a .s .divisor)) (divisorOf (a .held .divisor))) ≡ c .is-better .result
+tested c = sym (c .is-better .ensures ∙ (λ i. outweighs (read-new c i) (read-held c i) (c .before .before .before .is-sooner .ensures i)))
 
 returns : tie.Need-returns
-returns c =
-    let s = start (c .before) .args in
-    ap (λ b. cond b (s .s) (s .held)) (sym (c .if1 .taken)) ∙ decided (c .before)
+unfolding taken
+returns c = rw (tested (c .before) ∙ c .if1 .taken)
 
 returns-2 : tie.Need-returns-2
-returns-2 c =
-    let s = start (c .before) .args in
-    ap (λ b. cond b (s .s) (s .held)) (sym (c .if1 .left)) ∙ decided (c .before)
+unfolding taken
+returns-2 c = rw (tested (c .before) ∙ c .if1 .left)
 
 pub better-of-spec : {M : Type 1} → statement M
 better-of-spec = tie.close (tie.spec (λ c κs. search needs) (λ c κs. search needs) returns returns-2)
