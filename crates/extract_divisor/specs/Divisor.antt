@@ -7,7 +7,7 @@ use Rattle.sets.specs.Lists.{isSome}
 use Rattle.sets.specs.Sets.{sub, apart, union, without}
 use Rattle.cube.specs.Cube.{lits}
 use Rattle.expression_survey.specs.Search.{findIn}
-use Rattle.extract_laws.specs.Divisor as extraction
+use Rattle.extract_laws.specs.Divisor as divisor
 use Rattle.extract_laws.specs.Divisor.{pair, sum}
 use Rattle.extract_laws.specs.Run.{Weighed}
 use Rattle.extract_divisor.specs.declared.Divisor.{Divisor}
@@ -15,7 +15,7 @@ use Rattle.extract_divisor.specs.declared.Divisor.the-variants.{Pair, Su
 use Rattle.extract_divisor.specs.declared.Step.{Step}
 
 -- the divisor that a value means
-abbrev pub divisorOf : Divisor → extraction.Divisor
+abbrev pub divisorOf : Divisor → divisor.Divisor
 divisorOf (Pair p q) = pair (p .0) (q .0)
 divisorOf (Sum a b) = sum (lits a) (lits b)
 

@@ -14,11 +14,17 @@ use Rattle.extract_divisor.specs.Divisor.{foundUse}
 use Rattle.extract_divisor.proofs.is_use.Statement.{statement}
 use Rattle.extract_divisor.proofs.is_use.Tie as tie
 
+abbrev held : tie.After-is-empty → tie.Else1
+held c = c .before .before .before
+
+abbrev begun : tie.Else1 → tie.Start
+begun c = c .before .before .before
+
 abbrev start : tie.After-is-empty → tie.Start
-start c = c .before .before .before .before .before .before
+start c = begun (held c)
 
 -- the cube contains the first part
-inside : (c : tie.Else1) → sub (lits (c .before .before .before .args .a)) (lits (c .before .before .before .args .c)) ≡ true
+inside : (c : tie.Else1) → sub (lits (begun c .args .a)) (lits (begun c .args .c)) ≡ true
 inside c = sym (c .before .contains .ensures) ∙ not-false _ (c .if1 .left)
 
 -- what the test of the base says
@@ -34,7 +40,7 @@ unfolding foundUse
 searched c =
     let t = c .before .before .before in
     let s = start t .args in
-    rw (inside (t .before .before .before), free t ∙ not-false _ (c .before .before .if2 .left))
+    rw (inside (held t), free t ∙ not-false _ (c .before .before .if2 .left))
     (ap isSome (c .find .ensures)
     ∙ ap (λ z. isSome (findIn z (cubesOf (s .s .now)))) (c .before .union .ensures ∙ ap (λ z. union z (lits (s .b))) (t .before .before .without .ensures)))
 
@@ -44,7 +50,7 @@ returns c = rw (sym (c .before .contains .ensures) ∙ not-true _ (c .if1 .taken
 
 returns-2 : tie.Need-returns-2
 unfolding foundUse
-returns-2 c = rw (inside (c .before .before .before .before), free (c .before) ∙ not-true _ (c .if2 .taken))
+returns-2 c = rw (inside (held (c .before)), free (c .before) ∙ not-true _ (c .if2 .taken))
 
 returns-3 : tie.Need-returns-3
 returns-3 c = ap (λ p. isSome (placeOf p)) (sym (c .enum-told .given .1)) ∙ searched (c .before .before)
