@@ -1,7 +1,7 @@
 -- `extract_tidy::lay_nodes` meets its contract. The loop's invariant: the nodes passed stand in cube order one after the other. Assumes nothing.
 use Prim.Native.Nat.{ℕ, _+_, _-_, _≤_}
 use mathlib.Core.Path.{_≡_, refl, sym, ap, _∙_, subst}
-use mathlib.Core.List.{List, [], map}
+use mathlib.Core.List.{List, map}
 use native.Mathlib.Omega.{arith}
 use borrow.Author.Needs.{needs}
 use lib.ListN.{length, take}
@@ -56,13 +56,7 @@ fits : (c : tie.After-number Inv-loop μ-loop) → head c .loop .at + length (cu
 fits c = let l = head c in node-fits sort fewer (start l .pre .0) (l .loop .inv .1) (omega arith) (c .before .node .ensures .0)
 
 loop-holds : tie.Need-loop-holds Inv-loop μ-loop
-loop-holds c =
-    let s = c .before .before .before .before in (
-      omega arith,
-      subst (λ ws. LaidNodes ws (s .args .sizes .now) 0 []) (sym (s .pre .1 .0)) (subst (λ ws. LaidNodes _ ws 0 []) (sym (s .pre .1 .1)) laid-none),
-      refl,
-      refl,
-    )
+loop-holds c = let s = c .before .before .before .before in (omega arith, rw (s .pre .1 .0, s .pre .1 .1) laid-none, refl, refl)
 
 add-sort-part : tie.Need-add-sort-part Inv-loop μ-loop
 add-sort-part c =
@@ -89,12 +83,6 @@ loop-again c =
       search needs,
     )
 
-same-length : tie.Need-same-length Inv-loop μ-loop
-same-length c = c .before .loop .inv .2
-
-same-length-2 : tie.Need-same-length-2 Inv-loop μ-loop
-same-length-2 c = c .before .loop .inv .3
-
 returns : tie.Need-returns Inv-loop μ-loop
 returns c =
     let l = c .before in
@@ -106,4 +94,5 @@ pub lay-nodes-spec : {M : Type 1} → statement M
 lay-nodes-spec =
     tie.close
     (tie.spec Inv-loop μ-loop loop-holds (λ c κs. search needs) (λ c κs. search needs) (λ c κs. search needs) add-sort-part (λ c κs. search needs)
-    (λ c. search needs) slice-write-sizes add-at (λ c. search needs) (λ c. search needs) loop-again same-length same-length-2 returns)
+    (λ c. search needs) slice-write-sizes add-at (λ c. search needs) (λ c. search needs) loop-again (λ c. c .before .loop .inv .2)
+    (λ c. c .before .loop .inv .3) returns)
