@@ -33,7 +33,6 @@ use Rattle.extract_tidy.proofs.Arranged.{arranged-parts, arranged-sized}
 use Rattle.extract_tidy.proofs.Laid.{limited-room, nodes-few}
 use Rattle.extract_divisor.specs.Divisor.{divisorOf}
 use Rattle.extract_divisor.specs.declared.Divisor.{Divisor}
-use Rattle.extract_fit.specs.Fitness.{fitting}
 use Rattle.extract_step.specs.Replace.{allowed, outcome, Zeros, Stepped}
 use Rattle.extract_step.specs.Parts.{SourceNodes, Ready}
 use Rattle.extract_step.proofs.Becoming.{rewrite-length}
@@ -149,24 +148,6 @@ module _ (n : Network) (shape : Shaped n) (a : arranged n ≡ true) where
   pub room-full : (d : divisor.Divisor) → mostVariables ≤ n .inputs + n .divisors → roomFor (netOf n) d ≡ stuck numbers
   unfolding roomFor
   room-full d h = rw (ap (λ (v : ℕ). ltb v mostVariables) arranged-variables ∙ le-ltb (n .inputs + n .divisors) mostVariables h)
-
-module _ (n : Network) (d : Divisor) where
-  pub unfit-network : arranged n ≡ false → outcome n d ≡ none
-  unfolding outcome
-  unfit-network a = rw a
-
-  module _ (a : arranged n ≡ true) where
-    pub unfit-divisor : fitting (variables (netOf n)) (divisorOf d) ≡ false → outcome n d ≡ none
-    unfolding outcome
-    unfit-divisor p = rw (a, p)
-
-    pub outcome-room : fitting (variables (netOf n)) (divisorOf d) ≡ true → outcome n d ≡ allowed (netOf n) (roomFor (netOf n) (divisorOf d))
-    unfolding outcome
-    outcome-room p = rw (a, p)
-
--- the answer in other words
-pub stepped-as : (n : Network) {e f : Option Move} (r : Next) → e ≡ f → Stepped n f r → Stepped n e r
-stepped-as n r p h = subst (λ o. Stepped n o r) (sym p) h
 
 -- ---- one answer
 

@@ -9,7 +9,7 @@ use Rattle.network.specs.Held.{mostCubes}
 use Rattle.network.specs.Handed.{LaidNodes}
 use Rattle.extract_tidy.proofs.Laid.{laid-places}
 use Rattle.extract_step.proofs.Answering.{after, rewritten, next-number, laid-few, laid-count, laid-literals, step-laid, step-held}
-use Rattle.extract_step.proofs.Answering.{room-rows, room-over, room-literals, room-made, stepped-as}
+use Rattle.extract_step.proofs.Answering.{room-rows, room-over, room-literals, room-made}
 use borrow.Author.Needs.{needs}
 use Rattle.extract_step.proofs.made.Statement.{statement}
 use Rattle.extract_step.proofs.made.Tie as tie
@@ -70,7 +70,7 @@ returns c =
     let o = c .before .before in
     let p = laying o in
     let r = begun p .pre in
-    stepped-as _ _ (room-rows r (omega (arith, laid-count r (laid p), o .own-size .ensures))) (c .refused .ensures)
+    rw (room-rows r (omega (arith, laid-count r (laid p), o .own-size .ensures))) (c .refused .ensures)
 
 put-own-requires : tie.Need-put-own-requires
 put-own-requires c κs =
@@ -84,14 +84,14 @@ returns-2 : tie.Need-returns-2
 returns-2 c =
     let l = c .before .before in
     let w = owned l in
-    stepped-as _ _ (room-over (begun (others w) .pre) (rows w) (counted l) (c .before .if2 .taken)) (c .refused2 .ensures)
+    rw (room-over (begun (others w) .pre) (rows w) (counted l) (c .before .if2 .taken)) (c .refused2 .ensures)
 
 returns-3 : tie.Need-returns-3
 returns-3 c =
     let l = c .before in
     let w = owned l in
     let r = begun (others w) .pre in
-    stepped-as _ _ (room-made r (rows w) (counted l) (c .if2 .left)) (
+    rw (room-made r (rows w) (counted l) (c .if2 .left)) (
       refl,
       record {
         held = step-held r (whole w);

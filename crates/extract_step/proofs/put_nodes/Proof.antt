@@ -1,6 +1,6 @@
 -- `extract_step::put_nodes` meets its contract. The loop's invariant: the nodes passed stand rewritten one after the other. Assumes nothing.
 use Prim.Native.Nat.{ℕ, _+_, _-_, _≤_}
-use mathlib.Core.Path.{_≡_, refl, sym, ap, subst}
+use mathlib.Core.Path.{_≡_, refl, sym, ap}
 use mathlib.Core.Bool.{true}
 use mathlib.Core.List.{List, [], map}
 use native.Mathlib.Omega.{arith}
@@ -72,13 +72,7 @@ node-ordered c =
     (omega (arith, nodes-length (a .counts .now) (a .words .now) (a .e) (source l .room .counted)))) (source l .order))
 
 loop-holds : tie.Need-loop-holds Inv-loop μ-loop
-loop-holds c =
-    let s = c .before .before .before .before in (
-      omega arith,
-      subst (λ ws. LaidNodes ws (s .args .sizes .now) 0 []) (sym (s .pre .1 .0)) (subst (λ ws. LaidNodes _ ws 0 []) (sym (s .pre .1 .1)) laid-none),
-      refl,
-      refl,
-    )
+loop-holds c = let s = c .before .before .before .before in (omega arith, rw (s .pre .1 .0, s .pre .1 .1) laid-none, refl, refl)
 
 put-node-requires : tie.Need-put-node-requires Inv-loop μ-loop
 put-node-requires c κs = let n = c .before in ((node-ordered n, start (head n) .pre .0 .1), fits n)
@@ -100,12 +94,6 @@ loop-again c =
       search needs,
     )
 
-same-length : tie.Need-same-length Inv-loop μ-loop
-same-length c = c .before .loop .inv .2
-
-same-length-2 : tie.Need-same-length-2 Inv-loop μ-loop
-same-length-2 c = c .before .loop .inv .3
-
 returns : tie.Need-returns Inv-loop μ-loop
 returns c = let l = c .before in nodes-laid (changed l) (fewer l) (source l .room) {i = l .loop .i} (l .loop .inv .1) (omega arith)
 
@@ -113,4 +101,4 @@ pub put-nodes-spec : {M : Type 1} → statement M
 put-nodes-spec =
     tie.close
     (tie.spec Inv-loop μ-loop loop-holds (λ c κs. search needs) put-node-requires (λ c. search needs) (λ c. search needs) slice-write-sizes (λ c. search needs)
-    (λ c. search needs) loop-again same-length same-length-2 returns)
+    (λ c. search needs) loop-again (λ c. c .before .loop .inv .2) (λ c. c .before .loop .inv .3) returns)

@@ -9,14 +9,13 @@ use Rattle.cube.specs.Cube.{width}
 use Rattle.network.specs.Held.{netOf, mostVariables}
 use Rattle.network.specs.Handed.{Shaped}
 use Rattle.network.proofs.Handing.{shape-of}
-use Rattle.extract_laws.specs.Run.{roomFor}
 use Rattle.extract_tidy.specs.Tidy.{arranged}
 use Rattle.extract_tidy.proofs.Arranged.{arranged-sized}
 use Rattle.extract_divisor.specs.Divisor.{divisorOf}
 use Rattle.extract_fit.specs.Fitness.{fitting}
-use Rattle.extract_step.specs.Replace.{allowed, outcome}
+use Rattle.extract_step.specs.Replace.{outcome}
 use Rattle.extract_fit.proofs.Fitting.{fitting-more}
-use Rattle.extract_step.proofs.Answering.{arranged-source, arranged-variables, room-full, unfit-network, unfit-divisor, outcome-room, stepped-as}
+use Rattle.extract_step.proofs.Answering.{arranged-source, arranged-variables, room-full}
 use borrow.Author.Needs.{needs}
 use Rattle.extract_step.proofs.step.Statement.{statement}
 use Rattle.extract_step.proofs.step.Tie as tie
@@ -48,29 +47,27 @@ tested c =
     ap (λ (v : ℕ). fitting v (divisorOf (s .args .d))) (arranged-variables (s .args .n) (shape s) (tidy e)) ∙ sym (c .is-fit .ensures)
 
 returns : tie.Need-returns
-returns c =
-    let a = c .before .before in
-    stepped-as _ _ (unfit-network _ _ (sym (a .is-arranged .ensures) ∙ not-true _ (c .before .if1 .taken))) (c .refused .ensures)
+unfolding outcome
+returns c = rw (sym (c .before .before .is-arranged .ensures) ∙ not-true _ (c .before .if1 .taken)) (c .refused .ensures)
 
 add-v : tie.Need-add-v
 add-v c = record { fits = omega (arith, few (c .before)) }
 
 returns-2 : tie.Need-returns-2
-returns-2 c =
-    let p = c .before .before in
-    stepped-as _ _ (unfit-divisor _ _ (tidy (p .before .before)) (tested p ∙ not-true _ (c .before .if2 .taken))) (c .refused2 .ensures)
+unfolding outcome
+returns-2 c = let p = c .before .before in rw (tidy (p .before .before), tested p ∙ not-true _ (c .before .if2 .taken)) (c .refused2 .ensures)
 
--- the room decides
-fits : (c : tie.Else2) → let s = start (tidied c) in
-    outcome (s .args .n) (s .args .d) ≡ allowed (netOf (s .args .n)) (roomFor (netOf (s .args .n)) (divisorOf (s .args .d)))
-fits c = outcome-room _ _ (tidy (tidied c)) (tested (c .before) ∙ not-false _ (c .if2 .left))
+-- the divisor is fit
+fits : (c : tie.Else2) → let a = start (tidied c) .args in fitting (variables (netOf (a .n))) (divisorOf (a .d)) ≡ true
+fits c = tested (c .before) ∙ not-false _ (c .if2 .left)
 
 returns-3 : tie.Need-returns-3
+unfolding outcome
 returns-3 c =
     let e = c .before .before in
     let t = tidied e in
     let s = start t in
-    stepped-as _ _ (fits e ∙ ap (allowed (netOf (s .args .n))) (room-full (s .args .n) (shape s) (tidy t) _ (c .before .if3 .taken))) (c .refused3 .ensures)
+    rw (tidy t, fits e, room-full (s .args .n) (shape s) (tidy t) (divisorOf (s .args .d)) (c .before .if3 .taken)) (c .refused3 .ensures)
 
 made-requires : tie.Need-made-requires
 made-requires c κs =
@@ -85,7 +82,8 @@ made-requires c κs =
     }
 
 returns-4 : tie.Need-returns-4
-returns-4 c = stepped-as _ _ (fits (room (c .before) .before)) (c .made .ensures)
+unfolding outcome
+returns-4 c = let e = room (c .before) .before in rw (tidy (tidied e), fits e) (c .made .ensures)
 
 pub step-spec : {M : Type 1} → statement M
 step-spec =

@@ -38,8 +38,8 @@ head r = r .before .before .before
 abbrev stays : tie.After-put-cube Inv-loop μ-loop → tie.After-t Inv-loop μ-loop
 stays p = p .before .before .before
 
-abbrev remade : tie.After-t Inv-loop μ-loop → tie.After-remake Inv-loop μ-loop
-remade t = t .before .before
+abbrev answered : tie.After-t Inv-loop μ-loop → tie.After-remake Inv-loop μ-loop
+answered t = t .before .before
 
 -- ---- what holds there
 
@@ -73,14 +73,14 @@ loop-again c =
 
 add-to : tie.Need-add-to Inv-loop μ-loop
 add-to c =
-    let l = head (remade (stays (c .before .before))) in
+    let l = head (answered (stays (c .before .before))) in
     record { fits = omega (arith, below l, cubes-few (start l .args .out .now)) }
 
 loop-again-2 : tie.Need-loop-again-2 Inv-loop μ-loop
 loop-again-2 c =
     let p = c .before .before in
     let t = stays p in
-    let r = remade t in
+    let r = answered t in
     let l = head r in (
       l .loop .inv .0,
       omega arith,
@@ -88,9 +88,6 @@ loop-again-2 c =
           (appends-put (l .loop .inv .2) (omega (arith, below l)) (p .put-cube .ensures)),
       p .put-cube .kept .0 ∙ l .loop .inv .3,
     )
-
-same-length : tie.Need-same-length Inv-loop μ-loop
-same-length c = c .before .loop .inv .3
 
 returns : tie.Need-returns Inv-loop μ-loop
 returns c =
@@ -101,4 +98,4 @@ pub write-node-spec : {M : Type 1} → statement M
 write-node-spec =
     tie.close
     (tie.spec Inv-loop μ-loop (λ c κs. search needs) loop-holds (λ c κs. search needs) (λ c κs. search needs) (λ c. search needs) (λ c. search needs)
-    (λ c. search needs) (λ c. search needs) loop-again (λ c κs. search needs) add-to (λ c. search needs) loop-again-2 same-length returns)
+    (λ c. search needs) (λ c. search needs) loop-again (λ c κs. search needs) add-to (λ c. search needs) loop-again-2 (λ c. c .before .loop .inv .3) returns)
