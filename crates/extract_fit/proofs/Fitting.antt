@@ -2,7 +2,7 @@
 use Prim.Native.Nat.{ℕ, _/_, _<_, _≤_}
 use mathlib.Core.Path.{_≡_, refl, sym, subst}
 use mathlib.Core.Logic.{_↔_}
-use mathlib.Core.Bool.{Bool, true, false, cond, _&&_}
+use mathlib.Core.Bool.{true, false, _&&_}
 use mathlib.Core.List.{List, [], _∷_, List·Memᴰ·head as here, List·Memᴰ·tail as there, List·Memᴰ·eq-of-singleton}
 use native.Mathlib.Omega.{arith}
 use lib.Dec.{ltb}
@@ -13,9 +13,6 @@ use Rattle.sets.specs.Sets.{mem, apart, asc, proper, readsBelow, before}
 use Rattle.sets.proofs.Truth.{both, iff, clash, refuted}
 use Rattle.sets.proofs.Lists.{_∈_, all-in}
 use Rattle.sets.proofs.Sets.{mem-of, proper-out}
-use Rattle.cube.specs.Cube.{orderOf}
-use Rattle.cube.specs.declared.Order.{Order}
-use Rattle.cube.specs.declared.Order.the-variants.{Before, Same, After}
 use Rattle.expression.specs.Expression.{expression}
 use Rattle.expression.proofs.Absorbing.{loose-in}
 use Rattle.network.specs.Net.{Net, variables}
@@ -119,21 +116,6 @@ part-out v a h =
 
 -- ---- sums
 
--- the answer that says so
-abbrev pub isFirst : Order → Bool
-isFirst Before = true
-isFirst Same = false
-isFirst After = false
-
-pub first-before : (a b : List ℕ) → isFirst (orderOf a b) ≡ before a b
-unfolding orderOf
-first-before a b = go (before a b) (before b a)
-  where
-    go : (p q : Bool) → isFirst (cond p Before (cond q After Same)) ≡ p
-    go true q = refl
-    go false true = refl
-    go false false = refl
-
 -- what is left to test of two parts that are cubes
 pub sum-fits : (v : ℕ) (a b : List ℕ) → asc a ≡ true → asc b ≡ true → fitting v (sum a b) ≡ (fitPart v a && (fitPart v b && (apart a b && before a b)))
 unfolding fitting
@@ -162,16 +144,5 @@ sum-fits v a b sa sb = iff into back
         let r = both (apart a b) (before a b) (q .1) in
         let c = part-out v a (p .0) in
         let d = part-out v b (q .0) in
-        rw (
-          sa,
-          sb,
-          r .0,
-          c .0,
-          d .0,
-          r .1,
-          c .1,
-          d .1,
-          loose-in a b (small-sub a b (c .0) (r .0)) (small-sub b a (d .0) (apart-flip a b (r .0))),
-          c .2,
-          d .2,
-        )
+        let e = loose-in a b (small-sub a b (c .0) (r .0)) (small-sub b a (d .0) (apart-flip a b (r .0))) in
+        rw (sa, sb, r .0, c .0, d .0, r .1, c .1, d .1, e, c .2, d .2)

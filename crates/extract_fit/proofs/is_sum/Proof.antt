@@ -1,16 +1,18 @@
 -- `extract_fit::is_sum` meets its contract: each part is tested, then what they share and which comes first. Assumes nothing.
-use mathlib.Core.Path.{_≡_, sym, ap, _∙_}
+use mathlib.Core.Path.{_≡_, refl, sym, ap, _∙_}
 use mathlib.Core.Bool.{true, _&&_}
 use borrow.Author.Tests.{not-true, not-false}
 use Rattle.sets.specs.Lists.{isNil}
 use Rattle.sets.specs.Sets.{apart, before}
 use Rattle.sets.proofs.Sets.{meet-none}
+use Rattle.sets.proofs.Ordering.{before-irrefl, before-asym}
 use Rattle.cube.specs.Cube.{lits}
 use Rattle.cube.proofs.Lits.{lits-asc}
+use Rattle.cube.proofs.Verdict.{Told, told-of}
 use Rattle.extract_laws.specs.Divisor.{sum}
 use Rattle.extract_fit.specs.Fitness.{fitting}
 use Rattle.extract_fit.specs.Parts.{fitPart}
-use Rattle.extract_fit.proofs.Fitting.{isFirst, first-before, sum-fits}
+use Rattle.extract_fit.proofs.Fitting.{sum-fits}
 use borrow.Author.Needs.{needs}
 use Rattle.extract_fit.proofs.is_sum.Statement.{statement}
 use Rattle.extract_fit.proofs.is_sum.Tie as tie
@@ -42,12 +44,16 @@ second c = sym (c .before .is-part2 .ensures) ∙ not-false _ (c .if2 .left)
 shared : (c : tie.After-is-empty) → apart (lits (start c .args .a)) (lits (start c .args .b)) ≡ c .is-empty .result
 shared c = sym (c .is-empty .ensures ∙ ap isNil (c .before .common .ensures) ∙ meet-none _ _)
 
-last : (c : tie.After-compare) → let a = start (c .before .before) .args in isFirst (c .compare .result) ≡ fitting (a .v) (sum (lits (a .a)) (lits (a .b)))
+says : (c : tie.After-compare) → let a = start (c .before .before) .args in Told (lits (a .a)) (lits (a .b)) (c .compare .result)
+says c = told-of _ _ _ _ _ (c .compare .ensures) refl refl
+
+-- the order decides
+last : (c : tie.After-compare) → let a = start (c .before .before) .args in
+    before (lits (a .a)) (lits (a .b)) ≡ fitting (a .v) (sum (lits (a .a)) (lits (a .b)))
 last c =
     let m = c .before .before in
     let t = m .before .before in
-    ap isFirst (c .compare .ensures) ∙ first-before _ _ ∙ sym
-    (tests (start m) ∙ rw (first (t .before .before), second t, shared m ∙ not-false _ (c .before .if3 .left)))
+    sym (tests (start m) ∙ rw (first (t .before .before), second t, shared m ∙ not-false _ (c .before .if3 .left)))
 
 returns : tie.Need-returns
 returns c = sym (tests (c .before .before) ∙ rw (sym (c .before .is-part .ensures) ∙ not-true _ (c .if1 .taken)))
@@ -61,13 +67,13 @@ returns-3 c =
     sym (tests (start (c .before)) ∙ rw (first (t .before .before), second t, shared (c .before) ∙ not-true _ (c .if3 .taken)))
 
 returns-4 : tie.Need-returns-4
-returns-4 c = ap isFirst (sym (c .enum-told .given .1)) ∙ last (c .before .before)
+returns-4 c = let k = c .before .before in sym (says k .first (c .enum-told .given .1)) ∙ last k
 
 returns-5 : tie.Need-returns-5
-returns-5 c = ap isFirst (sym (c .enum-told2 .given .1)) ∙ last (c .before .before)
+returns-5 c = let k = c .before .before in sym (ap (before _) (sym (says k .alike (c .enum-told2 .given .1))) ∙ before-irrefl _) ∙ last k
 
 returns-6 : tie.Need-returns-6
-returns-6 c = ap isFirst (sym (c .enum-told3 .given .1)) ∙ last (c .before .before)
+returns-6 c = let k = c .before .before in sym (before-asym _ _ (says k .last (c .enum-told3 .given .1))) ∙ last k
 
 pub is-sum-spec : {M : Type 1} → statement M
 is-sum-spec =
