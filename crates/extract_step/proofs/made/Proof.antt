@@ -93,11 +93,7 @@ returns-3 c =
     let r = begun (others w) .pre in
     rw (room-made r (rows w) (counted l) (c .if2 .left)) (
       refl,
-      record {
-        held = step-held r (whole w);
-        number = omega (arith, next-number r, r .number);
-        literals = room-literals r (rows w) (counted l) (c .if2 .left);
-      },
+      record { held = step-held r (whole w); number = omega (arith, next-number r, r .number); literals = room-literals r (rows w) (counted l) (c .if2 .left) },
     )
 
 pub made-spec : {M : Type 1} → statement M
