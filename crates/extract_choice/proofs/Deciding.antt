@@ -1,5 +1,5 @@
 -- The choice in the paper's words: the best divisor, where its weight is above 0; and that it leaves one step. Assumes nothing.
-use Prim.Native.Nat.{ℕ, _+_, _^_, _<_, _≤_}
+use Prim.Native.Nat.{ℕ, _+_, _≤_}
 use mathlib.Core.Path.{_≡_, refl, sym, ap, ap₂, _∙_, subst}
 use mathlib.Core.Logic.{_↔_, inl, inr}
 use mathlib.Core.Bool.{true, false}
@@ -7,21 +7,24 @@ use mathlib.Core.List.{List, [], _++_, List·Memᴰ·not-nil}
 use mathlib.Core.Option.{Option, none, some, Option·none-ne-some}
 use native.Mathlib.Omega.{arith}
 use lib.IntN.{pos}
+use lib.ListN.{length, take}
+use lib.Seq.{length-take-le}
 use lib.Signed.{ltZ}
-use Rattle.sets.specs.Lists.{all, from}
+use Rattle.sets.specs.Sets.{asc}
 use Rattle.sets.proofs.Truth.{decided}
 use Rattle.sets.proofs.Orders.{not-after}
-use Rattle.sets.proofs.Literals.{plain-injective, negated-injective}
-use Rattle.cube.specs.Cube.{lits}
-use Rattle.cube.specs.declared.Cube.{Cube}
-use Rattle.sets.proofs.Lists.{_∈_}
-use Rattle.expression.specs.Expression.{ordered}
-use Rattle.network.specs.Net.{Net}
-use Rattle.network.specs.Held.{netOf}
+use Rattle.sets.proofs.Lists.{_∈_, all-out}
+use Rattle.sets.proofs.Sets.{mem-of}
+use Rattle.cube.proofs.Lits.{fitCube, cube-one}
+use Rattle.expression.specs.Words.{cubesOf}
+use Rattle.expression.proofs.Words.{cubes-asc, cubes-inside}
+use Rattle.network_nodes.specs.Nodes.{cut, countBefore}
+use Rattle.network.specs.Net.{Net, nodes}
+use Rattle.network.specs.Held.{netOf, used}
 use Rattle.network.specs.Handed.{flat, nodeSlots, Shaped}
 use Rattle.network.specs.Parts.{nodesOf}
 use Rattle.network.specs.declared.Network.{Network}
-use Rattle.network.proofs.Holding.{nodes-held}
+use Rattle.network.proofs.Holding.{nodes-held, cut-used}
 use Rattle.extract_laws.specs.Divisor as extraction
 use Rattle.extract_laws.specs.Extract.{weight, gather, pairsIn, sumsIn, candidates, best}
 use Rattle.extract_laws.specs.Run.{Weighed, weighing}
@@ -34,39 +37,42 @@ use Rattle.extract_divisor.specs.declared.Divisor.{Divisor}
 use Rattle.extract_divisor.specs.declared.Divisor.the-variants.{Pair, Sum}
 use Rattle.extract_divisor.specs.declared.Step.{Step}
 use Rattle.extract_choice.specs.Choice.{worthIn, chosenIn, Chosen}
-use Rattle.extract_choice.specs.Parts.{Wins, Adds, Nodes, Cubes, Orderly}
+use Rattle.extract_choice.specs.Parts.{Wins, Adds, Nodes, Cubes, Orderly, literalsFrom}
 use Rattle.extract_choice.specs.Parts.Wins.{nothing, first}
-use Rattle.extract_choice.proofs.Counting.{all-held}
-use Rattle.extract_choice.proofs.Pairs.{spans, spans-literals, leads-candidates}
+use Rattle.extract_choice.proofs.Counting.{words-flat}
+use Rattle.extract_choice.proofs.Pairs.{leads-candidates}
 
 -- ---- networks in cube order
 
-module _ (n : Network) (h : arranged n ≡ true) (shape : Shaped n) where
-  pub arranged-few : n .outputs + n .divisors ≤ nodeSlots
-  arranged-few = let s = arranged-sized n h shape in omega (arith, s .narrow, s .variables)
+pub arranged-few : (n : Network) → arranged n ≡ true → Shaped n → n .outputs + n .divisors ≤ nodeSlots
+arranged-few n h shape = let s = arranged-sized n h shape in omega (arith, s .narrow, s .variables)
 
-  pub arranged-orderly : Orderly (n .words) (n .counts) (n .outputs + n .divisors)
-  arranged-orderly =
+-- the words of the cubes in use
+module _ (n : Network) (words : List ℕ) (front : cubesOf words ≡ take (countBefore (n .outputs + n .divisors) (n .counts)) (cubesOf (n .words))) where
+  pub front-nodes : nodes (netOf n) ≡ nodesOf (n .outputs + n .divisors) (n .counts) words
+  front-nodes = nodes-held n ∙ sym (ap (cut (used n)) front ∙ cut-used (used n) (cubesOf (n .words)))
+
+  pub front-orderly : arranged n ≡ true → Shaped n → Orderly words (n .counts) (n .outputs + n .divisors)
+  front-orderly h shape =
       let s = arranged-sized n h shape in
-      record {
-        counted = s .counted;
-        enough = omega (arith, s .cubes, shape .places);
-        few = omega (arith, shape .places);
-        sorted = ap (all ordered) (sym (nodes-held n)) ∙ arranged-parts n h .1;
-      }
+      let q : length (cubesOf words) ≡ countBefore (n .outputs + n .divisors) (n .counts) =
+      ap length front ∙ length-take-le _ _ (omega (arith, s .cubes, shape .places)) in
+      record { slots = s .counted; whole = q; few = omega (arith, s .cubes); sorted = rw (← front-nodes) (arranged-parts n h .1) }
 
 -- ---- the choice
 
--- pairs judged among the cubes in use, and then sums among the nodes: all candidates
-pub all-judged : (words counts : List ℕ) (e : ℕ) (f : List (List ℕ)) (s r t : Step) → s ≡ noStep → f ≡ flat (nodesOf e counts words)
-    → Adds (Cubes f) [] (pairsIn (from 0 128)) s r → Adds (Nodes (nodesOf e counts words)) [] (gather sumsIn (nodesOf e counts words)) r t
+-- pairs judged among the cubes, and then sums among the nodes: all candidates
+pub all-judged : (words counts : List ℕ) (e : ℕ) → Orderly words counts e → (s r t : Step) → s ≡ noStep
+    → Adds (Cubes (cubesOf words)) [] (pairsIn (literalsFrom 0)) s r
+    → Adds (Nodes (nodesOf e counts words)) [] (gather sumsIn (nodesOf e counts words)) r t
     → (n : Net) → Nodes (nodesOf e counts words) n → Wins n (candidates n) t
-all-judged words counts e f s r t z q g h n c =
-    let none : (d : extraction.Divisor) → d ∈ [] → ⊥ = λ d m. List·Memᴰ·not-nil m in
-    let pairs = g .leads n (ap flat c ∙ sym q) [] (λ d m. m) (nothing z (λ d m. absurd (none d m))) in
-    let sums = h .leads n c (pairsIn (from 0 128) ++ []) (λ d m. absurd (none d m)) pairs in
-    leads-candidates n (ap (all (all spans)) c ∙ all-held spans spans-literals e counts words) t
-    (subst (λ fs. Wins n (gather sumsIn fs ++ (pairsIn (from 0 128) ++ [])) t) (sym c) sums)
+all-judged words counts e o s r t z g h n c =
+    let own = words-flat words counts e o in
+    let pairs = g .leads n (ap flat c ∙ sym own) [] (λ d m. m) (nothing z (λ d m. absurd (List·Memᴰ·not-nil m))) in
+    let sums = h .leads n c (pairsIn (literalsFrom 0) ++ []) (λ d m. absurd (List·Memᴰ·not-nil m)) pairs in
+    leads-candidates n (λ d m.
+    let k = subst (d ∈_) (ap flat c ∙ sym own) m in
+    (all-out asc k (cubes-asc words), λ p i. cubes-inside words k p (mem-of i))) t (rw c sums)
 
 module _ (n : Net) where
   -- worth a step: the best divisor, with a weight above 0
@@ -138,19 +144,16 @@ module _ (n : Network) where
 
 -- ---- one answer
 
--- the masks are of 64 bits
+-- the cubes are as the language holds them
 abbrev pub Masked : Divisor → Type 0
 Masked (Pair p q) = Unit {0}
-Masked (Sum a b) = (a .plain < 2 ^ 64) × (a .negated < 2 ^ 64) × (b .plain < 2 ^ 64) × (b .negated < 2 ^ 64)
-
-cube-one : (a b : Cube) → a .plain < 2 ^ 64 → a .negated < 2 ^ 64 → b .plain < 2 ^ 64 → b .negated < 2 ^ 64 → lits a ≡ lits b → a ≡ b
-cube-one a b h k p q e = λ i. record { plain = plain-injective 64 _ _ _ _ h p e i; negated = negated-injective 64 _ _ _ _ k q e i }
+Masked (Sum a b) = (fitCube a ≡ true) × (fitCube b ≡ true)
 
 divisor-one : (d e : Divisor) → Masked d → Masked e → divisorOf d ≡ divisorOf e → d ≡ e
 divisor-one (Pair p q) (Pair r s) h k e = let x : p .0 ≡ r .0 = cc in let y : q .0 ≡ s .0 = cc in λ i. Pair (record { 0 = x i }) (record { 0 = y i })
 divisor-one (Pair p q) (Sum a b) h k e = absurd (let z : _≡_ {A = ℕ} 0 1 = cc in omega arith)
 divisor-one (Sum a b) (Pair p q) h k e = absurd (let z : _≡_ {A = ℕ} 0 1 = cc in omega arith)
-divisor-one (Sum a b) (Sum c d) (h, i, j, l) (p, q, r, s) e = ap₂ Sum (cube-one a c h i p q (cc)) (cube-one b d j l r s (cc))
+divisor-one (Sum a b) (Sum c d) (h, i) (j, k) e = ap₂ Sum (cube-one a c h j (cc)) (cube-one b d i k (cc))
 
 -- two steps that the contract allows are the same
 pub chosen-one : (o : Option Weighed) (s t : Step) → Masked (s .divisor) → Masked (t .divisor) → Chosen o s → Chosen o t → s ≡ t

@@ -1,6 +1,6 @@
 -- What the tests of weights and of parts answer, step by step. Assumes nothing.
 use Prim.Native.Nat.{ℕ, zero, suc, _+_, _-_, _<_, _≤_}
-use mathlib.Core.Path.{_≡_, ap}
+use mathlib.Core.Path.{_≡_}
 use mathlib.Core.Logic.{inl, inr}
 use mathlib.Core.Bool.{false}
 use mathlib.Core.List.{List}
@@ -34,4 +34,4 @@ module _ (a : List ℕ) (n : ℕ) (e : n ≡ length a) where
 
   pub small-some : 1 ≤ n → ltb n 3 ≡ small a
   unfolding small
-  small-some h = rw (lt-ltb 0 (length a) (omega arith)) (ap (λ x. ltb x 3) e)
+  small-some h = rw (lt-ltb 0 (length a) (omega arith), ← e)

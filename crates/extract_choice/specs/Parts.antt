@@ -1,15 +1,17 @@
 -- Words for the contracts of the private functions: divisors judged one after the other, and what words and counts hold.
-use Prim.Native.Nat.{ℕ, _≤_}
+use Prim.Native.Nat.{ℕ, _*_, _-_, _≤_}
 use mathlib.Core.Path.{_≡_}
 use mathlib.Core.Bool.{true, false}
 use mathlib.Core.List.{List, [], _∷_, _++_, List·Memᴰ}
-use lib.ListN.{length, take}
+use lib.ListN.{length}
 use lib.IntN.{pos, _-ℤ_}
 use lib.Signed.{ltZ}
-use Rattle.sets.specs.Lists.{all, keep, total}
+use Rattle.sets.specs.Lists.{all, keep, from, total}
 use Rattle.sets.specs.Sets.{sub}
+use Rattle.cube.specs.Cube.{width}
 use Rattle.expression.specs.Words.{cubesOf}
 use Rattle.expression.specs.Expression.{ordered, literalsOf}
+use Rattle.network_nodes.specs.Nodes.{countBefore}
 use Rattle.network.specs.Net.{Net, nodes}
 use Rattle.network.specs.Held.{mostCubes}
 use Rattle.network.specs.Handed.{flat}
@@ -41,6 +43,10 @@ pub record Adds (p : Net → Type 0) (known new : List extraction.Divisor) (s r 
 
 -- ---- what words and counts hold
 
+-- the literals from k on
+abbrev pub literalsFrom : ℕ → List ℕ
+literalsFrom k = from k (2 * width - k)
+
 -- the network has these nodes
 abbrev pub Nodes : List (List (List ℕ)) → Net → Type 0
 Nodes fs n = nodes n ≡ fs
@@ -51,20 +57,20 @@ Cubes f n = flat (nodes n) ≡ f
 
 -- there are e counts, as many cubes as they say, no more than a network may have, and each node is in cube order
 pub record Orderly (words counts : List ℕ) (e : ℕ) : Type 0 where
-  pub counted : e ≤ length counts
-  pub enough : total (λ c. c) (take e counts) ≤ length (cubesOf words)
+  pub slots : e ≤ length counts
+  pub whole : length (cubesOf words) ≡ countBefore e counts
   pub few : length (cubesOf words) ≤ mostCubes
   pub sorted : all ordered (nodesOf e counts words) ≡ true
 
--- each cube is one of these nodes'
-abbrev pub Inside : List (List (List ℕ)) → List (List ℕ) → Type 0
-Inside fs f = (c : List ℕ) → List·Memᴰ c f → List·Memᴰ c (flat fs)
+-- each cube of f is one of g
+abbrev pub Inside : List (List ℕ) → List (List ℕ) → Type 0
+Inside g f = (c : List ℕ) → List·Memᴰ c f → List·Memᴰ c g
 
--- of the cubes of these nodes c alone contains c
-abbrev pub Alone : List (List (List ℕ)) → List ℕ → Type 0
-Alone fs c = keep (sub c) (flat fs) ≡ c ∷ []
+-- of these cubes c alone contains c
+abbrev pub Alone : List (List ℕ) → List ℕ → Type 0
+Alone g c = keep (sub c) g ≡ c ∷ []
 
 -- the uses of a sum in these nodes, and the literals in its bases
-pub record Counts (a b : List ℕ) (fs : List (List (List ℕ))) (u l : ℕ) : Type 0 where
+pub record Tallied (a b : List ℕ) (fs : List (List (List ℕ))) (u l : ℕ) : Type 0 where
   pub uses : u ≡ total (uses (sum a b)) fs
   pub literals : l ≡ total (λ f. literalsOf (bases (sum a b) f)) fs

@@ -8,11 +8,11 @@ use network::Network;
 ghost use mathlib.Core.Path.{_≡_};
 ghost use mathlib.Core.Bool.{true};
 ghost use mathlib.Core.List.{[], _∷_, map};
-ghost use Prim.Native.Nat.{_+_, _-_, _<_, _≤_};
-ghost use lib.ListN.{length, take};
-ghost use Rattle.sets.specs.Lists.{any, keep, from, total};
+ghost use Prim.Native.Nat.{_+_, _*_, _<_, _≤_};
+ghost use lib.ListN.{length};
+ghost use Rattle.sets.specs.Lists.{any, keep};
 ghost use Rattle.sets.specs.Sets.{sub, before};
-ghost use Rattle.cube.specs.Cube.{lits};
+ghost use Rattle.cube.specs.Cube.{width, lits};
 ghost use Rattle.expression.specs.Words.{cubesOf};
 ghost use Rattle.expression.specs.Expression.{ordered};
 ghost use Rattle.network.specs.Net.{Net};
@@ -22,10 +22,10 @@ ghost use Rattle.extract_laws.specs.Divisor.{pair, sum, small, useOf};
 ghost use Rattle.extract_laws.specs.Extract.{gather, pairsIn, sumOf, sumsIn, candidates};
 ghost use Rattle.extract_laws.specs.Meaning.{Parts};
 ghost use Rattle.extract_choice.specs.Choice.{Chosen, chosenIn};
-ghost use Rattle.extract_choice.specs.Parts.{stepOf, Wins, Adds, Nodes, Cubes, Orderly, Inside, Alone, Counts};
+ghost use Rattle.extract_choice.specs.Parts.{stepOf, Wins, Adds, Nodes, Cubes, Orderly, Inside, Alone, Tallied, literalsFrom};
 
 // The uses of a sum, and the literals in their bases.
-struct Counted {
+struct Tally {
     uses: u32,
     literals: u32,
 }
@@ -62,7 +62,7 @@ fn holders(s: &[u64], k: Cube) -> u32
 
 // A pair is judged: its uses are the cubes, of any node, that contain both literals.
 fn judge_pair(s: &[u64], p: u32, q: u32, held: Step) -> Step
-    requires { ⌜ (length (cubesOf (now s)) ≤ mostCubes) × (p < q) × (q < 128) ⌝ }
+    requires { ⌜ (length (cubesOf (now s)) ≤ mostCubes) × (p < q) × (q < 2 * width) ⌝ }
     ensures { λ r. ⌜ Adds (Cubes (cubesOf (now (s .entry)))) [] (pair p q ∷ []) held r ⌝ }
 {
     let k = cube::with(cube::with(cube::empty(), Literal(p)), Literal(q));
@@ -73,8 +73,8 @@ fn judge_pair(s: &[u64], p: u32, q: u32, held: Step) -> Step
 
 // The pairs of p and a greater literal. A literal of two cubes or fewer has none of a weight above 0.
 fn judge_pairs_of(s: &[u64], p: u32, mut held: Step) -> Step
-    requires { ⌜ (length (cubesOf (now s)) ≤ mostCubes) × (p < 128) ⌝ }
-    ensures { λ r. ⌜ Adds (Cubes (cubesOf (now (s .entry)))) [] (map (pair p) (from (p + 1) (127 - p))) held r ⌝ }
+    requires { ⌜ (length (cubesOf (now s)) ≤ mostCubes) × (p < 2 * width) ⌝ }
+    ensures { λ r. ⌜ Adds (Cubes (cubesOf (now (s .entry)))) [] (map (pair p) (literalsFrom (p + 1))) held r ⌝ }
 {
     if holders(s, cube::with(cube::empty(), Literal(p))) <= 2 {
         return held;
@@ -90,7 +90,7 @@ fn judge_pairs_of(s: &[u64], p: u32, mut held: Step) -> Step
 // All pairs of literals.
 fn judge_pairs(s: &[u64], mut held: Step) -> Step
     requires { ⌜ length (cubesOf (now s)) ≤ mostCubes ⌝ }
-    ensures { λ r. ⌜ Adds (Cubes (cubesOf (now (s .entry)))) [] (pairsIn (from 0 128)) held r ⌝ }
+    ensures { λ r. ⌜ Adds (Cubes (cubesOf (now (s .entry)))) [] (pairsIn (literalsFrom 0)) held r ⌝ }
 {
     let mut p = cube::LITERALS;
     while p > 0 {
@@ -103,9 +103,9 @@ fn judge_pairs(s: &[u64], mut held: Step) -> Step
 // ---- sums
 
 // The uses of a sum in one node.
-fn count_in(s: &[u64], a: Cube, b: Cube) -> Counted
+fn count_in(s: &[u64], a: Cube, b: Cube) -> Tally
     requires { ⌜ (length (cubesOf (now s)) ≤ mostCubes) × (ordered (cubesOf (now s)) ≡ true) ⌝ }
-    ensures { λ r. ⌜ Counts (lits a) (lits b) (cubesOf (now (s .entry)) ∷ []) (r .uses) (r .literals) ⌝ }
+    ensures { λ r. ⌜ Tallied (lits a) (lits b) (cubesOf (now (s .entry)) ∷ []) (r .uses) (r .literals) ⌝ }
 {
     let mut uses: u32 = 0;
     let mut literals: u32 = 0;
@@ -118,13 +118,13 @@ fn count_in(s: &[u64], a: Cube, b: Cube) -> Counted
         }
         i += 1;
     }
-    Counted { uses, literals }
+    Tally { uses, literals }
 }
 
 // The uses of a sum in all nodes, the same base in two nodes twice.
-fn count_all(words: &[u64], counts: &[usize], e: usize, a: Cube, b: Cube) -> Counted
+fn count_all(words: &[u64], counts: &[usize], e: usize, a: Cube, b: Cube) -> Tally
     requires { ⌜ Orderly (now words) (now counts) e ⌝ }
-    ensures { λ r. ⌜ Counts (lits a) (lits b) (nodesOf e (now (counts .entry)) (now (words .entry))) (r .uses) (r .literals) ⌝ }
+    ensures { λ r. ⌜ Tallied (lits a) (lits b) (nodesOf e (now (counts .entry)) (now (words .entry))) (r .uses) (r .literals) ⌝ }
 {
     let mut uses: u32 = 0;
     let mut literals: u32 = 0;
@@ -138,7 +138,7 @@ fn count_all(words: &[u64], counts: &[usize], e: usize, a: Cube, b: Cube) -> Cou
         at = next;
         i += 1;
     }
-    Counted { uses, literals }
+    Tally { uses, literals }
 }
 
 // Whether the cubes have a use of a sum.
@@ -240,7 +240,7 @@ fn judge_after(
     held: Step,
 ) -> Step
     requires { ⌜ Orderly (now words) (now counts) e × (ordered (cubesOf (now s)) ≡ true) × (before (lits c) (lits d) ≡ true)
-        × (alone ≡ true → Alone (nodesOf e (now counts) (now words)) (lits c)) ⌝ }
+        × (alone ≡ true → Alone (cubesOf (now words)) (lits c)) ⌝ }
     ensures { λ r. ⌜ Adds (Nodes (nodesOf e (now (counts .entry)) (now (words .entry)))) (sumsIn (cubesOf (now (s .entry))))
         (sumOf (lits c) (lits d)) held r ⌝ }
 {
@@ -263,7 +263,7 @@ fn judge_sums_of(
     mut held: Step,
 ) -> Step
     requires { ⌜ Orderly (now words) (now counts) e × (ordered (lits c ∷ cubesOf (now s)) ≡ true)
-        × (alone ≡ true → Alone (nodesOf e (now counts) (now words)) (lits c)) ⌝ }
+        × (alone ≡ true → Alone (cubesOf (now words)) (lits c)) ⌝ }
     ensures { λ r. ⌜ Adds (Nodes (nodesOf e (now (counts .entry)) (now (words .entry)))) (sumsIn (cubesOf (now (s .entry))))
         (gather (sumOf (lits c)) (cubesOf (now (s .entry)))) held r ⌝ }
 {
@@ -284,17 +284,10 @@ fn judge_sums_of(
     held
 }
 
-// The sums of two cubes of one node; the nodes have t cubes, its own among them.
-fn judge_sums_in(
-    words: &[u64],
-    counts: &[usize],
-    e: usize,
-    t: usize,
-    s: &[u64],
-    mut held: Step,
-) -> Step
-    requires { ⌜ Orderly (now words) (now counts) e × (t ≡ total (λ c. c) (take e (now counts))) × (ordered (cubesOf (now s)) ≡ true)
-        × Inside (nodesOf e (now counts) (now words)) (cubesOf (now s)) ⌝ }
+// The sums of two cubes of one node.
+fn judge_sums_in(words: &[u64], counts: &[usize], e: usize, s: &[u64], mut held: Step) -> Step
+    requires { ⌜ Orderly (now words) (now counts) e × (ordered (cubesOf (now s)) ≡ true)
+        × Inside (cubesOf (now words)) (cubesOf (now s)) ⌝ }
     ensures { λ r. ⌜ Adds (Nodes (nodesOf e (now (counts .entry)) (now (words .entry)))) [] (sumsIn (cubesOf (now (s .entry)))) held r ⌝ }
 {
     let n = expression::number(s);
@@ -303,24 +296,24 @@ fn judge_sums_in(
         let rest = expression::part(s, i, n);
         i -= 1;
         let c = expression::cube_at(s, i);
-        let alone = holders(expression::part(words, 0, t), c) <= 1;
+        let alone = holders(words, c) <= 1;
         held = judge_sums_of(words, counts, e, rest, c, alone, held);
     }
     held
 }
 
-// All sums of two cubes of one node; the nodes have t cubes.
-fn judge_sums(words: &[u64], counts: &[usize], e: usize, t: usize, mut held: Step) -> Step
-    requires { ⌜ Orderly (now words) (now counts) e × (t ≡ total (λ c. c) (take e (now counts))) ⌝ }
+// All sums of two cubes of one node.
+fn judge_sums(words: &[u64], counts: &[usize], e: usize, mut held: Step) -> Step
+    requires { ⌜ Orderly (now words) (now counts) e ⌝ }
     ensures { λ r. ⌜ Adds (Nodes (nodesOf e (now (counts .entry)) (now (words .entry)))) []
         (gather sumsIn (nodesOf e (now (counts .entry)) (now (words .entry)))) held r ⌝ }
 {
-    let mut end = t;
+    let mut end = expression::number(words);
     let mut k = e;
     while k > 0 {
         k -= 1;
         let at = end - counts[k];
-        held = judge_sums_in(words, counts, e, t, expression::part(words, at, end), held);
+        held = judge_sums_in(words, counts, e, expression::part(words, at, end), held);
         end = at;
     }
     held
@@ -328,28 +321,13 @@ fn judge_sums(words: &[u64], counts: &[usize], e: usize, t: usize, mut held: Ste
 
 // ---- the choice
 
-// The number of cubes of e nodes.
-fn cubes_of(counts: &[usize], e: usize) -> usize
-    requires { ⌜ (e ≤ length (now counts)) × (total (λ c. c) (take e (now counts)) ≤ mostCubes) ⌝ }
-    ensures { λ r. ⌜ r ≡ total (λ c. c) (take e (now (counts .entry))) ⌝ }
-{
-    let mut sum = 0;
-    let mut j = 0;
-    while j < e {
-        sum += counts[j];
-        j += 1;
-    }
-    sum
-}
-
 // The best of all pairs and sums.
 fn choose(words: &[u64], counts: &[usize], e: usize) -> Step
     requires { ⌜ Orderly (now words) (now counts) e ⌝ }
     ensures { λ r. ⌜ ((n : Net) → Nodes (nodesOf e (now (counts .entry)) (now (words .entry))) n → Wins n (candidates n) r) ⌝ }
 {
-    let t = cubes_of(counts, e);
-    let r = judge_pairs(expression::part(words, 0, t), extract_divisor::no_step());
-    judge_sums(words, counts, e, t, r)
+    let r = judge_pairs(words, extract_divisor::no_step());
+    judge_sums(words, counts, e, r)
 }
 
 // The best divisor of a network in cube order, if its weight is above 0; else a step of zeros.
@@ -361,5 +339,6 @@ pub fn best(n: Network) -> Step
     }
     let words = n.words;
     let counts = n.counts;
-    choose(&words, &counts, n.outputs + n.divisors)
+    let e = n.outputs + n.divisors;
+    choose(network_nodes::front(&words, &counts, e), &counts, e)
 }

@@ -4,22 +4,21 @@ use mathlib.Core.Path.{_≡_, refl, _∙_}
 use mathlib.Core.List.{List, []}
 use native.Mathlib.Omega.{arith}
 use borrow.Author.Needs.{needs}
-use lib.ListN.{length, getD, take}
-use Rattle.sets.specs.Lists.{total}
+use lib.ListN.{length, getD}
+use Rattle.sets.proofs.Lists.{total-take-le}
 use Rattle.cube.specs.Cube.{lits}
 use Rattle.expression.specs.Words.{cubesOf}
-use Rattle.network.specs.Held.{mostCubes}
 use Rattle.network.specs.Parts.{nodesOf}
+use Rattle.network_nodes.specs.Nodes.{countBefore}
 use Rattle.network.proofs.Parts.{nodes-length}
 use Rattle.network_nodes.proofs.Starting.{start-next}
-use Rattle.extract_choice.proofs.Counting.{total-take-le, node-part, node-few, node-ordered, uses-few, literals-few, CountingAll, all-none}
-use Rattle.extract_choice.proofs.Counting.{all-more, all-counted}
+use Rattle.extract_choice.proofs.Counting.{node-part, node-few, node-ordered, uses-few, literals-few, CountingAll, all-none, all-more, all-counted}
 use Rattle.extract_choice.proofs.count_all.Statement.{statement}
 use Rattle.extract_choice.proofs.count_all.Tie as tie
 
 abbrev Inv-loop : tie.InvT-loop
 Inv-loop words counts e a b uses₀ literals₀ at₀ i₀ uses literals at i =
-    (i ≤ e) × (at ≡ total (λ c. c) (take i counts)) × CountingAll (lits a) (lits b) (nodesOf e counts words) i uses literals
+    (i ≤ e) × (at ≡ countBefore i counts) × CountingAll (lits a) (lits b) (nodesOf e counts words) i uses literals
 
 abbrev μ-loop : tie.MeasureT-loop
 μ-loop words counts e a b uses₀ literals₀ at₀ i₀ uses literals at i = e - i
@@ -27,89 +26,58 @@ abbrev μ-loop : tie.MeasureT-loop
 abbrev start : tie.At-loop Inv-loop μ-loop → tie.Start Inv-loop μ-loop
 start l = l .before .before .before
 
+abbrev passed : tie.After-count-in Inv-loop μ-loop → tie.At-loop Inv-loop μ-loop
+passed c = c .before .before .before .before
+
 -- the nodes
 abbrev held : tie.At-loop Inv-loop μ-loop → List (List (List ℕ))
 held l = nodesOf (start l .args .e) (start l .args .counts .now) (start l .args .words .now)
 
 many : (l : tie.At-loop Inv-loop μ-loop) → length (held l) ≡ start l .args .e
-many l = nodes-length (start l .args .counts .now) (start l .args .words .now) (start l .args .e) (start l .pre .counted)
+many l = nodes-length (start l .args .counts .now) (start l .args .words .now) (start l .args .e) (start l .pre .slots)
 
 -- where the next node begins
-next-at : (c : tie.In-loop Inv-loop μ-loop) → c .before .loop .at + getD (start (c .before) .args .counts .now) (c .before .loop .i) 0 ≡ total (λ n. n)
-    (take (c .before .loop .i + 1) (start (c .before) .args .counts .now))
-next-at c = let l = c .before in start-next (start l .args .counts .now) (l .loop .i) (l .loop .at) (omega (arith, start l .pre .counted)) (l .loop .inv .1)
-
-next-few : (c : tie.In-loop Inv-loop μ-loop) → c .before .loop .at + getD (start (c .before) .args .counts .now) (c .before .loop .i) 0 ≤ mostCubes
-next-few c =
-    let l = c .before in
-    omega (
-      arith,
-      next-at c,
-      total-take-le (λ n. n) (start l .args .counts .now) (l .loop .i + 1) (start l .args .e)
-          (omega arith),
-      start l .pre .enough,
-      start l .pre .few,
-    )
+next-at : (c : tie.In-loop Inv-loop μ-loop) → c .before .loop .at + getD (start (c .before) .args .counts .now) (c .before .loop .i) 0
+    ≡ countBefore (c .before .loop .i + 1) (start (c .before) .args .counts .now)
+next-at c = let l = c .before in start-next (start l .args .counts .now) (l .loop .i) (l .loop .at) (omega (arith, start l .pre .slots)) (l .loop .inv .1)
 
 -- the part is node i
 node : (c : tie.After-part Inv-loop μ-loop) → cubesOf (c .part .result .now) ≡ getD (held (c .before .before .before)) (c .before .before .before .loop .i) []
 node c = let l = c .before .before .before in c .part .ensures .0
     ∙ node-part (start l .args .counts .now) (start l .args .words .now) (start l .args .e) (l .loop .i) (l .loop .at) _ (omega arith) (l .loop .inv .1) refl
 
-more : (c : tie.After-count-in Inv-loop μ-loop) → CountingAll (lits (start (c .before .before .before .before) .args .a))
-    (lits (start (c .before .before .before .before) .args .b)) (held (c .before .before .before .before)) (c .before .before .before .before .loop .i + 1)
-    (c .before .before .before .before .loop .uses + c .count-in .result .uses)
-    (c .before .before .before .before .loop .literals + c .count-in .result .literals)
+more : (c : tie.After-count-in Inv-loop μ-loop) → CountingAll (lits (start (passed c) .args .a)) (lits (start (passed c) .args .b)) (held (passed c))
+    (passed c .loop .i + 1) (passed c .loop .uses + c .count-in .result .uses) (passed c .loop .literals + c .count-in .result .literals)
 more c =
-    let l = c .before .before .before .before in
+    let l = passed c in
     all-more _ _ (held l) (l .loop .i) (l .loop .uses) (l .loop .literals) (l .loop .inv .2) (omega (arith, many l)) _ _
     (rw (node (c .before)) at (c .count-in .ensures))
 
-loop-holds : tie.Need-loop-holds Inv-loop μ-loop
-loop-holds c = (omega arith, refl, all-none _ _ _)
-
 mul-next : tie.Need-mul-next Inv-loop μ-loop
-mul-next c = omega (arith, start (c .before) .pre .counted)
+mul-next c = omega (arith, start (c .before) .pre .slots)
 
 shared-slice-read-next : tie.Need-shared-slice-read-next Inv-loop μ-loop
-shared-slice-read-next c = omega (arith, start (c .before .before) .pre .counted)
+shared-slice-read-next c = omega (arith, start (c .before .before) .pre .slots)
 
 add-next : tie.Need-add-next Inv-loop μ-loop
-add-next c = omega (arith, next-few (c .before))
-
-part-requires : tie.Need-part-requires Inv-loop μ-loop
-part-requires c κs = search needs
+add-next c =
+    let l = c .before .before in
+    let s = start l in
+    omega (arith, next-at (c .before), total-take-le (λ n. n) (s .args .counts .now) (l .loop .i + 1) (s .args .e) (omega arith), s .pre .whole, s .pre .few)
 
 count-in-requires : tie.Need-count-in-requires Inv-loop μ-loop
-count-in-requires c κs =
-    let l = c .before .before .before in
-    (rw (node c) (node-few _ _ _ (start l .pre) (l .loop .i)), rw (node c) (node-ordered _ _ _ (start l .pre) (l .loop .i) (omega arith)))
+count-in-requires c κs = let l = c .before .before .before in
+    rw (node c) (node-few _ _ _ (start l .pre) (l .loop .i), node-ordered _ _ _ (start l .pre) (l .loop .i) (omega arith))
 
 add-uses : tie.Need-add-uses Inv-loop μ-loop
-add-uses c = omega (
-  arith,
-  more (c .before),
-  uses-few _ _ _ (start (c .before .before .before .before .before) .pre)
-      (lits (start (c .before .before .before .before .before) .args .a)) (lits (start (c .before .before .before .before .before) .args .b)),
-)
+add-uses c = let s = start (passed (c .before)) in omega (arith, more (c .before), uses-few _ _ _ (s .pre) (lits (s .args .a)) (lits (s .args .b)))
 
 add-literals : tie.Need-add-literals Inv-loop μ-loop
-add-literals c = omega (
-  arith,
-  more (c .before .before),
-  literals-few _ _ _ (start (c .before .before .before .before .before .before) .pre)
-      (lits (start (c .before .before .before .before .before .before) .args .a)) (lits (start (c .before .before .before .before .before .before) .args .b)),
-)
-
-add-i : tie.Need-add-i Inv-loop μ-loop
-add-i c = search needs
-
-loop-less : tie.Need-loop-less Inv-loop μ-loop
-loop-less c = search needs
+add-literals c = let s = start (passed (c .before .before)) in
+    omega (arith, more (c .before .before), literals-few _ _ _ (s .pre) (lits (s .args .a)) (lits (s .args .b)))
 
 loop-again : tie.Need-loop-again Inv-loop μ-loop
-loop-again c = let l = c .before .before .before .before .before .before in
-    (omega arith, next-at (c .before .before .before .before .before), more (c .before .before))
+loop-again c = let n = c .before .before in (omega arith, next-at (n .before .before .before), more n)
 
 returns : tie.Need-returns Inv-loop μ-loop
 returns c = let l = c .before in all-counted _ _ _ _ _ _ (l .loop .inv .2) (omega (arith, many l))
@@ -117,18 +85,5 @@ returns c = let l = c .before in all-counted _ _ _ _ _ _ (l .loop .inv .2) (omeg
 pub count-all-spec : {M : Type 1} → statement M
 count-all-spec =
     tie.close
-    (tie.spec
-    Inv-loop
-    μ-loop
-    loop-holds
-    mul-next
-    shared-slice-read-next
-    add-next
-    part-requires
-    count-in-requires
-    add-uses
-    add-literals
-    add-i
-    loop-less
-    loop-again
-    returns)
+    (tie.spec Inv-loop μ-loop (λ c. (omega arith, refl, all-none _ _ _)) mul-next shared-slice-read-next add-next (search needs) count-in-requires
+    add-uses add-literals (search needs) (search needs) loop-again returns)

@@ -1,18 +1,14 @@
 -- `extract_choice::count_in` meets its contract. The loop's invariant: what is counted and what is left make up all. Assumes nothing.
-use Prim.Native.Nat.{_-_, _<_, _≤_}
-use mathlib.Core.Path.{_≡_, sym, _∙_, ap}
+use Prim.Native.Nat.{_-_, _<_}
+use mathlib.Core.Path.{_∙_}
 use mathlib.Core.Logic.{inl, inr}
-use Rattle.sets.proofs.Literals.{literals-at-most}
-use Rattle.extract_laws.specs.Divisor.{useOf}
-use mathlib.Core.List.{[]}
 use native.Mathlib.Omega.{arith}
 use borrow.Author.Needs.{needs}
-use lib.ListN.{length, getD}
-use Rattle.sets.specs.Sets.{without}
+use lib.ListN.{length}
 use Rattle.cube.specs.Cube.{lits}
+use Rattle.cube.proofs.Lits.{lits-at-most}
 use Rattle.expression.specs.Words.{cubesOf}
-use Rattle.extract_divisor.proofs.Using.{found-use}
-use Rattle.extract_choice.proofs.Counting.{Counting, counting-none, counting-on, counting-off, counting-all}
+use Rattle.extract_choice.proofs.Counting.{tested-use, Counting, counting-none, counting-on, counting-off, counting-all}
 use Rattle.extract_choice.proofs.count_in.Statement.{statement}
 use Rattle.extract_choice.proofs.count_in.Tie as tie
 
@@ -22,65 +18,25 @@ Inv-loop s a b uses₀ literals₀ i₀ uses literals i = Counting (lits a) (lit
 abbrev μ-loop : tie.MeasureT-loop
 μ-loop s a b uses₀ literals₀ i₀ uses literals i = length (cubesOf s) - i
 
--- what the test says of the cube at place i
-tested : (c : tie.After-is-use Inv-loop μ-loop)
-    → useOf (lits (c .before .before .before .before .before .before .args .a)) (lits (c .before .before .before .before .before .before .args .b))
-    (cubesOf (c .before .before .before .before .before .before .args .s .now))
-    (getD (cubesOf (c .before .before .before .before .before .before .args .s .now)) (c .before .before .before .before .loop .i) []) ≡ c .is-use .result
-tested c = sym (c .is-use .ensures ∙ found-use _ _ _ _ (c .before .before .before .before .before .before .pre .1)
-    ∙ ap (useOf _ _ _) (c .before .cube-at .ensures))
-
--- no cube has more than 128 literals
-at-most : (c : tie.After-without Inv-loop μ-loop) → length (lits (c .without .result)) ≤ 128
-at-most c = literals-at-most 64 _ _
-
-loop-holds : tie.Need-loop-holds Inv-loop μ-loop
-loop-holds c = counting-none _ _ _
-
-number-requires : tie.Need-number-requires Inv-loop μ-loop
-number-requires c κs = search needs
-
-cube-at-requires : tie.Need-cube-at-requires Inv-loop μ-loop
-cube-at-requires c κs = search needs
-
-is-use-requires : tie.Need-is-use-requires Inv-loop μ-loop
-is-use-requires c κs = search needs
-
-add-uses : tie.Need-add-uses Inv-loop μ-loop
-add-uses c = search needs
-
-without-requires : tie.Need-without-requires Inv-loop μ-loop
-without-requires c κs = search needs
-
-count-requires : tie.Need-count-requires Inv-loop μ-loop
-count-requires c κs = search needs
+abbrev passed : tie.After-is-use Inv-loop μ-loop → tie.At-loop Inv-loop μ-loop
+passed c = c .before .before .before .before
 
 add-literals : tie.Need-add-literals Inv-loop μ-loop
-add-literals c = omega (
-  arith,
-  c .before .before .before .before .before .before .before .loop .inv .short,
-  c .before .before .before .before .before
-      .before .before .loop .inv .inside,
-  c .before .before .before .before .before .before .before .before .before .pre .0,
-  at-most (c .before),
-)
-
-add-i : tie.Need-add-i Inv-loop μ-loop
-add-i c = search needs
-
-loop-less : tie.Need-loop-less Inv-loop μ-loop
-loop-less c = search needs
+add-literals c = let l = passed (c .before .before .before) in
+    omega (arith, l .loop .inv .short, l .loop .inv .within, l .before .before .pre .0, lits-at-most (c .before .without .result))
 
 loop-again : tie.Need-loop-again Inv-loop μ-loop
 loop-again c =
-    let l = c .before .before .before .before .before in
-    let inside : l .loop .i < length (cubesOf (l .before .before .args .s .now)) = omega arith in
+    let l = passed (c .before) in
+    let s = l .before .before in
+    let d = c .before .before .cube-at .ensures in
+    let h : l .loop .i < length (cubesOf (s .args .s .now)) = omega arith in
+    let t = tested-use _ _ _ (l .loop .i) _ (s .pre .1) d (c .before .is-use .ensures) in
     elim (c .if2 .came) [
       | inl (w, x, y, e, g) ↦
-          rw (e, g) (counting-on _ _ _ _ _ _ (l .loop .inv) inside (tested (c .before) ∙ w .taken) (y .result)
-          (y .ensures ∙ ap length (x .ensures ∙ ap (λ z. without z (lits (l .before .before .args .a))) (c .before .before .cube-at .ensures)))
-          (rw (y .ensures) (literals-at-most 64 _ _)))
-      | inr (w, e, g) ↦ rw (e, g) (counting-off _ _ _ _ _ _ (l .loop .inv) inside (tested (c .before) ∙ w .left))
+          rw (e, g) (counting-on _ _ _ _ _ _ (l .loop .inv) h (t ∙ w .taken) (y .result) (rw (← d, ← x .ensures) (y .ensures))
+          (rw (y .ensures) (lits-at-most (x .result))))
+      | inr (w, e, g) ↦ rw (e, g) (counting-off _ _ _ _ _ _ (l .loop .inv) h (t ∙ w .left))
     ]
 
 returns : tie.Need-returns Inv-loop μ-loop
@@ -89,18 +45,5 @@ returns c = let l = c .before .before in counting-all _ _ _ _ _ _ (l .loop .inv)
 pub count-in-spec : {M : Type 1} → statement M
 count-in-spec =
     tie.close
-    (tie.spec
-    Inv-loop
-    μ-loop
-    loop-holds
-    number-requires
-    cube-at-requires
-    is-use-requires
-    add-uses
-    without-requires
-    count-requires
-    add-literals
-    add-i
-    loop-less
-    loop-again
-    returns)
+    (tie.spec Inv-loop μ-loop (λ c. counting-none _ _ _) (search needs) (search needs) (search needs) (search needs) (search needs) (search needs)
+    add-literals (search needs) (search needs) loop-again returns)

@@ -4,9 +4,6 @@ use borrow.Author.Needs.{needs}
 use Rattle.extract_choice.proofs.is_small.Statement.{statement}
 use Rattle.extract_choice.proofs.is_small.Tie as tie
 
-count-requires : tie.Need-count-requires
-count-requires c κs = search needs
-
 returns : tie.Need-returns
 returns c = small-none _ _ (c .before .count .ensures) (c .if1 .taken)
 
@@ -14,4 +11,4 @@ returns-2 : tie.Need-returns-2
 returns-2 c = small-some _ _ (c .before .count .ensures) (c .if1 .left)
 
 pub is-small-spec : {M : Type 1} → statement M
-is-small-spec = tie.close (tie.spec count-requires returns returns-2)
+is-small-spec = tie.close (tie.spec (search needs) returns returns-2)

@@ -6,19 +6,10 @@ use borrow.Author.Needs.{needs}
 use Rattle.extract_choice.proofs.judge_new.Statement.{statement}
 use Rattle.extract_choice.proofs.judge_new.Tie as tie
 
-is-used-requires : tie.Need-is-used-requires
-is-used-requires c κs = search needs
-
 returns : tie.Need-returns
 returns c =
     let s = c .before .before .before .before .before in
     sum-again _ (s .args .s .now) _ _ (s .args .held) (s .pre .2) (sym (c .before .is-used .ensures) ∙ c .if1 .taken)
 
-judge-sum-requires : tie.Need-judge-sum-requires
-judge-sum-requires c κs = search needs
-
-returns-2 : tie.Need-returns-2
-returns-2 c = adds-any _ (c .judge-sum .ensures)
-
 pub judge-new-spec : {M : Type 1} → statement M
-judge-new-spec = tie.close (tie.spec is-used-requires returns judge-sum-requires returns-2)
+judge-new-spec = tie.close (tie.spec (λ c κs. search needs) returns (λ c κs. search needs) (λ c. adds-any _ (c .judge-sum .ensures)))
