@@ -104,17 +104,20 @@ node-part counts words e i at end h p q =
     let z : end - at ≡ getD counts i 0 = omega arith in
     rw (z, p) (sym (nodes-at counts words e i h ∙ cut-node counts (cubesOf words) i))
 
-module _ (words counts : List ℕ) (e : ℕ) (o : Orderly words counts e) where
+module _ {words counts : List ℕ} {e : ℕ} (o : Orderly words counts e) where
   all-used : take (countBefore e counts) (cubesOf words) ≡ cubesOf words
   all-used = take-all (countBefore e counts) (cubesOf words) (omega (arith, o .whole))
 
   pub words-flat : cubesOf words ≡ flat (nodesOf e counts words)
   words-flat = sym (flat-cut (take e counts) (cubesOf words) ∙ all-used)
 
+  pub nodes-many : length (nodesOf e counts words) ≡ e
+  nodes-many = nodes-length counts words e (o .slots)
+
   -- each node is in cube order, and has no more cubes than a network
   module _ (i : ℕ) where
     pub node-in : i < e → getD (nodesOf e counts words) i [] ∈ nodesOf e counts words
-    node-in h = at-in (nodesOf e counts words) i [] (omega (arith, nodes-length counts words e (o .slots)))
+    node-in h = at-in (nodesOf e counts words) i [] (omega (arith, nodes-many))
 
     pub node-ordered : i < e → ordered (getD (nodesOf e counts words) i []) ≡ true
     node-ordered h = all-out ordered (node-in h) (o .sorted)

@@ -2,7 +2,7 @@
 use Prim.Native.Nat.{ℕ, _+_, _≤_}
 use mathlib.Core.Path.{_≡_, refl, sym, ap, ap₂, _∙_, subst}
 use mathlib.Core.Logic.{_↔_, inl, inr}
-use mathlib.Core.Bool.{true, false}
+use mathlib.Core.Bool.{Bool, true, false, cond}
 use mathlib.Core.List.{List, [], _++_, List·Memᴰ·not-nil}
 use mathlib.Core.Option.{Option, none, some, Option·none-ne-some}
 use native.Mathlib.Omega.{arith}
@@ -62,12 +62,12 @@ module _ (n : Network) (words : List ℕ) (front : cubesOf words ≡ take (count
 -- ---- the choice
 
 -- pairs judged among the cubes, and then sums among the nodes: all candidates
-pub all-judged : (words counts : List ℕ) (e : ℕ) → Orderly words counts e → (s r t : Step) → s ≡ noStep
+pub all-judged : {words counts : List ℕ} {e : ℕ} → Orderly words counts e → (s r t : Step) → s ≡ noStep
     → Adds (Cubes (cubesOf words)) [] (pairsIn (literalsFrom 0)) s r
     → Adds (Nodes (nodesOf e counts words)) [] (gather sumsIn (nodesOf e counts words)) r t
     → (n : Net) → Nodes (nodesOf e counts words) n → Wins n (candidates n) t
-all-judged words counts e o s r t z g h n c =
-    let own = words-flat words counts e o in
+all-judged {words} o s r t z g h n c =
+    let own = words-flat o in
     let pairs = g .leads n (ap flat c ∙ sym own) [] (λ d m. m) (nothing z (λ d m. absurd (List·Memᴰ·not-nil m))) in
     let sums = h .leads n c (pairsIn (literalsFrom 0) ++ []) (λ d m. absurd (List·Memᴰ·not-nil m)) pairs in
     leads-candidates n (λ d m.
@@ -105,41 +105,36 @@ module _ (n : Net) where
 
   -- what leads the candidates is chosen
   leads-chosen : (s : Step) → Wins n (candidates n) s → Chosen (worthIn n (best n)) s
-  leads-chosen s (nothing e h) = subst (λ o. Chosen o s) (sym (worth-none .1 h)) e
-  leads-chosen s (first d m e a h) = subst (λ o. Chosen o s) (sym ((worth-iff (weighing n d)) .1 (d, record { best = best-in n d m h; above = a }, refl))) e
+  leads-chosen s (nothing e h) = rw (worth-none .1 h) e
+  leads-chosen s (first d m e a h) = rw ((worth-iff (weighing n d)) .1 (d, record { best = best-in n d m h; above = a }, refl)) e
 
 module _ (n : Network) where
-  -- in a network in cube order
-  chosen-worth : arranged n ≡ true → chosenIn n ≡ worthIn (netOf n) (best (netOf n))
+  -- in a network in cube order, and in no other
+  chosen-as : (b : Bool) → arranged n ≡ b → chosenIn n ≡ cond b (worthIn (netOf n) (best (netOf n))) none
   unfolding chosenIn
-  chosen-worth h = rw h
-
-  -- and in no other
-  chosen-no : arranged n ≡ false → chosenIn n ≡ none
-  unfolding chosenIn
-  chosen-no h = rw h
+  chosen-as b h = rw h
 
   pub chosen-leads : (s : Step) → arranged n ≡ true → Wins (netOf n) (candidates (netOf n)) s → Chosen (chosenIn n) s
-  chosen-leads s h l = subst (λ o. Chosen o s) (sym (chosen-worth h)) (leads-chosen (netOf n) s l)
+  chosen-leads s h l = rw (chosen-as true h) (leads-chosen (netOf n) s l)
 
   pub chosen-not : (s : Step) → arranged n ≡ false → s ≡ noStep → Chosen (chosenIn n) s
-  chosen-not s h e = subst (λ o. Chosen o s) (sym (chosen-no h)) e
+  chosen-not s h e = rw (chosen-as false h) e
 
   -- the choice is the best divisor of a network in cube order, where its weight is above 0, with its weight and uses
   pub chosen-iff : (m : Weighed) → (chosenIn n ≡ some m) ↔ ((arranged n ≡ true) × ((d : extraction.Divisor) × Worth (netOf n) d × (m ≡ weighing (netOf n) d)))
   chosen-iff m = (
     λ h. elim (decided (arranged n)) [
-      | inl t ↦ (t, (worth-iff (netOf n) m) .0 (sym (chosen-worth t) ∙ h))
-      | inr t ↦ absurd (Option·none-ne-some m (sym (chosen-no t) ∙ h))
+      | inl t ↦ (t, (worth-iff (netOf n) m) .0 (sym (chosen-as true t) ∙ h))
+      | inr t ↦ absurd (Option·none-ne-some m (sym (chosen-as false t) ∙ h))
     ],
-    λ (t, h). chosen-worth t ∙ (worth-iff (netOf n) m) .1 h,
+    λ (t, h). chosen-as true t ∙ (worth-iff (netOf n) m) .1 h,
   )
 
   -- there is none where no divisor has a weight above 0, or the network is not in cube order
   pub chosen-none : (chosenIn n ≡ none) ↔ (arranged n ≡ true → Done (netOf n))
   chosen-none = (
-    λ h t. worth-none (netOf n) .0 (sym (chosen-worth t) ∙ h),
-    λ k. elim (decided (arranged n)) [ inl t ↦ chosen-worth t ∙ worth-none (netOf n) .1 (k t) | inr t ↦ chosen-no t ],
+    λ h t. worth-none (netOf n) .0 (sym (chosen-as true t) ∙ h),
+    λ k. elim (decided (arranged n)) [ inl t ↦ chosen-as true t ∙ worth-none (netOf n) .1 (k t) | inr t ↦ chosen-as false t ],
   )
 
 -- ---- one answer

@@ -21,18 +21,6 @@ use Rattle.extract_rank.specs.Rank.{outweighs, taken}
 use Rattle.extract_choice.specs.Parts.{Wins, Adds}
 use Rattle.extract_choice.specs.Parts.Wins.{nothing, first}
 
--- ---- what is taken
-
-module _ (s t : Step) where
-  pub taken-low : ltZ (pos 0) (t .weight) ≡ false → s ≡ taken s t
-  unfolding taken outweighs
-  taken-low h = rw h
-
-  module _ (h : ltZ (pos 0) (t .weight) ≡ true) where
-    pub taken-more : ltZ (s .weight) (t .weight) ≡ true → t ≡ taken s t
-    unfolding taken outweighs
-    taken-more k = rw (h, k)
-
 -- ---- what is held leads
 
 module _ (n : Net) where
@@ -63,8 +51,8 @@ module _ (n : Net) where
 
   -- nor do divisors that are there already
   pub leads-known : (new l : List extraction.Divisor) (s : Step) → ((e : extraction.Divisor) → e ∈ new → e ∈ l) → Wins n l s → Wins n (new ++ l) s
-  leads-known new l s k = leads-same l (new ++ l) s (λ e m a. Memᴰ·append-right new m)
-      (λ e m a. elim (List·Memᴰ·append-cases new m) [ inl i ↦ k e i | inr i ↦ i ])
+  leads-known new l s k =
+      leads-same l (new ++ l) s (λ e m a. Memᴰ·append-right new m) (λ e m a. elim (List·Memᴰ·append-cases new m) [ inl i ↦ k e i | inr i ↦ i ])
 
   -- the better of the two leads the divisors judged so far and the new one
   module _ (d : extraction.Divisor) (l : List extraction.Divisor) (s t : Step) (e : weighedOf t ≡ weighing n d) where
@@ -85,7 +73,7 @@ module _ (n : Net) where
     against g i q a h k false p = first g (there i) q a (λ x j. elim (List·Memᴰ·cases-cons j) [ inl y ↦ rw y p | inr y ↦ h x y ])
 
     above : ltZ (pos 0) (t .weight) ≡ true → ltZ (pos 0) (weight n d) ≡ true
-    above k = ap (ltZ (pos 0)) (sym tw) ∙ k
+    above k = rw (← tw) k
 
     taken-better : ltZ (pos 0) (t .weight) ≡ true → (g : extraction.Divisor) → weighedOf s ≡ weighing n g → cond (better n d g) t s ≡ taken s t
     unfolding taken better outweighs
@@ -95,14 +83,14 @@ module _ (n : Net) where
         sym ((λ i. cond (ltZ (pos 0) (tw i) && lex (λ u v. ltZ v u) (tw i) (sw i) (sooner (td i) (sd i))) t s) ∙ rw (above k))
 
     pub leads-taken : Wins n l s → Wins n (d ∷ l) (taken s t)
+    unfolding taken outweighs
     leads-taken h = elim (decided (ltZ (pos 0) (t .weight))) [
-      | inr k ↦ subst (Wins n (d ∷ l)) (taken-low s t k) (leads-low (d ∷ []) l s
-          (λ g i. ap (λ x. ltZ (pos 0) (weight n x)) (List·Memᴰ·eq-of-singleton i) ∙ ap (ltZ (pos 0)) (sym tw) ∙ k) h)
       | inl k ↦ go k h
+      | inr k ↦ rw k (leads-low (d ∷ []) l s (λ g i. rw (List·Memᴰ·eq-of-singleton i, ← tw) k) h)
     ]
       where
         go : ltZ (pos 0) (t .weight) ≡ true → Wins n l s → Wins n (d ∷ l) (taken s t)
-        go k (nothing q z) = subst (Wins n (d ∷ l)) (taken-more s t k (rw q k)) (fresh (above k) (λ g i. low-not-better g d (z g i) (above k)))
+        go k (nothing q z) = rw (q, k) (fresh (above k) (λ g i. low-not-better g d (z g i) (above k)))
         go k (first g i q a z) = subst (Wins n (d ∷ l)) (taken-better k g q) (against g i q a z (above k) (better n d g) refl)
 
 -- ---- one after the other
@@ -117,10 +105,8 @@ module _ {p : Net → Type 0} where
 
   -- first some, then others, all with the same known
   pub adds-more : {known one two : List extraction.Divisor} {s r t : Step} → Adds p known one s r → Adds p known two r t → Adds p known (two ++ one) s t
-  adds-more {one = one} f g = record {
-    leads = λ n c l k h. rw append-assoc
-        (g .leads n c (one ++ l) (λ d m. Memᴰ·append-right one (k d m)) (f .leads n c l k h));
-  }
+  adds-more {one = one} f g =
+      record { leads = λ n c l k h. rw append-assoc (g .leads n c (one ++ l) (λ d m. Memᴰ·append-right one (k d m)) (f .leads n c l k h)) }
 
   -- what needs nothing known
   pub adds-any : (known : List extraction.Divisor) {new : List extraction.Divisor} {s r : Step} → Adds p [] new s r → Adds p known new s r

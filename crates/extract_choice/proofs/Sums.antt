@@ -55,14 +55,14 @@ pub record Fitting (u l s : ℕ) : Type 0 where
   pub literals : l ≤ 2 * width * mostCubes
   pub product : u * (s - 1) ≤ mostCubes * 3
 
-pub sum-fits : (words counts : List ℕ) (e : ℕ) (a b : List ℕ) {u l m n : ℕ} → Orderly words counts e → small a ≡ true → small b ≡ true
+pub sum-fits : {words counts : List ℕ} {e : ℕ} {a b : List ℕ} {u l m n : ℕ} → Orderly words counts e → small a ≡ true → small b ≡ true
     → Tallied a b (nodesOf e counts words) u l → m ≡ length a → n ≡ length b → Fitting u l (m + n)
-sum-fits words counts e a b {u} {l} {m} {n} o h k t p q =
+sum-fits {a = a} {b} {u} {l} {m} {n} o h k t p q =
     let x = small-out a h in
     let y = small-out b k in
-    let i : u ≤ mostCubes = omega (arith, uses-few words counts e o a b) in
+    let i : u ≤ mostCubes = omega (arith, uses-few o a b) in
     let j : (m + n) - 1 ≤ 3 = omega arith in
-    record { two = omega arith; four = omega arith; literals = omega (arith, literals-few words counts e o a b); product = mul-le-mul i j }
+    record { two = omega arith; four = omega arith; literals = omega (arith, literals-few o a b); product = mul-le-mul i j }
 
 -- a sum is judged
 pub sum-judged : (fs : List (List (List ℕ))) (a b : Cube) (u l s : ℕ) (h : Step) → Tallied (lits a) (lits b) fs u l → s ≡ length (lits a) + length (lits b)
@@ -186,12 +186,12 @@ module _ (n : Net) (a b : List ℕ) (h : Alone (flat (nodes n)) a) where
   lone-low = not-above _ (length a + length b) (omega (arith, lone-bases, mul-le-mul-right ((length a + length b) - 1) lone-uses))
 
 -- two cubes that share no literal, the first one alone
-pub lone-judged : (words counts : List ℕ) (e : ℕ) → Orderly words counts e → (known : List Divisor) (c d : List ℕ) (s : Step) → Alone (cubesOf words) c
+pub lone-judged : {words counts : List ℕ} {e : ℕ} → Orderly words counts e → (known : List Divisor) (c d : List ℕ) (s : Step) → Alone (cubesOf words) c
     → before c d ≡ true → apart c d ≡ true → Adds (Nodes (nodesOf e counts words)) known (sumOf c d) s s
 unfolding sumOf smallerFirst without apart
-lone-judged words counts e o known c d s h t v = record {
+lone-judged o known c d s h t v = record {
   leads = λ n q l k g.
-      let w : Alone (flat (nodes n)) c = rw (q, ← words-flat words counts e o) h in
+      let w : Alone (flat (nodes n)) c = rw (q, ← words-flat o) h in
       let low = leads-low n (sum c d ∷ []) l s (λ x m. rw (List·Memᴰ·eq-of-singleton m) (lone-low n c d w)) g in
       rw (keep-all (λ x. not (mem x d)) c v, keep-all (λ x. not (mem x c)) d (apart-flip c d v), t)
       (elim (decided (small c && small d)) [ inl z ↦ rw z low | inr z ↦ rw z g ]);

@@ -308,13 +308,16 @@ fn judge_sums(words: &[u64], counts: &[usize], e: usize, mut held: Step) -> Step
     ensures { λ r. ⌜ Adds (Nodes (nodesOf e (now (counts .entry)) (now (words .entry)))) []
         (gather sumsIn (nodesOf e (now (counts .entry)) (now (words .entry)))) held r ⌝ }
 {
-    let mut end = expression::number(words);
     let mut k = e;
     while k > 0 {
         k -= 1;
-        let at = end - counts[k];
-        held = judge_sums_in(words, counts, e, expression::part(words, at, end), held);
-        end = at;
+        held = judge_sums_in(
+            words,
+            counts,
+            e,
+            network_nodes::node(words, counts, k),
+            held,
+        );
     }
     held
 }

@@ -8,7 +8,7 @@ returns : tie.Need-returns
 returns c =
     let p = c .before in
     let s = p .before .before .before .before in
-    all-judged _ _ _ (s .pre) _ _ _ (p .before .no-step .ensures) (p .judge-pairs .ensures) (c .judge-sums .ensures)
+    all-judged (s .pre) _ _ _ (p .before .no-step .ensures) (p .judge-pairs .ensures) (c .judge-sums .ensures)
 
 pub choose-spec : {M : Type 1} → statement M
 choose-spec = tie.close (tie.spec (search needs) (search needs) (λ c κs. search needs) returns)

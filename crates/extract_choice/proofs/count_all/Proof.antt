@@ -4,15 +4,15 @@ use mathlib.Core.Path.{_≡_, refl, _∙_}
 use mathlib.Core.List.{List, []}
 use native.Mathlib.Omega.{arith}
 use borrow.Author.Needs.{needs}
-use lib.ListN.{length, getD}
+use lib.ListN.{getD}
 use Rattle.sets.proofs.Lists.{total-take-le}
 use Rattle.cube.specs.Cube.{lits}
 use Rattle.expression.specs.Words.{cubesOf}
 use Rattle.network.specs.Parts.{nodesOf}
 use Rattle.network_nodes.specs.Nodes.{countBefore}
-use Rattle.network.proofs.Parts.{nodes-length}
 use Rattle.network_nodes.proofs.Starting.{start-next}
-use Rattle.extract_choice.proofs.Counting.{node-part, node-few, node-ordered, uses-few, literals-few, CountingAll, all-none, all-more, all-counted}
+use Rattle.extract_choice.proofs.Counting.{nodes-many, node-part, node-few, node-ordered, uses-few, literals-few, CountingAll, all-none}
+use Rattle.extract_choice.proofs.Counting.{all-more, all-counted}
 use Rattle.extract_choice.proofs.count_all.Statement.{statement}
 use Rattle.extract_choice.proofs.count_all.Tie as tie
 
@@ -33,9 +33,6 @@ passed c = c .before .before .before .before
 abbrev held : tie.At-loop Inv-loop μ-loop → List (List (List ℕ))
 held l = nodesOf (start l .args .e) (start l .args .counts .now) (start l .args .words .now)
 
-many : (l : tie.At-loop Inv-loop μ-loop) → length (held l) ≡ start l .args .e
-many l = nodes-length (start l .args .counts .now) (start l .args .words .now) (start l .args .e) (start l .pre .slots)
-
 -- where the next node begins
 next-at : (c : tie.In-loop Inv-loop μ-loop) → c .before .loop .at + getD (start (c .before) .args .counts .now) (c .before .loop .i) 0
     ≡ countBefore (c .before .loop .i + 1) (start (c .before) .args .counts .now)
@@ -50,14 +47,8 @@ more : (c : tie.After-count-in Inv-loop μ-loop) → CountingAll (lits (start (p
     (passed c .loop .i + 1) (passed c .loop .uses + c .count-in .result .uses) (passed c .loop .literals + c .count-in .result .literals)
 more c =
     let l = passed c in
-    all-more _ _ (held l) (l .loop .i) (l .loop .uses) (l .loop .literals) (l .loop .inv .2) (omega (arith, many l)) _ _
+    all-more _ _ (held l) (l .loop .i) (l .loop .uses) (l .loop .literals) (l .loop .inv .2) (omega (arith, nodes-many (start l .pre))) _ _
     (rw (node (c .before)) at (c .count-in .ensures))
-
-mul-next : tie.Need-mul-next Inv-loop μ-loop
-mul-next c = omega (arith, start (c .before) .pre .slots)
-
-shared-slice-read-next : tie.Need-shared-slice-read-next Inv-loop μ-loop
-shared-slice-read-next c = omega (arith, start (c .before .before) .pre .slots)
 
 add-next : tie.Need-add-next Inv-loop μ-loop
 add-next c =
@@ -67,23 +58,24 @@ add-next c =
 
 count-in-requires : tie.Need-count-in-requires Inv-loop μ-loop
 count-in-requires c κs = let l = c .before .before .before in
-    rw (node c) (node-few _ _ _ (start l .pre) (l .loop .i), node-ordered _ _ _ (start l .pre) (l .loop .i) (omega arith))
+    rw (node c) (node-few (start l .pre) (l .loop .i), node-ordered (start l .pre) (l .loop .i) (omega arith))
 
 add-uses : tie.Need-add-uses Inv-loop μ-loop
-add-uses c = let s = start (passed (c .before)) in omega (arith, more (c .before), uses-few _ _ _ (s .pre) (lits (s .args .a)) (lits (s .args .b)))
+add-uses c = let s = start (passed (c .before)) in omega (arith, more (c .before), uses-few (s .pre) (lits (s .args .a)) (lits (s .args .b)))
 
 add-literals : tie.Need-add-literals Inv-loop μ-loop
 add-literals c = let s = start (passed (c .before .before)) in
-    omega (arith, more (c .before .before), literals-few _ _ _ (s .pre) (lits (s .args .a)) (lits (s .args .b)))
+    omega (arith, more (c .before .before), literals-few (s .pre) (lits (s .args .a)) (lits (s .args .b)))
 
 loop-again : tie.Need-loop-again Inv-loop μ-loop
 loop-again c = let n = c .before .before in (omega arith, next-at (n .before .before .before), more n)
 
 returns : tie.Need-returns Inv-loop μ-loop
-returns c = let l = c .before in all-counted _ _ _ _ _ _ (l .loop .inv .2) (omega (arith, many l))
+returns c = let l = c .before in all-counted _ _ _ _ _ _ (l .loop .inv .2) (omega (arith, nodes-many (start l .pre)))
 
 pub count-all-spec : {M : Type 1} → statement M
 count-all-spec =
     tie.close
-    (tie.spec Inv-loop μ-loop (λ c. (omega arith, refl, all-none _ _ _)) mul-next shared-slice-read-next add-next (search needs) count-in-requires
-    add-uses add-literals (search needs) (search needs) loop-again returns)
+    (tie.spec Inv-loop μ-loop (λ c. (omega arith, refl, all-none _ _ _)) (λ c. omega (arith, start (c .before) .pre .slots))
+    (λ c. omega (arith, start (c .before .before) .pre .slots)) add-next (search needs) count-in-requires add-uses add-literals (search needs)
+    (search needs) loop-again returns)

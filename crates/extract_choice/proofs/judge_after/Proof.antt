@@ -11,7 +11,7 @@ returns : tie.Need-returns
 returns c =
     let t = c .before .before .before in
     let s = t .before .before .before .before in
-    lone-judged _ _ _ (s .pre .0) _ _ _ (s .args .held) (s .pre .3 (t .if1 .taken)) (s .pre .2)
+    lone-judged (s .pre .0) _ _ _ (s .args .held) (s .pre .3 (t .if1 .taken)) (s .pre .2)
     (sym (meet-none _ _) ∙ ap isNil (sym (c .before .before .common .ensures)) ∙ sym (c .before .is-empty .ensures) ∙ c .if2 .taken)
 
 pub judge-after-spec : {M : Type 1} → statement M

@@ -12,7 +12,7 @@ fits : (c : tie.After-count2) → Fitting (c .before .before .count-all .result 
 fits c =
     let t = c .before .before in
     let s = t .before .before .before in
-    sum-fits _ _ _ _ _ (s .pre .0) (s .pre .1) (s .pre .2) (t .count-all .ensures) (c .before .count .ensures) (c .count2 .ensures)
+    sum-fits (s .pre .0) (s .pre .1) (s .pre .2) (t .count-all .ensures) (c .before .count .ensures) (c .count2 .ensures)
 
 returns : tie.Need-returns
 returns c =
