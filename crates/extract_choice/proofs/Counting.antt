@@ -8,7 +8,7 @@ use lib.ListN.{length, getD, take, drop, drop-of-length-le, length-take, length-
 use lib.Seq.{take-add, take-all}
 use Rattle.sets.specs.Lists.{keep, total}
 use Rattle.sets.specs.Sets.{mem, without}
-use Rattle.sets.proofs.Lists.{_∈_, all-out, keep-length, keep-append, total-append, total-le, total-map, total-split}
+use Rattle.sets.proofs.Lists.{_∈_, all-out, keep-length, keep-append, total-append, total-le, total-map, total-split, total-take-le}
 use Rattle.sets.proofs.Places.{at-in, drop-next}
 use Rattle.cube.specs.Cube.{width}
 use Rattle.expression.specs.Words.{cubesOf}
@@ -19,6 +19,7 @@ use Rattle.network_nodes.specs.Nodes.{cut, countBefore}
 use Rattle.network.specs.Handed.{flat}
 use Rattle.network.specs.Parts.{nodesOf}
 use Rattle.network_nodes.proofs.Cutting.{cut-node, cut-total}
+use Rattle.network_nodes.proofs.Starting.{start-next}
 use Rattle.network.proofs.Handing.{flat-length}
 use Rattle.network.proofs.Parts.{nodes-at, nodes-length}
 use Rattle.extract_laws.specs.Divisor.{sum, useOf, uses, bases}
@@ -97,13 +98,6 @@ unfolding cut
 flat-cut [] f = refl
 flat-cut (n ∷ ns) f = rw (flat-cut ns (drop n f)) (sym (take-add n (total (λ c. c) ns) f))
 
--- the cubes between two places are a node's
-pub node-part : (counts words : List ℕ) (e i at end : ℕ) → i < e → at ≡ countBefore i counts → end ≡ at + getD counts i 0
-    → take (end - at) (drop at (cubesOf words)) ≡ getD (nodesOf e counts words) i []
-node-part counts words e i at end h p q =
-    let z : end - at ≡ getD counts i 0 = omega arith in
-    rw (z, p) (sym (nodes-at counts words e i h ∙ cut-node counts (cubesOf words) i))
-
 module _ {words counts : List ℕ} {e : ℕ} (o : Orderly words counts e) where
   all-used : take (countBefore e counts) (cubesOf words) ≡ cubesOf words
   all-used = take-all (countBefore e counts) (cubesOf words) (omega (arith, o .whole))
@@ -127,6 +121,18 @@ module _ {words counts : List ℕ} {e : ℕ} (o : Orderly words counts e) where
         let f = cubesOf words in
         let z = countBefore i (take e counts) in
         omega (arith, ap length (cut-node (take e counts) f i), length-take (getD (take e counts) i 0) (drop z f), length-drop z f, o .few)
+
+    -- the cubes from its place on are its own, and then the next begins
+    module _ (at : ℕ) (h : i < e) (p : at ≡ countBefore i counts) where
+      pub node-part : take ((at + getD counts i 0) - at) (drop at (cubesOf words)) ≡ getD (nodesOf e counts words) i []
+      node-part =
+          let z : (at + getD counts i 0) - at ≡ getD counts i 0 = omega arith in
+          rw (z, p) (sym (nodes-at counts words e i h ∙ cut-node counts (cubesOf words) i))
+
+      pub next-start : (at + getD counts i 0 ≡ countBefore (i + 1) counts) × (at + getD counts i 0 ≤ mostCubes)
+      next-start =
+          let n = start-next counts i at (omega (arith, o .slots)) p in
+          (n, omega (arith, total-take-le (λ c. c) counts (i + 1) e (omega arith), o .whole, o .few))
 
   -- so the numbers stay small
   module _ (a b : List ℕ) where

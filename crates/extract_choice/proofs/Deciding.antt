@@ -3,7 +3,7 @@ use Prim.Native.Nat.{ℕ, _+_, _≤_}
 use mathlib.Core.Path.{_≡_, refl, sym, ap, ap₂, _∙_, subst}
 use mathlib.Core.Logic.{_↔_, inl, inr}
 use mathlib.Core.Bool.{Bool, true, false, cond}
-use mathlib.Core.List.{List, [], _++_, List·Memᴰ·not-nil}
+use mathlib.Core.List.{List, [], append-nil, List·Memᴰ·not-nil}
 use mathlib.Core.Option.{Option, none, some, Option·none-ne-some}
 use native.Mathlib.Omega.{arith}
 use lib.IntN.{pos}
@@ -68,8 +68,8 @@ pub all-judged : {words counts : List ℕ} {e : ℕ} → Orderly words counts e 
     → (n : Net) → Nodes (nodesOf e counts words) n → Wins n (candidates n) t
 all-judged {words} o s r t z g h n c =
     let own = words-flat o in
-    let pairs = g .leads n (ap flat c ∙ sym own) [] (λ d m. m) (nothing z (λ d m. absurd (List·Memᴰ·not-nil m))) in
-    let sums = h .leads n c (pairsIn (literalsFrom 0) ++ []) (λ d m. absurd (List·Memᴰ·not-nil m)) pairs in
+    let pairs = rw append-nil at (g .leads n (ap flat c ∙ sym own) [] (λ d m. m) (nothing z (λ d m. absurd (List·Memᴰ·not-nil m)))) in
+    let sums = h .leads n c (pairsIn (literalsFrom 0)) (λ d m. absurd (List·Memᴰ·not-nil m)) pairs in
     leads-candidates n (λ d m.
     let k = subst (d ∈_) (ap flat c ∙ sym own) m in
     (all-out asc k (cubes-asc words), λ p i. cubes-inside words k p (mem-of i))) t (rw c sums)

@@ -1,21 +1,20 @@
 -- Divisors judged one after the other: the step that is held leads those judged so far. Assumes nothing.
-use mathlib.Core.Path.{_≡_, refl, sym, ap, _∙_, subst}
+use mathlib.Core.Path.{_≡_, refl, sym, _∙_, subst}
 use mathlib.Core.Logic.{inl, inr}
-use mathlib.Core.Bool.{Bool, true, false, cond, _&&_}
+use mathlib.Core.Bool.{Bool, true, false, cond}
 use mathlib.Core.List.{List, [], _∷_, _++_, append-assoc, List·Memᴰ·head as here, List·Memᴰ·tail as there, List·Memᴰ·not-nil}
 use mathlib.Core.List.{List·Memᴰ·eq-of-singleton, List·Memᴰ·cases-cons, Memᴰ·append-left, Memᴰ·append-right, List·Memᴰ·append-cases}
 use lib.IntN.{pos}
 use lib.Signed.{ltZ}
-use Rattle.sets.specs.Sets.{lex}
 use Rattle.sets.proofs.Truth.{decided, clash}
 use Rattle.sets.proofs.Lists.{_∈_}
 use Rattle.sets.proofs.Orders.{asym, not-after}
 use Rattle.network.specs.Net.{Net}
 use Rattle.extract_laws.specs.Divisor as extraction
 use Rattle.extract_laws.specs.Extract.{weight, sooner, better}
-use Rattle.extract_laws.specs.Run.{Weighed, weighing}
+use Rattle.extract_laws.specs.Run.{weighing}
 use Rattle.extract_laws.proofs.Choosing.{heavier-order, better-order}
-use Rattle.extract_divisor.specs.Divisor.{divisorOf, weighedOf}
+use Rattle.extract_divisor.specs.Divisor.{weighedOf}
 use Rattle.extract_divisor.specs.declared.Step.{Step}
 use Rattle.extract_rank.specs.Rank.{outweighs, taken}
 use Rattle.extract_choice.specs.Parts.{Wins, Adds}
@@ -43,25 +42,14 @@ module _ (n : Net) where
   leads-same l m s to back (first d i e a h) =
       first d (to d i a) e a (λ g j. elim (decided (ltZ (pos 0) (weight n g))) [ inl b ↦ h g (back g j b) | inr b ↦ low-not-better g d b a ])
 
-  -- divisors whose weight is not above 0 change nothing
-  pub leads-low : (new l : List extraction.Divisor) (s : Step) → ((e : extraction.Divisor) → e ∈ new → ltZ (pos 0) (weight n e) ≡ false) → Wins n l s
-      → Wins n (new ++ l) s
-  leads-low new l s k =
-      leads-same l (new ++ l) s (λ e m a. Memᴰ·append-right new m) (λ e m a. elim (List·Memᴰ·append-cases new m) [ inl i ↦ clash a (k e i) | inr i ↦ i ])
-
-  -- nor do divisors that are there already
-  pub leads-known : (new l : List extraction.Divisor) (s : Step) → ((e : extraction.Divisor) → e ∈ new → e ∈ l) → Wins n l s → Wins n (new ++ l) s
-  leads-known new l s k =
-      leads-same l (new ++ l) s (λ e m a. Memᴰ·append-right new m) (λ e m a. elim (List·Memᴰ·append-cases new m) [ inl i ↦ k e i | inr i ↦ i ])
+  -- divisors that are there already, or whose weight is not above 0, change nothing
+  pub leads-with : (new l : List extraction.Divisor) (s : Step) → ((e : extraction.Divisor) → e ∈ new → ltZ (pos 0) (weight n e) ≡ true → e ∈ l)
+      → Wins n l s → Wins n (new ++ l) s
+  leads-with new l s k =
+      leads-same l (new ++ l) s (λ e m a. Memᴰ·append-right new m) (λ e m a. elim (List·Memᴰ·append-cases new m) [ inl i ↦ k e i a | inr i ↦ i ])
 
   -- the better of the two leads the divisors judged so far and the new one
   module _ (d : extraction.Divisor) (l : List extraction.Divisor) (s t : Step) (e : weighedOf t ≡ weighing n d) where
-    tw : t .weight ≡ weight n d
-    tw = ap (λ (m : Weighed). m .weight) e
-
-    td : divisorOf (t .divisor) ≡ d
-    td = ap (λ (m : Weighed). m .divisor) e
-
     -- the new one is taken
     fresh : ltZ (pos 0) (weight n d) ≡ true → ((g : extraction.Divisor) → g ∈ l → better n g d ≡ false) → Wins n (d ∷ l) t
     fresh a h = first d (here refl) e a (λ g i. elim (List·Memᴰ·cases-cons i) [ inl q ↦ rw q (better-order n .irrefl d) | inr j ↦ h g j ])
@@ -73,20 +61,18 @@ module _ (n : Net) where
     against g i q a h k false p = first g (there i) q a (λ x j. elim (List·Memᴰ·cases-cons j) [ inl y ↦ rw y p | inr y ↦ h x y ])
 
     above : ltZ (pos 0) (t .weight) ≡ true → ltZ (pos 0) (weight n d) ≡ true
-    above k = rw (← tw) k
+    above k = (λ i. ltZ (pos 0) (sym e i .weight)) ∙ k
 
     taken-better : ltZ (pos 0) (t .weight) ≡ true → (g : extraction.Divisor) → weighedOf s ≡ weighing n g → cond (better n d g) t s ≡ taken s t
     unfolding taken better outweighs
     taken-better k g q =
-        let sw : s .weight ≡ weight n g = ap (λ (m : Weighed). m .weight) q in
-        let sd : divisorOf (s .divisor) ≡ g = ap (λ (m : Weighed). m .divisor) q in
-        sym ((λ i. cond (ltZ (pos 0) (tw i) && lex (λ u v. ltZ v u) (tw i) (sw i) (sooner (td i) (sd i))) t s) ∙ rw (above k))
+        sym ((λ i. cond (outweighs (e i .weight) (q i .weight) (sooner (e i .divisor) (q i .divisor))) t s) ∙ rw (above k))
 
     pub leads-taken : Wins n l s → Wins n (d ∷ l) (taken s t)
     unfolding taken outweighs
     leads-taken h = elim (decided (ltZ (pos 0) (t .weight))) [
       | inl k ↦ go k h
-      | inr k ↦ rw k (leads-low (d ∷ []) l s (λ g i. rw (List·Memᴰ·eq-of-singleton i, ← tw) k) h)
+      | inr k ↦ rw k (leads-with (d ∷ []) l s (λ g i a. clash (rw (List·Memᴰ·eq-of-singleton i) at a) ((λ j. ltZ (pos 0) (sym e j .weight)) ∙ k)) h)
     ]
       where
         go : ltZ (pos 0) (t .weight) ≡ true → Wins n l s → Wins n (d ∷ l) (taken s t)

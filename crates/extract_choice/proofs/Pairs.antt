@@ -3,7 +3,7 @@ use Prim.Native.Nat.{ℕ, zero, suc, _+_, _*_, _-_, _<_, _≤_}
 use mathlib.Core.Path.{_≡_, refl, sym, ap, _∙_}
 use mathlib.Core.Logic.{inl, inr}
 use mathlib.Core.Bool.{Bool, true, false, _&&_}
-use mathlib.Core.List.{List, [], _∷_, _++_, map, List·Memᴰ·head as here, List·Memᴰ·tail as there, List·Memᴰ·not-nil, Memᴰ·append-left}
+use mathlib.Core.List.{List, [], _∷_, _++_, map, List·Memᴰ·head as here, List·Memᴰ·tail as there, Memᴰ·append-left}
 use mathlib.Core.List.{Memᴰ·append-right, List·Memᴰ·append-cases}
 use native.Mathlib.Omega.{arith}
 use lib.ListN.{length}
@@ -29,7 +29,7 @@ use Rattle.extract_rank.specs.Rank.{taken}
 use Rattle.extract_choice.specs.Parts.{stepOf, Wins, Adds, Cubes, literalsFrom}
 use Rattle.extract_choice.proofs.Ties.{not-above}
 use Rattle.extract_choice.proofs.Counting.{counted-flat, flat-in}
-use Rattle.extract_choice.proofs.Judging.{leads-low, leads-same, leads-taken}
+use Rattle.extract_choice.proofs.Judging.{leads-with, leads-same, leads-taken}
 
 -- ---- cubes of one or two literals
 
@@ -63,9 +63,9 @@ module _ (f : List (List ℕ)) where
   pub pairs-low : (p : ℕ) (l : List ℕ) (s : Step) → length (keep (sub (p ∷ [])) f) ≤ 2 → Adds (Cubes f) [] (map (pair p) l) s s
   unfolding weight sub
   pairs-low p l s h = record {
-    leads = λ n c m k g. leads-low n (map (pair p) l) m s (λ d i.
+    leads = λ n c m k g. leads-with n (map (pair p) l) m s (λ d i a.
         let r = map-out (pair p) l i in
-        rw (r .2) (not-above (allUses n (pair p (r .0))) 2 (omega (
+        clash (rw (r .2) at a) (not-above (allUses n (pair p (r .0))) 2 (omega (
           arith,
           pair-all n f c p (r .0),
           keep-le (sub (p ∷ r .0 ∷ [])) (sub (p ∷ [])) f (λ x i t. together (mem p x) true ((both (mem p x) (mem (r .0) x && true) t) .0) refl),
@@ -118,19 +118,12 @@ module _ (n : Net) (w : (c : List ℕ) → c ∈ flat (nodes n) → (asc c ≡ t
       rw x (pairs-made (literalsFrom 0) (from-asc 0 (2 * width)) (reached p (below p y)) (reached q (below q z)) l)
 
   -- what leads all sums and all pairs of literals leads the candidates
-  pub leads-candidates : (s : Step) → Wins n (gather sumsIn (nodes n) ++ (pairsIn (literalsFrom 0) ++ [])) s → Wins n (candidates n) s
+  pub leads-candidates : (s : Step) → Wins n (gather sumsIn (nodes n) ++ pairsIn (literalsFrom 0)) s → Wins n (candidates n) s
   unfolding candidates
-  leads-candidates s h =
+  leads-candidates s =
       let sums = gather sumsIn (nodes n) in
       let pairs = gather (gather pairsIn) (nodes n) in
-      let all-pairs = pairsIn (literalsFrom 0) in
-      leads-same n (sums ++ (all-pairs ++ [])) (pairs ++ sums) s
-      (λ e m a. elim (List·Memᴰ·append-cases sums m) [
-        | inl i ↦ Memᴰ·append-right pairs i
-        | inr i ↦ elim (List·Memᴰ·append-cases all-pairs i) [ inl j ↦ Memᴰ·append-left sums (pair-candidate e j a) | inr j ↦ absurd (List·Memᴰ·not-nil j) ]
-      ])
-      (λ e m a. elim (List·Memᴰ·append-cases pairs m) [
-        | inl i ↦ Memᴰ·append-right sums (Memᴰ·append-left [] (candidate-pair e i))
-        | inr i ↦ Memᴰ·append-left (all-pairs ++ []) i
-      ])
-      h
+      let literals = pairsIn (literalsFrom 0) in
+      leads-same n (sums ++ literals) (pairs ++ sums) s
+      (λ e m a. elim (List·Memᴰ·append-cases sums m) [ inl i ↦ Memᴰ·append-right pairs i | inr i ↦ Memᴰ·append-left sums (pair-candidate e i a) ])
+      (λ e m a. elim (List·Memᴰ·append-cases pairs m) [ inl i ↦ Memᴰ·append-right sums (candidate-pair e i) | inr i ↦ Memᴰ·append-left literals i ])

@@ -13,7 +13,7 @@ use lib.Signed.{ltZ}
 use borrow.Author.Tests.{ltb-true}
 use Rattle.sets.specs.Lists.{isNil, any, all, keep, total}
 use Rattle.sets.specs.Sets.{mem, sub, apart, asc, without, before}
-use Rattle.sets.proofs.Truth.{both, decided}
+use Rattle.sets.proofs.Truth.{both, decided, clash}
 use Rattle.sets.proofs.Lists.{_∈_, any-out, all-out, keep-in, keep-all, keep-le, total-map, total-le, total-keep-le}
 use Rattle.sets.proofs.Places.{drop-next}
 use Rattle.sets.proofs.Sets.{without-none, sub-refl}
@@ -38,7 +38,7 @@ use Rattle.extract_divisor.specs.declared.Step.{Step}
 use Rattle.extract_divisor.specs.declared.Divisor.the-variants.{Sum}
 use Rattle.extract_rank.specs.Rank.{taken}
 use Rattle.extract_choice.specs.Parts.{stepOf, Adds, Nodes, Orderly, Alone, Tallied}
-use Rattle.extract_choice.proofs.Judging.{leads-taken, leads-low, leads-known, adds-none}
+use Rattle.extract_choice.proofs.Judging.{leads-with, leads-taken, adds-none}
 use Rattle.extract_choice.proofs.Counting.{kept-flat, counted-flat, words-flat, uses-few, literals-few}
 use Rattle.extract_choice.proofs.Ties.{not-above}
 
@@ -86,13 +86,13 @@ sum-known a b w f h k =
     let o = sum-of-in c (other a b c) (ap small p ∙ w .small-a) (ap small q ∙ w .small-b) (ap₂ before p q ∙ w .ordered) in
     sums-made f (sum a b) i (u .partner)
     (λ e. parts-differ a b (w .small-a) (w .disjoint) (sym p ∙ ap₂ without e (sym e) ∙ q))
-    (Memᴰ·cast (sym (ap₂ sum p q)) (o .0)) (Memᴰ·cast (sym (ap₂ sum p q)) (o .1))
+    (rw (p, q) at (o .0)) (rw (p, q) at (o .1))
 
 -- and need not be judged again
 pub sum-again : (p : Net → Type 0) (ws a b : List ℕ) (s : Step) → Parts a b → any (useOf a b (cubesOf ws)) (cubesOf ws) ≡ true
     → Adds p (sumsIn (cubesOf ws)) (sum a b ∷ []) s s
 sum-again p ws a b s w h = record {
-  leads = λ n c l k g. leads-known n (sum a b ∷ []) l s (λ e m. k e
+  leads = λ n c l k g. leads-with n (sum a b ∷ []) l s (λ e m i. k e
       (Memᴰ·cast (List·Memᴰ·eq-of-singleton m) (sum-known a b w (cubesOf ws) (cubes-asc ws) h))) g;
 }
 
@@ -192,7 +192,7 @@ unfolding sumOf smallerFirst without apart
 lone-judged o known c d s h t v = record {
   leads = λ n q l k g.
       let w : Alone (flat (nodes n)) c = rw (q, ← words-flat o) h in
-      let low = leads-low n (sum c d ∷ []) l s (λ x m. rw (List·Memᴰ·eq-of-singleton m) (lone-low n c d w)) g in
+      let low = leads-with n (sum c d ∷ []) l s (λ x m a. clash (rw (List·Memᴰ·eq-of-singleton m) at a) (lone-low n c d w)) g in
       rw (keep-all (λ x. not (mem x d)) c v, keep-all (λ x. not (mem x c)) d (apart-flip c d v), t)
       (elim (decided (small c && small d)) [ inl z ↦ rw z low | inr z ↦ rw z g ]);
 }

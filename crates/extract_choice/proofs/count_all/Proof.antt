@@ -5,13 +5,11 @@ use mathlib.Core.List.{List, []}
 use native.Mathlib.Omega.{arith}
 use borrow.Author.Needs.{needs}
 use lib.ListN.{getD}
-use Rattle.sets.proofs.Lists.{total-take-le}
 use Rattle.cube.specs.Cube.{lits}
 use Rattle.expression.specs.Words.{cubesOf}
 use Rattle.network.specs.Parts.{nodesOf}
 use Rattle.network_nodes.specs.Nodes.{countBefore}
-use Rattle.network_nodes.proofs.Starting.{start-next}
-use Rattle.extract_choice.proofs.Counting.{nodes-many, node-part, node-few, node-ordered, uses-few, literals-few, CountingAll, all-none}
+use Rattle.extract_choice.proofs.Counting.{nodes-many, node-part, next-start, node-few, node-ordered, uses-few, literals-few, CountingAll, all-none}
 use Rattle.extract_choice.proofs.Counting.{all-more, all-counted}
 use Rattle.extract_choice.proofs.count_all.Statement.{statement}
 use Rattle.extract_choice.proofs.count_all.Tie as tie
@@ -33,15 +31,9 @@ passed c = c .before .before .before .before
 abbrev held : tie.At-loop Inv-loop μ-loop → List (List (List ℕ))
 held l = nodesOf (start l .args .e) (start l .args .counts .now) (start l .args .words .now)
 
--- where the next node begins
-next-at : (c : tie.In-loop Inv-loop μ-loop) → c .before .loop .at + getD (start (c .before) .args .counts .now) (c .before .loop .i) 0
-    ≡ countBefore (c .before .loop .i + 1) (start (c .before) .args .counts .now)
-next-at c = let l = c .before in start-next (start l .args .counts .now) (l .loop .i) (l .loop .at) (omega (arith, start l .pre .slots)) (l .loop .inv .1)
-
 -- the part is node i
 node : (c : tie.After-part Inv-loop μ-loop) → cubesOf (c .part .result .now) ≡ getD (held (c .before .before .before)) (c .before .before .before .loop .i) []
-node c = let l = c .before .before .before in c .part .ensures .0
-    ∙ node-part (start l .args .counts .now) (start l .args .words .now) (start l .args .e) (l .loop .i) (l .loop .at) _ (omega arith) (l .loop .inv .1) refl
+node c = let l = c .before .before .before in c .part .ensures .0 ∙ node-part (start l .pre) (l .loop .i) (l .loop .at) (omega arith) (l .loop .inv .1)
 
 more : (c : tie.After-count-in Inv-loop μ-loop) → CountingAll (lits (start (passed c) .args .a)) (lits (start (passed c) .args .b)) (held (passed c))
     (passed c .loop .i + 1) (passed c .loop .uses + c .count-in .result .uses) (passed c .loop .literals + c .count-in .result .literals)
@@ -51,10 +43,7 @@ more c =
     (rw (node (c .before)) at (c .count-in .ensures))
 
 add-next : tie.Need-add-next Inv-loop μ-loop
-add-next c =
-    let l = c .before .before in
-    let s = start l in
-    omega (arith, next-at (c .before), total-take-le (λ n. n) (s .args .counts .now) (l .loop .i + 1) (s .args .e) (omega arith), s .pre .whole, s .pre .few)
+add-next c = let l = c .before .before in omega (arith, next-start (start l .pre) (l .loop .i) (l .loop .at) (omega arith) (l .loop .inv .1))
 
 count-in-requires : tie.Need-count-in-requires Inv-loop μ-loop
 count-in-requires c κs = let l = c .before .before .before in
@@ -68,7 +57,10 @@ add-literals c = let s = start (passed (c .before .before)) in
     omega (arith, more (c .before .before), literals-few (s .pre) (lits (s .args .a)) (lits (s .args .b)))
 
 loop-again : tie.Need-loop-again Inv-loop μ-loop
-loop-again c = let n = c .before .before in (omega arith, next-at (n .before .before .before), more n)
+loop-again c =
+    let n = c .before .before in
+    let l = passed n in
+    (omega arith, next-start (start l .pre) (l .loop .i) (l .loop .at) (omega arith) (l .loop .inv .1) .0, more n)
 
 returns : tie.Need-returns Inv-loop μ-loop
 returns c = let l = c .before in all-counted _ _ _ _ _ _ (l .loop .inv .2) (omega (arith, nodes-many (start l .pre)))
