@@ -223,15 +223,15 @@ from-next zero (b ∷ l) h = absurd (omega arith)
 from-next (suc n) l h = ap (valueOf (take 8 (l ++ replicate 8 false)) ∷_) (from-next n (drop 8 l) (omega (arith, length-drop 8 l)))
 
 -- a new byte where the others are full
-pub bytes-more-new : (l : List Bool) (b : Bool) → length l % 8 ≡ 0 → bytesOf (l ++ (b ∷ [])) ≡ bytesOf l ++ (cond b 128 0 ∷ [])
+pub bytes-more-new : (l : List Bool) (b : Bool) → length l % 8 ≡ 0 → bytesOf (l ++ (b ∷ [])) ≡ bytesOf l ++ (cond b (2 ^ 7) 0 ∷ [])
 bytes-more-new l b h =
     let e : bytesFor (length (l ++ (b ∷ []))) ≡ suc (length l / 8) = omega (arith, length-append l (b ∷ [])) in
     let n : bytesFor (length l) ≡ length l / 8 = omega arith in
     let k : length (bytesFrom (length l / 8) l) ≡ length l / 8 = from-length (length l / 8) l in
     ap (λ i. bytesFrom i (l ++ (b ∷ []))) e ∙ from-more (suc (length l / 8)) l b
     ∙ rw (from-next (length l / 8) l (omega arith), getD-at (bytesFrom (length l / 8) l) 0 [] 0 (length l / 8) k, h, n)
-    (set-at (bytesFrom (length l / 8) l) 0 [] (0 + cond b 128 0) (length l / 8) k
-    ∙ ap (λ x. bytesFrom (length l / 8) l ++ (x ∷ [])) (zero-add (cond b 128 0)))
+    (set-at (bytesFrom (length l / 8) l) 0 [] (0 + cond b (2 ^ 7) 0) (length l / 8) k
+    ∙ ap (λ x. bytesFrom (length l / 8) l ++ (x ∷ [])) (zero-add (cond b (2 ^ 7) 0)))
 
 -- else the last byte gets the bit
 pub bytes-more-old : (l : List Bool) (b : Bool) → (length l % 8 ≡ 0 → ⊥)
