@@ -9,7 +9,7 @@ use lib.ListN.{length, getD, set, replicate, length-set, length-replicate}
 use lib.Seq.{getD-set-same, getD-set-other}
 use borrow.Author.Tests.{eqb-true, eqb-false}
 use Rattle.sets.proofs.Truth.{decided}
-use Rattle.network.specs.Held.{mostVariables}
+use Rattle.network.specs.Held.{mostVariables, numberAt}
 use Rattle.image_number.specs.Parts.{Wide, Itself, Numbers, Placing}
 
 -- a store, read
@@ -37,36 +37,32 @@ wide-zeros = record { whole = length-replicate {A = ℕ} mostVariables 0; small 
 -- ---- each at its own
 
 pub itself-none : Itself 0 (replicate mostVariables 0)
-itself-none = record { wide = wide-zeros; each = λ v h. absurd (omega arith) }
+itself-none = record { span = wide-zeros; each = λ v h. absurd (omega arith) }
 
 pub itself-next : (e : ℕ) (ps : List ℕ) → e < mostVariables → Itself e ps → Itself (e + 1) (set ps e e)
 itself-next e ps h i = record {
-  wide = wide-set ps (i .wide) e e h h;
-  each = λ v k. elim (stored ps e e v (omega (arith, i .wide .whole))) [ inl (p, q) ↦ q ∙ sym p | inr (p, q) ↦ q ∙ i .each v (go v k p) ];
+  span = wide-set ps (i .span) e e h h;
+  each = λ v k. elim (stored ps e e v (omega (arith, i .span .whole))) [ inl (p, q) ↦ q ∙ sym p | inr (p, q) ↦ q ∙ i .each v (omega arith) ];
 }
-  where
-    go : (v : ℕ) → v < e + 1 → (v ≡ e → ⊥) → v < e
-    go v k p = elim (decided (eqb v e)) [ inl t ↦ absurd (p (eqb-true v e t)) | inr t ↦ let f = eqb-false v e t in omega arith ]
 
 -- ---- then the divisors
 
 pub placing-none : (n : ℕ) (order ps : List ℕ) → n ≤ mostVariables → Itself mostVariables ps → Placing n 0 order ps
-placing-none n order ps h i = record { wide = i .wide; inputs = λ v k. i .each v (omega arith); divisors = λ j k. absurd (omega arith) }
+placing-none n order ps h i = record { span = i .span; inputs = λ v k. i .each v (omega arith); divisors = λ j k. absurd (omega arith) }
 
 pub placing-next : (n k : ℕ) (order ps : List ℕ) (i : ℕ) → Numbers n k order → i < k → Placing n i order ps
-    → Placing n (i + 1) order (set ps (getD order i 0) (n + i))
-placing-next n k order ps i z h p =
+    → {x : ℕ} → x ≡ numberAt n i → Placing n (i + 1) order (set ps (getD order i 0) x)
+placing-next n k order ps i z h p {x} f =
     let v = getD order i 0 in
     let r = z .range i h in
-    let inside : v < length ps = omega (arith, r .1, p .wide .whole) in
+    let inside : v < length ps = omega (arith, r .1, p .span .whole) in
     record {
-      wide = wide-set ps (p .wide) v (n + i) (r .1) (omega (arith, z .variables));
-      inputs = λ u b. elim (stored ps v (n + i) u inside) [ inl (e, q) ↦ absurd (omega (arith, r .0)) | inr (e, q) ↦ q ∙ p .inputs u b ];
+      span = wide-set ps (p .span) v x (r .1) (omega (arith, z .variables));
+      inputs = λ u b. elim (stored ps v x u inside) [ inl (e, q) ↦ absurd (omega (arith, r .0)) | inr (e, q) ↦ q ∙ p .inputs u b ];
       divisors = λ j b. elim (decided (eqb j i)) [
-        | inl t ↦ let e : j ≡ i = eqb-true j i t in rw e (getD-set-same ps v (n + i) 0 inside)
+        | inl t ↦ let e : j ≡ i = eqb-true j i t in rw e (getD-set-same ps v x 0 inside ∙ f)
         | inr t ↦
-            let f = eqb-false j i t in
-            let l : j < i = omega arith in
-            getD-set-other ps v (getD order j 0) (n + i) 0 (λ e. z .apart j i l h e) ∙ p .divisors j l
+            let l : j < i = omega (arith, eqb-false j i t) in
+            getD-set-other ps v (getD order j 0) x 0 (λ e. z .apart j i l h e) ∙ p .divisors j l
       ];
     }

@@ -95,12 +95,8 @@ module _ {n m k : ℕ} {words counts order : List ℕ} (b : Numberable n m k wor
   }
 
   module _ (i : ℕ) (h : i < m + k) where
-    pub sourced : Sourced n m i order
-    sourced = record {
-      outputs = sized .narrow;
-      counted = λ l. omega (arith, ordered .counted);
-      above = λ l. (ordered .numbers (i - m) (omega arith)) .0;
-    }
+    pub source-ready : Sourced m i order
+    source-ready = record { outputs = sized .narrow; counted = λ l. omega (arith, ordered .counted) }
 
     pub source-in : sourceOf n m i order < m + k
     source-in = go (decided (ltb i m))

@@ -12,17 +12,22 @@ use Rattle.sets.specs.Sets.{mem, asc, insert, union, without, firstFrom}
 use Rattle.sets.proofs.First.{some-not-none}
 use Rattle.sets.proofs.Removal.{without-here, without-absent}
 use Rattle.sets.proofs.Sets.{head-once, insert-mem, insert-asc, union-mem, union-asc, union-comm, ext}
-use Rattle.cube.specs.Cube.{joined, width}
+use Rattle.cube.specs.Cube.{lits, answer, joined, width}
+use Rattle.cube.specs.declared.Cube.{Cube}
+use Rattle.cube.specs.declared.Found.{Found}
+use Rattle.cube.specs.declared.Found.the-variants.{At, Nothing}
+use Rattle.cube.specs.declared.Literal.{Literal}
+use Rattle.cube.proofs.Lits.{lits-asc, first-inside}
 use Rattle.image_number.specs.Parts.{Wide, literalBy, cubeBy}
 
 -- ---- the smallest literal and the others
 
-pub first-none : (c : List ℕ) → firstFrom 0 c ≡ none → c ≡ []
+first-none : (c : List ℕ) → firstFrom 0 c ≡ none → c ≡ []
 unfolding firstFrom
 first-none [] h = refl
 first-none (x ∷ c) h = some-not-none {x = x} (cond (leb 0 x) (some x) (firstFrom 0 c)) (rw (le-leb 0 x (omega arith))) h
 
-pub first-some : (c : List ℕ) (x : ℕ) → asc c ≡ true → firstFrom 0 c ≡ some x → c ≡ x ∷ without c (x ∷ [])
+first-some : (c : List ℕ) (x : ℕ) → asc c ≡ true → firstFrom 0 c ≡ some x → c ≡ x ∷ without c (x ∷ [])
 unfolding firstFrom
 first-some [] x a h = some-not-none {x = x} none h refl
 first-some (y ∷ c) x a h =
@@ -35,9 +40,23 @@ joined-one : (x : ℕ) (e : List ℕ) → x < 2 * width → e ≡ [] → joined 
 unfolding insert
 joined-one x e h z = rw (z, lt-ltb x (2 * width) h)
 
--- the smallest taken off
-pub rest-next : (c e o d : List ℕ) (x : ℕ) → asc c ≡ true → firstFrom 0 c ≡ some x → x < 2 * width → e ≡ [] → o ≡ joined x e → d ≡ without c o → c ≡ x ∷ d
-rest-next c e o d x a h s z p q = first-some c x a h ∙ ap (x ∷_) (ap (without c) (sym (p ∙ joined-one x e s z)) ∙ sym q)
+-- what is found in a cube is its smallest literal, and the cube is that literal and what is left
+module _ (c : Cube) {f : Found} (h : answer f ≡ firstFrom 0 (lits c)) where
+  pub taken-none : f ≡ Nothing → lits c ≡ []
+  taken-none e = first-none (lits c) (sym h ∙ ap answer e)
+
+  module _ {l : Literal} (e : f ≡ At l) where
+    told : firstFrom 0 (lits c) ≡ some (l .0)
+    told = sym h ∙ ap answer e
+
+    pub taken-small : l .0 < 2 * width
+    taken-small = first-inside c 0 (l .0) (sym told)
+
+    pub taken-some : lits c ≡ l .0 ∷ without (lits c) (l .0 ∷ [])
+    taken-some = first-some (lits c) (l .0) (lits-asc c) told
+
+    pub taken-next : {a b d : List ℕ} → a ≡ [] → b ≡ joined (l .0) a → d ≡ without (lits c) b → lits c ≡ l .0 ∷ d
+    taken-next {a} z p q = taken-some ∙ ap (l .0 ∷_) (ap (without (lits c)) (sym (p ∙ joined-one (l .0) a taken-small z)) ∙ sym q)
 
 -- ---- the new literal
 

@@ -8,7 +8,7 @@ use lib.ListN.{length, getD}
 use Rattle.sets.specs.Sets.{insert}
 use Rattle.expression.specs.Expression.{sort}
 use Rattle.network.specs.Listing.{listing}
-use Rattle.network.specs.Held.{mostOutputs, mostVariables, rules}
+use Rattle.network.specs.Held.{mostOutputs, mostVariables, numberAt, placeAt, rules}
 use Rattle.network.specs.Answers.{padded}
 use Rattle.network.specs.Handed.{Shaped}
 use Rattle.network.specs.Parts.{heldIn, netAt}
@@ -22,7 +22,7 @@ pub record Wide (ps : List ℕ) : Type 0 where
 
 -- each variable below e is at its own number
 pub record Itself (e : ℕ) (ps : List ℕ) : Type 0 where
-  pub wide : Wide ps
+  pub span : Wide ps
   pub each : (v : ℕ) → v < e → getD ps v 0 ≡ v
 
 -- an order of k numbers from n on, none twice
@@ -34,9 +34,9 @@ pub record Numbers (n k : ℕ) (order : List ℕ) : Type 0 where
 
 -- inputs keep their numbers; the first k of the order take those from n on
 pub record Placing (n k : ℕ) (order ps : List ℕ) : Type 0 where
-  pub wide : Wide ps
+  pub span : Wide ps
   pub inputs : (v : ℕ) → v < n → getD ps v 0 ≡ v
-  pub divisors : (i : ℕ) → i < k → getD ps (getD order i 0) 0 ≡ n + i
+  pub divisors : (i : ℕ) → i < k → getD ps (getD order i 0) 0 ≡ numberAt n i
 
 -- ---- cubes and nodes by them
 
@@ -54,13 +54,12 @@ nodeBy ps f = sort (map (cubeBy ps) f)
 
 -- the old place of the node that comes to stand at place i
 abbrev pub sourceOf : ℕ → ℕ → ℕ → List ℕ → ℕ
-sourceOf n m i order = cond (ltb i m) i (m + (getD order (i - m) 0 - n))
+sourceOf n m i order = cond (ltb i m) i (placeAt n m (getD order (i - m) 0))
 
--- past the outputs there is a number in the order, one of a divisor
-pub record Sourced (n m i : ℕ) (order : List ℕ) : Type 0 where
+-- past the outputs there is a number in the order
+pub record Sourced (m i : ℕ) (order : List ℕ) : Type 0 where
   pub outputs : m ≤ mostOutputs
   pub counted : m ≤ i → i - m < length order
-  pub above : m ≤ i → n ≤ getD order (i - m) 0
 
 -- a network by the rules, and the order of its divisors
 pub record Numberable (n m k : ℕ) (words counts order : List ℕ) : Type 0 where

@@ -42,7 +42,7 @@ fn places_of(order: &[u32], n: usize, k: usize) -> [u32; network::VARIABLES]
     let mut i = 0;
     while i < k {
         let v = order[i] as usize;
-        places[v] = (n + i) as u32;
+        places[v] = network::number_of(n, i) as u32;
         i += 1;
     }
     places
@@ -107,14 +107,14 @@ fn put_node(f: &[u64], places: &[u32], out: &mut [u64], at: usize)
 
 // The node that comes to stand at place i: outputs as they are, then the divisors in their order.
 fn source(order: &[u32], n: usize, m: usize, i: usize) -> usize
-    requires { ⌜ Sourced n m i (now order) ⌝ }
+    requires { ⌜ Sourced m i (now order) ⌝ }
     ensures { λ r. ⌜ r ≡ sourceOf n m i (now (order .entry)) ⌝ }
 {
     if i < m {
         return i;
     }
     let v = order[i - m] as usize;
-    m + (v - n)
+    network::place_of(n, m, v)
 }
 
 // ---- networks

@@ -12,8 +12,9 @@ use Rattle.image_fields.specs.Fields.{bitsOf, fieldBits}
 use Rattle.network_nodes.specs.Nodes.{cut}
 use Rattle.network.specs.Handed.{flat}
 use Rattle.network_nodes.proofs.Cutting.{cut-node, cut-length}
+use Rattle.image_laws.specs.Widths.{editionField, edition1}
 use Rattle.image_laws.specs.Image.{cubeFields, nodeFields, headFields}
-use Rattle.image_laws.proofs.Fielding.{literalBits, literalsBits, cubesBits, literalFields, headed, head-fields, fields-append}
+use Rattle.image_laws.proofs.Fielding.{inputsBits, outputsBits, divisorsBits, literalBits, literalsBits, cubesBits, literalFields, fields-append}
 use Rattle.image_write.specs.Parts.{nodesFrom, bitsFrom}
 
 -- ---- a field
@@ -28,8 +29,9 @@ field-none i v e = rw e
 
 -- ---- the head
 
-pub head-bits : (n m k : ℕ) → fieldBits (headFields n m k) ≡ headed n m k []
-head-bits n m k = sym (append-nil (fieldBits (headFields n m k))) ∙ head-fields n m k []
+pub head-bits : (n m k : ℕ) → fieldBits (headFields n m k) ≡ bitsOf editionField (edition1 .number) ++ (inputsBits n ++ (outputsBits m ++ divisorsBits k))
+unfolding headFields fieldBits
+head-bits n m k = simp append-nil
 
 -- ---- a cube
 

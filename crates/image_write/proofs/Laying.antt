@@ -34,7 +34,7 @@ module _ (o old : List ℕ) (l : List Bool) (b : Bool) (at x : ℕ) (n : length 
       ) in
       let f : drop (bytesFor (length l)) old ≡ getD old (at / 8) 0 ∷ drop (suc (at / 8)) old =
       ap (λ i. drop i old) (ap bytesFor n ∙ q) ∙ drop-cons old (at / 8) 0 h in
-      let v : x ≡ cond b 128 0 = w ∙ ap (λ i. cond b (2 ^ (7 - i)) 0) z in
+      let v : x ≡ cond b (2 ^ 7) 0 = w ∙ ap (λ i. cond b (2 ^ (7 - i)) 0) z in
       ap (λ (u : List ℕ). set u (at / 8) x) (e ∙ ap (bytesOf l ++_) f)
       ∙ set-at (bytesOf l) _ (drop (suc (at / 8)) old) x (at / 8) (size ∙ q)
       ∙ sym (append-assoc (bytesOf l) (x ∷ []) (drop (suc (at / 8)) old))
@@ -78,62 +78,53 @@ module _ (o old : List ℕ) (l : List Bool) (b : Bool) (at x : ℕ) (n : length 
 
 -- ---- bits after bits
 
--- of the bits bs those before the rest are laid, up to bit p
+laid-none : {o : List ℕ} {at : ℕ} → LaidBits o o at at []
+laid-none = record { place = omega arith; adds = λ l old n e. e ∙ ap (λ u. overlaid u old) (sym (append-nil l)) }
+
+laid-then : {o o′ o″ : List ℕ} {at p r : ℕ} {x y : List Bool} → LaidBits o o′ at p x → LaidBits o′ o″ p r y → LaidBits o o″ at r (x ++ y)
+laid-then {x = x} {y = y} g k = record {
+  place = omega (arith, g .place, k .place, length-append x y);
+  adds = λ l old n e. k .adds (l ++ x) old (length-append l x ∙ omega (arith, g .place)) (g .adds l old n e) ∙ ap (λ u. overlaid u old) (append-assoc l x y);
+}
+
+-- of the bits bs the rest is due from bit p on: once it is laid all are, and there is room for it
 pub record Going (o : List ℕ) (at : ℕ) (bs : List Bool) (o′ : List ℕ) (p : ℕ) (rest : List Bool) : Type 0 where
-  pub done : List Bool
-  pub whole : bs ≡ done ++ rest
-  pub laid : LaidBits o o′ at p done
+  pub ends : {o″ : List ℕ} {r : ℕ} → LaidBits o′ o″ p r rest → LaidBits o o″ at r bs
+  pub room : RoomFor o′ p (length rest)
   pub same : length o′ ≡ length o
 
-pub going-all : (o : List ℕ) (at : ℕ) (bs : List Bool) → Going o at bs o at bs
-going-all o at bs = record {
-  done = [];
-  whole = refl;
-  laid = record { place = omega arith; adds = λ l old n e. e ∙ ap (λ u. overlaid u old) (sym (append-nil l)) };
-  same = refl;
-}
+pub going-all : {o : List ℕ} {at : ℕ} (bs : List Bool) → RoomFor o at (length bs) → Going o at bs o at bs
+going-all bs r = record { ends = λ k. k; room = r; same = refl }
 
 module _ {o : List ℕ} {at : ℕ} {bs : List Bool} {o′ : List ℕ} {p : ℕ} where
   pub going-as : {rest rest′ : List Bool} → Going o at bs o′ p rest → rest ≡ rest′ → Going o at bs o′ p rest′
-  going-as g e = record { done = g .done; whole = g .whole ∙ ap (g .done ++_) e; laid = g .laid; same = g .same }
+  going-as g e = subst (Going o at bs o′ p) e g
+
+  -- there is room for the bits that come next
+  pub going-ready : (x rest : List Bool) → Going o at bs o′ p (x ++ rest) → RoomFor o′ p (length x)
+  going-ready x rest g =
+      let q = g .room in
+      let t = length-append x rest in
+      record { bits = q .bits; old = q .old; number = q .number; bytes = q .bytes; room = omega (arith, q .room); short = omega (arith, q .short) }
 
   pub going-next : {o″ : List ℕ} {r : ℕ} {x rest : List Bool} → Going o at bs o′ p (x ++ rest) → LaidBits o′ o″ p r x → length o″ ≡ length o′
       → Going o at bs o″ r rest
-  going-next {x = x} {rest = rest} g k s = record {
-    done = g .done ++ x;
-    whole = g .whole ∙ sym (append-assoc (g .done) x rest);
-    laid = record {
-      place = omega (arith, k .place, g .laid .place, length-append (g .done) x);
-      adds = λ l old n e. k .adds (l ++ g .done) old (length-append l (g .done) ∙ omega (arith, g .laid .place)) (g .laid .adds l old n e)
-          ∙ ap (λ u. overlaid u old) (append-assoc l (g .done) x);
-    };
-    same = s ∙ g .same;
-  }
-
-  -- there is room for the bits that come next
-  pub going-ready : (x rest : List Bool) → Going o at bs o′ p (x ++ rest) → RoomFor o at (length bs) → RoomFor o′ p (length x)
-  going-ready x rest g r =
-      let t : length bs ≡ length (g .done) + (length x + length rest) =
-      ap length (g .whole) ∙ length-append (g .done) (x ++ rest) ∙ ap (length (g .done) +_) (length-append x rest) in
+  going-next {x = x} {rest = rest} g k s =
+      let q = g .room in
+      let t = length-append x rest in
       record {
-        bits = r .bits ++ g .done;
-        old = r .old;
-        number = length-append (r .bits) (g .done) ∙ omega (arith, g .laid .place, r .number);
-        bytes = g .laid .adds (r .bits) (r .old) (r .number) (r .bytes);
-        room = omega (arith, r .room, g .laid .place, g .same);
-        short = omega (arith, r .short, g .laid .place);
+        ends = λ j. g .ends (laid-then k j);
+        room = record {
+          bits = q .bits ++ x;
+          old = q .old;
+          number = length-append (q .bits) x ∙ omega (arith, k .place, q .number);
+          bytes = k .adds (q .bits) (q .old) (q .number) (q .bytes);
+          room = omega (arith, q .room, k .place);
+          short = omega (arith, q .short, k .place);
+        };
+        same = s ∙ g .same;
       }
-
-  pub going-last : {x : List Bool} → Going o at bs o′ p x → RoomFor o at (length bs) → RoomFor o′ p (length x)
-  going-last {x} g r = going-ready x [] (going-as g (sym (append-nil x))) r
-
-  -- what is left is laid in turn
-  pub going-trans : {o″ : List ℕ} {q : ℕ} {rest left : List Bool} → Going o at bs o′ p rest → Going o′ p rest o″ q left → Going o at bs o″ q left
-  going-trans g h = going-next (going-as g (h .whole)) (h .laid) (h .same)
 
   -- all are laid
   pub going-done : Going o at bs o′ p [] → LaidBits o o′ at p bs
-  going-done g = subst (LaidBits o o′ at p) (sym (g .whole ∙ append-nil (g .done))) (g .laid)
-
-pub going-end : {o o′ o″ : List ℕ} {at p r : ℕ} {bs x : List Bool} → Going o at bs o′ p x → LaidBits o′ o″ p r x → length o″ ≡ length o′ → LaidBits o o″ at r bs
-going-end {x = x} g k s = going-done (going-next (going-as g (sym (append-nil x))) k s)
+  going-done g = g .ends laid-none

@@ -9,19 +9,17 @@ use lib.Seq.{take-at, drop-at, take-take, take-add}
 use Rattle.expression.specs.Words.{cubesOf}
 use Rattle.image_fields.specs.Fields.{bytesFor, bytesFrom, fieldBits}
 use Rattle.image_fields.proofs.Bytes.{bytes-length}
-use Rattle.network.specs.Net.{Node, Net, nodes, cubesAt}
-use Rattle.network.specs.Listing.{listing}
+use Rattle.network.specs.Net.{Node, Net, nodes}
 use Rattle.network.specs.Held.{netOf, rules}
 use Rattle.network_nodes.specs.Nodes.{cut}
 use Rattle.network.specs.Handed.{nodeSlots, Shaped, Holds}
 use Rattle.network.specs.declared.Network.{Network}
 use Rattle.expression.specs.declared.Verdict.the-variants.{Refused}
 use Rattle.network.proofs.Handing.{cut-flat, used-held}
-use Rattle.network.proofs.Holding.{rules-sound, rules-outputs, rules-divisors}
-use Rattle.network.proofs.Numbering.{numbered-length}
 use Rattle.network.proofs.Ruling.{rules-lawful}
 use Rattle.network_nodes.proofs.Cutting.{cut-take}
-use Rattle.image_laws.specs.Renumber.{newNode, renumbered}
+use Rattle.image_laws.specs.Renumber.{renumbered}
+use Rattle.image_laws.proofs.Renumbering.{renumbered-lawful}
 use Rattle.image_laws.specs.Widths.{headSize}
 use Rattle.image_laws.specs.Image.{headFields, netFields, netBytes, imageOf}
 use Rattle.image_laws.proofs.Fielding.{divisorCubes, nodeBits, net-bits, net-bits-length, nodes-bits-length}
@@ -74,58 +72,58 @@ module _ (r : Network) (m : Net) (h : Holds r m) where
 
 -- ---- the network renumbered
 
-module _ (n : Network) (shape : Shaped n) (lawful : rules n ≡ true) (r : Network) (h : Holds r (renumbered (netOf n))) where
-  -- it has inputs, outputs and divisors as before
-  pub sizes : (1 ≤ r .inputs) × (1 ≤ r .outputs) × (r .outputs + r .divisors ≤ nodeSlots)
-  unfolding renumbered
+-- a network by the rules, and the struct that holds it renumbered
+pub record Renewed (n r : Network) : Type 0 where
+  pub shape : Shaped n
+  pub lawful : rules n ≡ true
+  pub holds : Holds r (renumbered (netOf n))
+  pub whole : Shaped r
+
+module _ {n r : Network} (w : Renewed n r) where
+  abbrev new : Net
+  new = renumbered (netOf n)
+
+  -- it has inputs and outputs, and no more nodes than there are slots
+  sizes : (1 ≤ r .inputs) × (1 ≤ r .outputs) × (r .outputs + r .divisors ≤ nodeSlots)
   sizes =
-      let f = rules-lawful n shape lawful in
-      let o : r .outputs ≡ n .outputs = h .outputs ∙ length-map ((netOf n) .outputs) _ ∙ rules-outputs n shape lawful in
-      let d : r .divisors ≡ n .divisors = h .divisors ∙ numbered-length (n .inputs) _
-      ∙ length-map (listing (netOf n)) (λ v. newNode (n .inputs) (listing (netOf n)) (cubesAt v ((netOf n) .divisors))) ∙ (rules-sound n lawful) .whole
-      ∙ rules-divisors n shape lawful in
-      let u = rules-outputs n shape lawful in (
-        omega (arith, h .inputs, f .inputs),
-        omega (arith, o, u, f .outputs),
-        omega (arith, o, u, d, f .outputs, f .inputs, f .within .variables, rules-divisors n shape lawful),
-      )
+      let h = w .holds in
+      let f = renumbered-lawful (netOf n) (rules-lawful n (w .shape) (w .lawful)) in
+      let v = f .within .variables in
+      (omega (arith, h .inputs, f .inputs), omega (arith, h .outputs, f .outputs), omega (arith, h .outputs, h .divisors, f .outputs, f .inputs))
 
-  module _ (whole : Shaped r) where
-    pub held : Held (r .words) (r .counts) (r .outputs + r .divisors)
-    held = record { counted = omega (arith, whole .slots, sizes .2); nodes = sizes .2; few = omega (arith, whole .places) }
+  pub there : Held (r .words) (r .counts) (r .outputs + r .divisors)
+  there = record { counted = omega (arith, w .whole .slots, sizes .2); nodes = sizes .2; few = omega (arith, w .whole .places) }
 
-    module _ (o : List ℕ) (bits : ℕ) (b : bits ≡ length (bitsFrom 0 (r .outputs + r .divisors) (r .words) (r .counts))) where
-      image-length : length (imageOf (netOf n)) ≡ bytesFor (headSize + bits)
-      unfolding imageOf netBytes
-      image-length =
-          bytes-length (fieldBits (netFields (renumbered (netOf n))))
-          ∙ ap bytesFor (sym (size-held r (renumbered (netOf n)) h) ∙ ap (headSize +_) (sym b))
+  module _ (o : List ℕ) (bits : ℕ) (b : bits ≡ length (bitsFrom 0 (r .outputs + r .divisors) (r .words) (r .counts))) where
+    image-length : length (imageOf (netOf n)) ≡ bytesFor (headSize + bits)
+    unfolding imageOf netBytes
+    image-length = bytes-length (fieldBits (netFields new)) ∙ ap bytesFor (sym (size-held r new (w .holds)) ∙ ap (headSize +_) (sym b))
 
-      -- 9 where the image is longer
-      pub told-over : length o < bytesFor (headSize + bits) → Told (refusedBy n) (imageOf (netOf n)) o o (wrote.Refused 9)
-      told-over l = rw lawful (told-long _ _ _ (omega (arith, image-length)) refl)
+    -- 9 where the image is longer
+    pub told-over : length o < bytesFor (headSize + bits) → Told (refusedBy n) (imageOf (netOf n)) o o (wrote.Refused 9)
+    told-over l = rw (w .lawful) (told-long _ _ _ (omega (arith, image-length)) refl)
 
-      module _ (l : bytesFor (headSize + bits) ≤ length o) where
-        pub ready : bits ≤ nodeSlots * mostHeldBits → Writable (r .inputs) (r .outputs) (r .divisors) (r .words) (r .counts) o
-        unfolding bytesFrom
-        ready s =
-            let t = ap length (bits-held r (renumbered (netOf n)) h) ∙ sym (size-held r (renumbered (netOf n)) h) in
-            record {
-              inputs = sizes .0;
-              outputs = sizes .1;
-              held = held;
-              ready = record { bits = []; old = o; number = refl; bytes = refl; room = omega (arith, t); short = omega (arith, t) };
-            }
+    module _ (l : bytesFor (headSize + bits) ≤ length o) where
+      pub ready : bits ≤ nodeSlots * mostHeldBits → Writable (r .inputs) (r .outputs) (r .divisors) (r .words) (r .counts) o
+      unfolding bytesFrom
+      ready s =
+          let t = ap length (bits-held r new (w .holds)) ∙ sym (size-held r new (w .holds)) in
+          record {
+            inputs = sizes .0;
+            outputs = sizes .1;
+            there = there;
+            ready = record { bits = []; old = o; number = refl; bytes = refl; room = omega (arith, t); short = omega (arith, t) };
+          }
 
-        -- the image at the front, the rest as it was
-        pub told-written : (o′ : List ℕ) (p : ℕ) → LaidBits o o′ 0 p (allBits (r .inputs) (r .outputs) (r .divisors) (r .words) (r .counts))
-            → Told (refusedBy n) (imageOf (netOf n)) o o′ (wrote.Bytes (bytesFor (headSize + bits)))
-        unfolding bytesFrom imageOf netBytes
-        told-written o′ p k =
-            let w : o′ ≡ imageOf (netOf n) ++ drop (length (imageOf (netOf n))) o =
-            k .adds [] o refl refl ∙ ap (λ (u : List Bool). overlaid u o) (bits-held r (renumbered (netOf n)) h)
-            ∙ ap (λ i. imageOf (netOf n) ++ drop i o) (sym (bytes-length (fieldBits (netFields (renumbered (netOf n)))))) in
-            rw lawful (told-whole _ _ _ _ (omega (arith, image-length)) (sym image-length) w)
+      -- the image at the front, the rest as it was
+      pub told-written : (o′ : List ℕ) (p : ℕ) → LaidBits o o′ 0 p (allBits (r .inputs) (r .outputs) (r .divisors) (r .words) (r .counts))
+          → Told (refusedBy n) (imageOf (netOf n)) o o′ (wrote.Bytes (bytesFor (headSize + bits)))
+      unfolding bytesFrom imageOf netBytes
+      told-written o′ p k =
+          let e : o′ ≡ imageOf (netOf n) ++ drop (length (imageOf (netOf n))) o =
+          k .adds [] o refl refl ∙ ap (λ (u : List Bool). overlaid u o) (bits-held r new (w .holds))
+          ∙ ap (λ i. imageOf (netOf n) ++ drop i o) (sym (bytes-length (fieldBits (netFields new)))) in
+          rw (w .lawful) (told-whole _ _ _ _ (omega (arith, image-length)) (sym image-length) e)
 
 pub told-rule : (n : Network) (o : List ℕ) → rules n ≡ false → Told (refusedBy n) (imageOf (netOf n)) o o (wrote.Refused 10)
 told-rule n o e = rw e (told-before _ _ _)

@@ -13,6 +13,10 @@ use Rattle.network.specs.Handed.{flat, nodeSlots}
 use Rattle.image_laws.specs.Widths.{edition1}
 use Rattle.image_laws.specs.Image.{nodeFields, headFields}
 
+-- the widest field of an image: a cube count
+abbrev pub widest : ℕ
+widest = edition1 .cubes
+
 -- the bytes of the bits at the front of the old bytes
 abbrev pub overlaid : List Bool → List ℕ → List ℕ
 overlaid l old = bytesOf l ++ drop (bytesFor (length l)) old
@@ -56,5 +60,5 @@ pub record Held (words counts : List ℕ) (e : ℕ) : Type 0 where
 pub record Writable (n m k : ℕ) (words counts o : List ℕ) : Type 0 where
   pub inputs : 1 ≤ n
   pub outputs : 1 ≤ m
-  pub held : Held words counts (m + k)
+  pub there : Held words counts (m + k)
   pub ready : RoomFor o 0 (length (allBits n m k words counts))

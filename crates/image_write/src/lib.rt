@@ -18,7 +18,7 @@ ghost use Rattle.image_fields.specs.Fields.{bitsOf, fieldBits};
 ghost use Rattle.image_laws.specs.Image.{cubeFields, nodeFields, headFields, imageOf};
 ghost use Rattle.letters.specs.Told.{Told};
 ghost use Rattle.image_write.specs.Answers.{refusedBy};
-ghost use Rattle.image_write.specs.Parts.{RoomFor, LaidBits, bitsFrom, allBits, mostHeldBits, Held, Writable};
+ghost use Rattle.image_write.specs.Parts.{widest, RoomFor, LaidBits, bitsFrom, allBits, mostHeldBits, Held, Writable};
 
 // ---- fields
 
@@ -52,7 +52,7 @@ fn put_bit(o: &mut [u8], at: usize, b: bool) -> usize
 
 // The lowest w bits of v, the most significant first.
 fn put_field(o: &mut [u8], at: usize, w: usize, v: u64) -> usize
-    requires { ⌜ (w ≤ 64) × RoomFor (now o) at (length (bitsOf w v)) ⌝ }
+    requires { ⌜ (w ≤ widest) × RoomFor (now o) at (length (bitsOf w v)) ⌝ }
     ensures { λ r. ⌜ LaidBits (now (o .entry)) (now (o .exit)) at r (bitsOf w v) ⌝ }
 {
     let mut p = at;

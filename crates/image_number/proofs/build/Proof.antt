@@ -15,7 +15,7 @@ use Rattle.network.specs.Parts.{netAt}
 use Rattle.network.proofs.Laying.{laid-none, laid-more, laid-all}
 use Rattle.image_laws.specs.Renumber.{renumbered}
 use Rattle.image_number.specs.Parts.{cubeBy, nodeBy}
-use Rattle.image_number.proofs.Renumbering.{small, numbers-in, sourced, source-in, size-at, new-many, new-room, new-holds, node-new}
+use Rattle.image_number.proofs.Renumbering.{small, numbers-in, source-ready, source-in, size-at, new-many, new-room, new-holds, node-new}
 use Rattle.image_number.proofs.build.Statement.{statement}
 use Rattle.image_number.proofs.build.Tie as tie
 
@@ -59,7 +59,7 @@ add-loop : tie.Need-add-loop Inv-loop μ-loop
 add-loop c = let z = small (start c .pre) in omega (arith, z .0, z .1)
 
 source-requires : tie.Need-source-requires Inv-loop μ-loop
-source-requires c κs = sourced (start (c .before) .pre) _ (omega arith)
+source-requires c κs = source-ready (start (c .before) .pre) _ (omega arith)
 
 -- the node taken is one of the old ones
 taken : (c : tie.After-source Inv-loop μ-loop) → let s = start (head c) in c .source .result < s .args .m + s .args .k
@@ -73,15 +73,6 @@ mul-size c = let z = small (start (head c) .pre) in omega (arith, taken c, z .0,
 shared-slice-read-size : tie.Need-shared-slice-read-size Inv-loop μ-loop
 shared-slice-read-size c =
     let p = start (head (c .before)) .pre in let z = small p in omega (arith, taken (c .before), z .0, z .1, p .shape .slots)
-
-node-requires : tie.Need-node-requires Inv-loop μ-loop
-node-requires c κs = search needs
-
-slice-aggregate-put-node : tie.Need-slice-aggregate-put-node Inv-loop μ-loop
-slice-aggregate-put-node c = search needs
-
-slice-aggregate-put-node-2 : tie.Need-slice-aggregate-put-node-2 Inv-loop μ-loop
-slice-aggregate-put-node-2 c = search needs
 
 -- it becomes the next of the network renumbered
 becomes : (c : tie.After-out Inv-loop μ-loop) → let h = head (chosen c) in nodeBy (placesAt h) (node c) ≡ getD (fs (start h)) (h .loop .i) []
@@ -108,7 +99,7 @@ put-node-requires : tie.Need-put-node-requires Inv-loop μ-loop
 put-node-requires c κs =
     let h = head (chosen c) in
     let n = sort-length (map (cubeBy (placesAt h)) (node c)) ∙ length-map (node c) (cubeBy (placesAt h)) in
-    (h .before .places-of .ensures .wide, omega (arith, roomy c, n, room-cubes (h .loop .out) cubeSlots (h .loop .inv .1)))
+    (h .before .places-of .ensures .span, omega (arith, roomy c, n, room-cubes (h .loop .out) cubeSlots (h .loop .inv .1)))
 
 mul-sizes : tie.Need-mul-sizes Inv-loop μ-loop
 mul-sizes c = let z = small (start (head (chosen (put (c .before)))) .pre) in omega (arith, z .0, z .1)
@@ -156,9 +147,9 @@ build-spec =
     source-requires
     mul-size
     shared-slice-read-size
-    node-requires
-    slice-aggregate-put-node
-    slice-aggregate-put-node-2
+    (λ c κs. search needs)
+    (λ c. search needs)
+    (λ c. search needs)
     put-node-requires
     mul-sizes
     array-write-sizes

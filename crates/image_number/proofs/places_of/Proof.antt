@@ -1,8 +1,10 @@
 -- `image_number::places_of` meets its contract. The loop's invariant: the divisors passed have the numbers from n on. Assumes nothing.
 use borrow.Author.Needs.{needs}
-use Prim.Native.Nat.{_-_, _≤_}
+use Prim.Native.Nat.{_-_, _<_, _≤_}
 use mathlib.Core.Path.{_≡_, subst}
 use native.Mathlib.Omega.{arith}
+use lib.ListN.{getD}
+use Rattle.network.specs.Held.{mostVariables}
 use Rattle.image_number.specs.Parts.{Placing}
 use Rattle.image_number.proofs.Placing.{placing-none, placing-next}
 use Rattle.image_number.proofs.places_of.Statement.{statement}
@@ -14,47 +16,40 @@ Inv-loop order n k places₀ i₀ places i = (i ≤ k) × Placing n i order plac
 abbrev μ-loop : tie.MeasureT-loop
 μ-loop order n k places₀ i₀ places i = k - i
 
-own-requires : tie.Need-own-requires Inv-loop μ-loop
-own-requires c κs = search needs
-
 loop-holds : tie.Need-loop-holds Inv-loop μ-loop
 loop-holds c = (omega arith, placing-none _ _ _ (omega (arith, c .before .before .pre .variables)) (c .own .ensures))
 
-mul-v : tie.Need-mul-v Inv-loop μ-loop
-mul-v c = search needs
+abbrev start : tie.At-loop Inv-loop μ-loop → tie.Start Inv-loop μ-loop
+start h = h .before .before .before
 
-shared-slice-read-v : tie.Need-shared-slice-read-v Inv-loop μ-loop
-shared-slice-read-v c = search needs
+-- the next number of the order is one of a variable
+inside : (c : tie.In-loop Inv-loop μ-loop) → getD (start (c .before) .args .order .now) (c .before .loop .i) 0 < mostVariables
+inside c = start (c .before) .pre .range (c .before .loop .i) (omega arith) .1
 
 cast-v : tie.Need-cast-v Inv-loop μ-loop
-cast-v c = let r = c .before .before .before .before .before .pre .range (c .before .before .loop .i) (omega arith) in omega (arith, r .1)
-
-add-places : tie.Need-add-places Inv-loop μ-loop
-add-places c = search needs
+cast-v c = omega (arith, inside (c .before))
 
 cast-places : tie.Need-cast-places Inv-loop μ-loop
-cast-places c = search needs
+cast-places c = omega (arith, c .number-of .ensures, start (c .before .before .before) .pre .variables)
 
 mul-places : tie.Need-mul-places Inv-loop μ-loop
-mul-places c = let r = c .before .before .before .before .before .pre .range (c .before .before .loop .i) (omega arith) in omega (arith, r .1)
+mul-places c = omega (arith, inside (c .before .before))
 
 array-write-places : tie.Need-array-write-places Inv-loop μ-loop
-array-write-places c = let r = c .before .before .before .before .before .pre .range (c .before .before .loop .i) (omega arith) in omega (arith, r .1)
-
-add-i : tie.Need-add-i Inv-loop μ-loop
-add-i c = search needs
-
-loop-less : tie.Need-loop-less Inv-loop μ-loop
-loop-less c = search needs
+array-write-places c = omega (arith, inside (c .before .before))
 
 loop-again : tie.Need-loop-again Inv-loop μ-loop
-loop-again c = (omega arith, placing-next _ _ _ _ _ (c .before .before .before .before .before .pre) (omega arith) (c .before .before .loop .inv .1))
+loop-again c =
+    let h = c .before .before .before in
+    let z = start h .pre in
+    (omega arith, placing-next _ _ _ _ _ z (omega arith) (h .loop .inv .1) (omega (arith, c .number-of .ensures, z .variables)))
 
 returns : tie.Need-returns Inv-loop μ-loop
 returns c =
-    let s = c .before .before .before .before in
-    let e : c .before .loop .i ≡ s .args .k = omega arith in
-    subst (λ i. Placing (s .args .n) i (s .args .order .now) (c .before .loop .places)) e (c .before .loop .inv .1)
+    let h = c .before in
+    let a = start h .args in
+    let e : h .loop .i ≡ a .k = omega arith in
+    subst (λ i. Placing (a .n) i (a .order .now) (h .loop .places)) e (h .loop .inv .1)
 
 pub places-of-spec : {M : Type 1} → statement M
 places-of-spec =
@@ -62,16 +57,16 @@ places-of-spec =
     (tie.spec
     Inv-loop
     μ-loop
-    own-requires
+    (λ c κs. search needs)
     loop-holds
-    mul-v
-    shared-slice-read-v
+    (λ c. search needs)
+    (λ c. search needs)
     cast-v
-    add-places
+    (λ c κs. search needs)
     cast-places
     mul-places
     array-write-places
-    add-i
-    loop-less
+    (λ c. search needs)
+    (λ c. search needs)
     loop-again
     returns)

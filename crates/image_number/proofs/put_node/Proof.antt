@@ -9,12 +9,6 @@ use Rattle.image_number.specs.Parts.{cubeBy}
 use Rattle.image_number.proofs.put_node.Statement.{statement}
 use Rattle.image_number.proofs.put_node.Tie as tie
 
-copy-requires : tie.Need-copy-requires
-copy-requires c κs = search needs
-
-number-requires : tie.Need-number-requires
-number-requires c κs = search needs
-
 abbrev start : tie.After-copy → tie.Start
 start y = y .before .before .before .before .before
 
@@ -23,12 +17,6 @@ copied n = n .before .before .before
 
 add-e : tie.Need-add-e
 add-e c = let s = start (copied c) in omega (arith, s .pre .1, c .number .ensures, cubes-few (s .args .out .now))
-
-sort-part-requires : tie.Need-sort-part-requires
-sort-part-requires c κs = search needs
-
-same-length : tie.Need-same-length
-same-length c = search needs
 
 returns : tie.Need-returns
 returns c =
@@ -40,4 +28,4 @@ returns c =
 pub put-node-spec : {M : Type 1} → statement M
 put-node-spec =
     tie.close
-    (tie.spec copy-requires number-requires add-e sort-part-requires same-length returns)
+    (tie.spec (λ c κs. search needs) (λ c κs. search needs) add-e (λ c κs. search needs) (λ c. search needs) returns)

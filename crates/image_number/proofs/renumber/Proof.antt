@@ -12,79 +12,49 @@ use Rattle.image_number.proofs.Renumbering.{rules-order}
 use Rattle.image_number.proofs.renumber.Statement.{statement}
 use Rattle.image_number.proofs.renumber.Tie as tie
 
-judge-requires : tie.Need-judge-requires
-judge-requires c κs = search needs
-
-enum-told : tie.Need-enum-told
-enum-told c = search needs
-
-enum-told-2 : tie.Need-enum-told-2
-enum-told-2 c = search needs
-
-refuse-requires : tie.Need-refuse-requires
-refuse-requires c κs = search needs
-
 returns : tie.Need-returns
 returns c =
     let j = c .before .before .before in
     told-refuses _ _ _ (refused-rules _ _ (sym (j .judge .ensures) ∙ c .before .enum-told2 .given .1)) (c .refuse .ensures)
 
-listing-requires : tie.Need-listing-requires
-listing-requires c κs = search needs
+-- the states: the network is by the rules, its listing is there, all is lent to the building
+abbrev start : tie.After-enum-told → tie.Start
+start e = e .before .before .before
 
-slice-aggregate-build : tie.Need-slice-aggregate-build
-slice-aggregate-build c = search needs
+abbrev kept : tie.After-order → tie.After-enum-told
+kept o = o .before .before
 
-slice-aggregate-build-2 : tie.Need-slice-aggregate-build-2
-slice-aggregate-build-2 c = search needs
+abbrev lent : tie.After-order2 → tie.After-order
+lent l = l .before .before .before .before .before
 
-slice-aggregate-build-3 : tie.Need-slice-aggregate-build-3
-slice-aggregate-build-3 c = search needs
-
--- the states: the listing is there, the network built
-abbrev built : tie.After-build → tie.After-listing
-built b = b .before .before .before .before .before .before .before
-
-abbrev listed : tie.After-listing → tie.After-enum-told
-listed l = l .before
-
--- the network is by the rules
-lawful : (c : tie.After-enum-told) → rules (c .before .before .before .args .n) ≡ true
+lawful : (c : tie.After-enum-told) → rules (start c .args .n) ≡ true
 lawful c = accepted-rules _ (sym (c .before .before .judge .ensures) ∙ c .enum-told .given .1)
 
 build-requires : tie.Need-build-requires
 build-requires c κs =
-    let l = c .before .before .before .before .before .before in
-    record {
-      lawful = lawful (l .before);
-      shape = shape-of _ (search needs) (search needs);
-      listed =
-          rules-order _ (lawful (l .before)) _ (l .listing .ensures);
-    }
-
-hand-requires : tie.Need-hand-requires
-hand-requires c κs = search needs
+    let h = lawful (kept (lent c)) in
+    record { lawful = h; shape = shape-of _ (search needs) (search needs); listed = rules-order _ h _ (lent c .before .listing .ensures) }
 
 returns-2 : tie.Need-returns-2
 returns-2 c =
     let b = c .before in
-    let a = listed (built b) in
-    let m = renumbered (netOf (a .before .before .before .args .n)) in
+    let a = kept (lent (b .before)) in
+    let m = renumbered (netOf (start a .args .n)) in
     told-gives _ m _ (lawful a) (c .hand .ensures .0, subst (λ p. Holds p m) (sym (c .hand .ensures .1)) (b .build .ensures))
 
 pub renumber-spec : {M : Type 1} → statement M
 renumber-spec =
     tie.close
     (tie.spec
-    judge-requires
-    enum-told
-    enum-told-2
-    refuse-requires
+    (λ c κs. search needs)
+    (λ c. search needs)
+    (λ c. search needs)
+    (λ c κs. search needs)
     returns
-    listing-requires
-    slice-aggregate-build
-    slice-aggregate-build-2
-    slice-aggregate-build-3
+    (λ c κs. search needs)
+    (λ c. search needs)
+    (λ c. search needs)
+    (λ c. search needs)
     build-requires
-    hand-requires
+    (λ c κs. search needs)
     returns-2)

@@ -1,42 +1,47 @@
--- `image_write::node_bits` meets its contract. Assumes nothing.
-use Prim.Native.Nat.{_*_, _≤_}
-use Rattle.cube.specs.Cube.{width}
-use Rattle.network.specs.Held.{mostCubes}
+-- `image_write::node_bits` meets its contract: a node of few cubes has few literals. Assumes nothing.
+use Prim.Native.Nat.{ℕ}
+use mathlib.Core.Path.{_≡_, _∙_}
+use mathlib.Core.List.{List}
 use native.Mathlib.Omega.{arith}
 use borrow.Author.Needs.{needs}
-use Rattle.image_write.proofs.Sizing.{node-small, node-size}
+use borrow.Author.Tests.{lt-ltb}
+use Rattle.expression.specs.Words.{cubesOf}
+use Rattle.expression.specs.Expression.{literalsOf}
+use Rattle.expression.proofs.Words.{literals-most}
+use Rattle.image_laws.proofs.Fielding.{node-bits-length}
 use Rattle.image_write.proofs.node_bits.Statement.{statement}
 use Rattle.image_write.proofs.node_bits.Tie as tie
 
-number-requires : tie.Need-number-requires
-number-requires c κs = search needs
+abbrev start : tie.After-literals → tie.Start
+start c = c .before .before .before
+
+abbrev words : tie.After-literals → List ℕ
+words c = start c .args .f .now
 
 mul-cubes : tie.Need-mul-cubes
 mul-cubes c = omega (arith, c .number .ensures, c .before .before .pre)
 
-literals-requires : tie.Need-literals-requires
-literals-requires c κs = search needs
-
--- a node of few cubes has few literals
-little : (c : tie.After-literals) → (c .before .number .result ≤ mostCubes) × (c .literals .result ≤ 2 * width * mostCubes)
-little c = node-small (c .before .before .before .args .f .now) _ _ (c .before .before .before .pre) (c .before .number .ensures) (c .literals .ensures)
+-- nothing is capped
+literals-are : (c : tie.After-literals) → c .literals .result ≡ literalsOf (cubesOf (words c))
+literals-are c =
+    c .literals .ensures ∙ rw (lt-ltb (literalsOf (cubesOf (words c))) 18446744073709551616 (omega (arith, literals-most (words c), start c .pre)))
 
 mul-result : tie.Need-mul-result
-mul-result c = omega (arith, little c)
+mul-result c = omega (arith, literals-are c, literals-most (words c), start c .pre)
 
 add-result : tie.Need-add-result
-add-result c = omega (arith, little c)
+add-result c = omega (arith, literals-are c, literals-most (words c), start c .pre, c .before .number .ensures)
 
 add-result-2 : tie.Need-add-result-2
-add-result-2 c = omega (arith, little c)
+add-result-2 c = omega (arith, literals-are c, literals-most (words c), start c .pre, c .before .number .ensures)
 
 returns : tie.Need-returns
-returns c = (
-  node-size (c .before .before .before .args .f .now) _ _ (c .before .before .before .pre) (c .before .number .ensures) (c .literals .ensures),
-  omega (arith, little c),
-)
+returns c =
+    let n = c .before .number .ensures in
+    let t = literals-are c in
+    (omega (arith, node-bits-length (cubesOf (words c))), omega (arith, literals-most (words c), start c .pre))
 
 pub node-bits-spec : {M : Type 1} → statement M
 node-bits-spec =
     tie.close
-    (tie.spec number-requires mul-cubes literals-requires mul-result add-result add-result-2 returns)
+    (tie.spec (λ c κs. search needs) mul-cubes (λ c κs. search needs) mul-result add-result add-result-2 returns)

@@ -21,22 +21,10 @@ abbrev μ-loop : tie.MeasureT-loop
 loop-holds : tie.Need-loop-holds Inv-loop μ-loop
 loop-holds c = (omega arith, omega arith, omega arith)
 
-node-requires : tie.Need-node-requires Inv-loop μ-loop
-node-requires c κs = search needs
-
 node-bits-requires : tie.Need-node-bits-requires Inv-loop μ-loop
 node-bits-requires c κs =
     let s = c .before .before .before .before .before in
     omega (arith, node-few (s .args .words .now) (s .args .counts .now) (c .before .before .loop .i) _ (c .node .ensures .0), s .pre .few)
-
-add-sum : tie.Need-add-sum Inv-loop μ-loop
-add-sum c = search needs
-
-add-i : tie.Need-add-i Inv-loop μ-loop
-add-i c = search needs
-
-loop-less : tie.Need-loop-less Inv-loop μ-loop
-loop-less c = search needs
 
 loop-again : tie.Need-loop-again Inv-loop μ-loop
 loop-again c =
@@ -62,10 +50,10 @@ nodes-bits-spec =
     Inv-loop
     μ-loop
     loop-holds
-    node-requires
+    (λ c κs. search needs)
     node-bits-requires
-    add-sum
-    add-i
-    loop-less
+    (λ c. search needs)
+    (λ c. search needs)
+    (λ c. search needs)
     loop-again
     returns)

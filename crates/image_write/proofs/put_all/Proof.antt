@@ -7,7 +7,7 @@ use borrow.Author.Needs.{needs}
 use Rattle.image_fields.specs.Fields.{fieldBits}
 use Rattle.image_laws.specs.Image.{headFields}
 use Rattle.image_write.specs.Parts.{bitsFrom, allBits}
-use Rattle.image_write.proofs.Laying.{Going, going-all, going-next, going-ready, going-last, going-end}
+use Rattle.image_write.proofs.Laying.{Going, going-all, going-next, going-ready}
 use Rattle.image_write.proofs.put_all.Statement.{statement}
 use Rattle.image_write.proofs.put_all.Tie as tie
 
@@ -21,48 +21,44 @@ divisors s = bitsFrom (s .args .m) (s .args .m + s .args .k) (s .args .words .no
 abbrev outputs : tie.Start → List Bool
 outputs s = bitsFrom 0 (s .args .m) (s .args .words .now) (s .args .counts .now)
 
-divisors-due : (c : tie.After-put-head) → let s = c .before .before .before .before .before in
-    Owed s (c .put-head .last .0) (c .put-head .result) (divisors s ++ outputs s)
-divisors-due c = going-next (going-all _ _ _) (c .put-head .ensures) (c .put-head .kept .0)
+-- the states: the entry, the head put, the divisors put
+abbrev start : tie.After-put-head → tie.Start
+start h = h .before .before .before .before .before
 
-outputs-due : (c : tie.After-put-nodes) → let s = c .before .before .before .before .before .before .before .before .before in
-    Owed s (c .put-nodes .last .0) (c .put-nodes .result) (outputs s)
-outputs-due c = going-next (divisors-due (c .before .before .before .before)) (c .put-nodes .ensures) (c .put-nodes .kept .0)
+abbrev headed : tie.After-put-nodes → tie.After-put-head
+headed d = d .before .before .before .before
+
+divisors-due : (c : tie.After-put-head) → let s = start c in Owed s (c .put-head .last .0) (c .put-head .result) (divisors s ++ outputs s)
+divisors-due c = going-next (going-all _ (start c .pre .ready)) (c .put-head .ensures) (c .put-head .kept .0)
+
+outputs-due : (c : tie.After-put-nodes) → let s = start (headed c) in Owed s (c .put-nodes .last .0) (c .put-nodes .result) (outputs s)
+outputs-due c = going-next (divisors-due (headed c)) (c .put-nodes .ensures) (c .put-nodes .kept .0)
 
 put-head-requires : tie.Need-put-head-requires
-put-head-requires c κs = let s = c .before .before .before .before in
-    (s .pre .inputs, s .pre .outputs, going-ready (fieldBits (headFields (s .args .n) (s .args .m) (s .args .k))) _ (going-all _ _ _) (s .pre .ready))
-
-add-put-nodes : tie.Need-add-put-nodes
-add-put-nodes c = search needs
+put-head-requires c κs =
+    let s = c .before .before .before .before in
+    let p = s .pre in
+    (p .inputs, p .outputs, going-ready (fieldBits (headFields (s .args .n) (s .args .m) (s .args .k))) _ (going-all _ (p .ready)))
 
 put-nodes-requires : tie.Need-put-nodes-requires
-put-nodes-requires c κs = let s = c .before .before .before .before .before .before .before .before in
-    (omega arith, s .pre .held, going-ready (divisors s) _ (divisors-due (c .before .before .before)) (s .pre .ready))
+put-nodes-requires c κs = let h = c .before .before .before in (omega arith, start h .pre .there, going-ready (divisors (start h)) _ (divisors-due h))
 
 put-nodes-requires-2 : tie.Need-put-nodes-requires-2
 put-nodes-requires-2 c κs =
-    let s = c .before .before .before .before .before .before .before .before .before .before .before .before in
-    let h = s .pre .held in (
-      omega arith,
-      record { counted = omega (arith, h .counted); nodes = omega (arith, h .nodes); few = h .few },
-      going-last (outputs-due (c .before .before .before)) (s .pre .ready),
-    )
-
-same-length : tie.Need-same-length
-same-length c = search needs
+    let d = c .before .before .before in
+    let h = start (headed d) .pre .there in
+    (omega arith, record { counted = omega (arith, h .counted); nodes = omega (arith, h .nodes); few = h .few }, outputs-due d .room)
 
 returns : tie.Need-returns
-returns c = going-end (outputs-due (c .before .before .before .before .before .before)) (c .before .before .put-nodes2 .ensures)
-    (c .before .before .put-nodes2 .kept .0)
+returns c = let u = c .before .before in outputs-due (u .before .before .before .before) .ends (u .put-nodes2 .ensures)
 
 pub put-all-spec : {M : Type 1} → statement M
 put-all-spec =
     tie.close
     (tie.spec
     put-head-requires
-    add-put-nodes
+    (λ c. search needs)
     put-nodes-requires
     put-nodes-requires-2
-    same-length
+    (λ c. search needs)
     returns)

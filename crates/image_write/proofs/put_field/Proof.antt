@@ -19,13 +19,7 @@ abbrev μ-loop : tie.MeasureT-loop
 μ-loop o₀ at w v p₀ i₀ o p i = i
 
 loop-holds : tie.Need-loop-holds Inv-loop μ-loop
-loop-holds c = (omega arith, going-all _ _ _)
-
-sub-i : tie.Need-sub-i Inv-loop μ-loop
-sub-i c = search needs
-
-shr-put-bit : tie.Need-shr-put-bit Inv-loop μ-loop
-shr-put-bit c = search needs
+loop-holds c = (omega arith, going-all _ (c .before .pre .1))
 
 -- the bit that comes next
 ahead : (c : tie.In-loop Inv-loop μ-loop) → let s = c .before .before .before in
@@ -36,18 +30,12 @@ ahead c =
     going-as (c .before .loop .inv .1) (field-next (c .before .loop .i) (s .args .v) _ (omega arith) (bit-test (s .args .v) (c .before .loop .i - 1)))
 
 put-bit-requires : tie.Need-put-bit-requires Inv-loop μ-loop
-put-bit-requires c κs = going-ready (_ ∷ []) _ (ahead (c .before)) (c .before .before .before .before .pre .1)
-
-loop-less : tie.Need-loop-less Inv-loop μ-loop
-loop-less c = search needs
+put-bit-requires c κs = going-ready (_ ∷ []) _ (ahead (c .before))
 
 loop-again : tie.Need-loop-again Inv-loop μ-loop
 loop-again c =
     let b = c .before .before in
     (omega arith, going-next (ahead (b .before .before)) (b .put-bit .ensures) (search needs))
-
-same-length : tie.Need-same-length Inv-loop μ-loop
-same-length c = search needs
 
 returns : tie.Need-returns Inv-loop μ-loop
 returns c = going-done (going-as (c .before .loop .inv .1) (field-none _ _ (omega arith)))
@@ -59,10 +47,10 @@ put-field-spec =
     Inv-loop
     μ-loop
     loop-holds
-    sub-i
-    shr-put-bit
+    (λ c. search needs)
+    (λ c. search needs)
     put-bit-requires
-    loop-less
+    (λ c. search needs)
     loop-again
-    same-length
+    (λ c. search needs)
     returns)

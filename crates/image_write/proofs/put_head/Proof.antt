@@ -1,14 +1,14 @@
 -- `image_write::put_head` meets its contract: four fields, one after the other. Assumes nothing.
 use Prim.Native.Nat.{ℕ}
 use mathlib.Core.Bool.{Bool}
-use mathlib.Core.List.{List, [], _++_}
+use mathlib.Core.List.{List, _++_}
 use native.Mathlib.Omega.{arith}
 use borrow.Author.Needs.{needs}
 use Rattle.image_fields.specs.Fields.{bitsOf, fieldBits}
 use Rattle.image_laws.specs.Widths.{editionField, edition1}
 use Rattle.image_laws.specs.Image.{headFields}
-use Rattle.image_laws.proofs.Fielding.{inputsBits, outputsBits, divisorsBits, headed}
-use Rattle.image_write.proofs.Laying.{Going, going-all, going-as, going-next, going-ready, going-done}
+use Rattle.image_laws.proofs.Fielding.{inputsBits, outputsBits, divisorsBits}
+use Rattle.image_write.proofs.Laying.{Going, going-all, going-as, going-next, going-ready}
 use Rattle.image_write.proofs.Following.{head-bits}
 use Rattle.image_write.proofs.put_head.Statement.{statement}
 use Rattle.image_write.proofs.put_head.Tie as tie
@@ -27,62 +27,46 @@ edition c = c .before .before .before .before
 abbrev inputs : tie.After-put-field3 → tie.After-put-field2
 inputs c = c .before .before .before .before
 
-abbrev outputs : tie.After-put-field4 → tie.After-put-field3
-outputs c = c .before .before .before .before
-
-all-due : (s : tie.Start) → Owed s (s .args .o .now) 0 (headed (s .args .n) (s .args .m) (s .args .k) [])
-all-due s = going-as (going-all _ _ _) (head-bits (s .args .n) (s .args .m) (s .args .k))
+all-due : (s : tie.Start) →
+    Owed s (s .args .o .now) 0 (bitsOf editionField (edition1 .number) ++ (inputsBits (s .args .n) ++ (outputsBits (s .args .m) ++ divisorsBits (s .args .k))))
+all-due s = going-as (going-all _ (s .pre .2)) (head-bits (s .args .n) (s .args .m) (s .args .k))
 
 inputs-due : (c : tie.After-put-field) → let s = opened c in
-    Owed s (c .put-field .last .0) (c .put-field .result) (inputsBits (s .args .n) ++ (outputsBits (s .args .m) ++ (divisorsBits (s .args .k) ++ [])))
+    Owed s (c .put-field .last .0) (c .put-field .result) (inputsBits (s .args .n) ++ (outputsBits (s .args .m) ++ divisorsBits (s .args .k)))
 inputs-due c = going-next (all-due (opened c)) (c .put-field .ensures) (c .put-field .kept .0)
 
 outputs-due : (c : tie.After-put-field2) → let s = opened (edition c) in
-    Owed s (c .put-field2 .last .0) (c .put-field2 .result) (outputsBits (s .args .m) ++ (divisorsBits (s .args .k) ++ []))
+    Owed s (c .put-field2 .last .0) (c .put-field2 .result) (outputsBits (s .args .m) ++ divisorsBits (s .args .k))
 outputs-due c = going-next (inputs-due (edition c)) (c .put-field2 .ensures) (c .put-field2 .kept .0)
 
 divisors-due : (c : tie.After-put-field3) → let s = opened (edition (inputs c)) in
-    Owed s (c .put-field3 .last .0) (c .put-field3 .result) (divisorsBits (s .args .k) ++ [])
+    Owed s (c .put-field3 .last .0) (c .put-field3 .result) (divisorsBits (s .args .k))
 divisors-due c = going-next (outputs-due (inputs c)) (c .put-field3 .ensures) (c .put-field3 .kept .0)
 
-all-laid : (c : tie.After-put-field4) → let s = opened (edition (inputs (outputs c))) in Owed s (c .put-field4 .last .0) (c .put-field4 .result) []
-all-laid c = going-next (divisors-due (outputs c)) (c .put-field4 .ensures) (c .put-field4 .kept .0)
-
 put-field-requires : tie.Need-put-field-requires
-put-field-requires c κs = let s = c .before .before in (omega arith, going-ready (bitsOf editionField _) _ (all-due s) (s .pre .2))
-
-sub-put-field : tie.Need-sub-put-field
-sub-put-field c = search needs
+put-field-requires c κs = (omega arith, going-ready (bitsOf editionField _) _ (all-due (c .before .before)))
 
 put-field-requires-2 : tie.Need-put-field-requires-2
-put-field-requires-2 c κs = let d = c .before .before .before in (omega arith, going-ready (bitsOf (edition1 .inputs) _) _ (inputs-due d) (opened d .pre .2))
-
-sub-put-field-2 : tie.Need-sub-put-field-2
-sub-put-field-2 c = search needs
+put-field-requires-2 c κs = (omega arith, going-ready (bitsOf (edition1 .inputs) _) _ (inputs-due (c .before .before .before)))
 
 put-field-requires-3 : tie.Need-put-field-requires-3
-put-field-requires-3 c κs =
-    let d = c .before .before .before in (omega arith, going-ready (bitsOf (edition1 .outputs) _) _ (outputs-due d) (opened (edition d) .pre .2))
+put-field-requires-3 c κs = (omega arith, going-ready (bitsOf (edition1 .outputs) _) _ (outputs-due (c .before .before .before)))
 
 put-field-requires-4 : tie.Need-put-field-requires-4
-put-field-requires-4 c κs =
-    let d = c .before .before .before in (omega arith, going-ready (divisorsBits _) _ (divisors-due d) (opened (edition (inputs d)) .pre .2))
-
-same-length : tie.Need-same-length
-same-length c = search needs
+put-field-requires-4 c κs = (omega arith, divisors-due (c .before .before .before) .room)
 
 returns : tie.Need-returns
-returns c = going-done (all-laid (c .before .before))
+returns c = let p = c .before .before in divisors-due (p .before .before .before .before) .ends (p .put-field4 .ensures)
 
 pub put-head-spec : {M : Type 1} → statement M
 put-head-spec =
     tie.close
     (tie.spec
     put-field-requires
-    sub-put-field
+    (λ c. search needs)
     put-field-requires-2
-    sub-put-field-2
+    (λ c. search needs)
     put-field-requires-3
     put-field-requires-4
-    same-length
+    (λ c. search needs)
     returns)

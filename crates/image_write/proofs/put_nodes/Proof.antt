@@ -19,42 +19,27 @@ abbrev μ-loop : tie.MeasureT-loop
 μ-loop o₀ at words counts a e p₀ i₀ o p i = e - i
 
 loop-holds : tie.Need-loop-holds Inv-loop μ-loop
-loop-holds c = (c .before .before .before .pre .0, going-all _ _ _)
+loop-holds c = let p = c .before .before .before .pre in (p .0, going-all _ (p .2))
 
-node-requires : tie.Need-node-requires Inv-loop μ-loop
-node-requires c κs = search needs
+abbrev start : tie.At-loop Inv-loop μ-loop → tie.Start Inv-loop μ-loop
+start h = h .before .before .before .before
 
 -- the next node's fields are due
-ahead : (c : tie.After-node Inv-loop μ-loop) → let h = c .before .before .before in let s = h .before .before .before .before in
-    Going (s .args .o .now) (s .args .at) (bitsFrom (s .args .a) (s .args .e) (s .args .words .now) (s .args .counts .now)) (h .loop .o) (h .loop .p)
-    (fieldBits (nodeFields (cubesOf (c .node .result .now))) ++ bitsFrom (h .loop .i + 1) (s .args .e) (s .args .words .now) (s .args .counts .now))
+ahead : (c : tie.After-node Inv-loop μ-loop) → let h = c .before .before .before in let a = start h .args in
+    Going (a .o .now) (a .at) (bitsFrom (a .a) (a .e) (a .words .now) (a .counts .now)) (h .loop .o) (h .loop .p)
+    (fieldBits (nodeFields (cubesOf (c .node .result .now))) ++ bitsFrom (h .loop .i + 1) (a .e) (a .words .now) (a .counts .now))
 ahead c =
     let h = c .before .before .before in
-    let s = h .before .before .before .before in
-    going-as (h .loop .inv .1) (nodes-next (s .args .words .now) (s .args .counts .now) (h .loop .i) (s .args .e) _ (omega arith) (s .pre .1 .counted)
-    (c .node .ensures .0))
+    going-as (h .loop .inv .1) (nodes-next _ _ (h .loop .i) _ _ (omega arith) (start h .pre .1 .counted) (c .node .ensures .0))
 
 put-node-requires : tie.Need-put-node-requires Inv-loop μ-loop
 put-node-requires c κs = going-ready (fieldBits (nodeFields (cubesOf (c .node .result .now)))) _ (ahead c)
-    (c .before .before .before .before .before .before .before .pre .2)
-
-add-i : tie.Need-add-i Inv-loop μ-loop
-add-i c = search needs
-
-loop-less : tie.Need-loop-less Inv-loop μ-loop
-loop-less c = search needs
 
 loop-again : tie.Need-loop-again Inv-loop μ-loop
-loop-again c = (omega arith, going-next (ahead (c .before .before .before)) (c .before .before .put-node .ensures) (c .before .before .put-node .kept .0))
-
-same-length : tie.Need-same-length Inv-loop μ-loop
-same-length c = c .before .loop .inv .1 .same
+loop-again c = let p = c .before .before in (omega arith, going-next (ahead (p .before)) (p .put-node .ensures) (p .put-node .kept .0))
 
 returns : tie.Need-returns Inv-loop μ-loop
-returns c =
-    let h = c .before in
-    let s = h .before .before .before .before in
-    going-done (going-as (h .loop .inv .1) (nodes-none (s .args .words .now) (s .args .counts .now) (h .loop .i) (s .args .e) (omega arith)))
+returns c = let h = c .before in going-done (going-as (h .loop .inv .1) (nodes-none _ _ (h .loop .i) _ (omega arith)))
 
 pub put-nodes-spec : {M : Type 1} → statement M
 put-nodes-spec =
@@ -63,10 +48,10 @@ put-nodes-spec =
     Inv-loop
     μ-loop
     loop-holds
-    node-requires
+    (λ c κs. search needs)
     put-node-requires
-    add-i
-    loop-less
+    (λ c. search needs)
+    (λ c. search needs)
     loop-again
-    same-length
+    (λ c. c .before .loop .inv .1 .same)
     returns)

@@ -6,15 +6,6 @@ use Rattle.sets.proofs.Digits.{shifted-one}
 use Rattle.image_write.proofs.worth.Statement.{statement}
 use Rattle.image_write.proofs.worth.Tie as tie
 
-sub-result : tie.Need-sub-result
-sub-result c = search needs
-
-cast-result : tie.Need-cast-result
-cast-result c = search needs
-
-shl-result : tie.Need-shl-result
-shl-result c = search needs
-
 returns : tie.Need-returns
 returns c = let h : 7 - c .before .args .r < 8 = omega arith in rw (c .if1 .taken) (shifted-one 8 (7 - c .before .args .r) h)
 
@@ -22,4 +13,4 @@ returns-2 : tie.Need-returns-2
 returns-2 c = rw (c .if1 .left)
 
 pub worth-spec : {M : Type 1} → statement M
-worth-spec = tie.close (tie.spec sub-result cast-result shl-result returns returns-2)
+worth-spec = tie.close (tie.spec (λ c. search needs) (λ c. search needs) (λ c. search needs) returns returns-2)
