@@ -26,7 +26,7 @@ value-lt (false ∷ l) = omega (arith, value-lt l, pow-suc 2 (length l))
 -- ---- there and back
 
 -- the number that a field of w bits keeps of v
-pub value-mod : (w v : ℕ) → valueOf (bitsOf w v) ≡ v % 2 ^ w
+value-mod : (w v : ℕ) → valueOf (bitsOf w v) ≡ v % 2 ^ w
 unfolding bitsOf valueOf bit
 value-mod zero v = sym (mod-one v)
 value-mod (suc w) v =
@@ -42,7 +42,7 @@ pub value-bits : (w v : ℕ) → v < 2 ^ w → valueOf (bitsOf w v) ≡ v
 value-bits w v h = value-mod w v ∙ mod-eq-of-lt h
 
 -- bits of one length that are worth the same are the same
-pub value-injective : (l m : List Bool) → length l ≡ length m → valueOf l ≡ valueOf m → l ≡ m
+value-injective : (l m : List Bool) → length l ≡ length m → valueOf l ≡ valueOf m → l ≡ m
 unfolding valueOf
 value-injective [] [] e h = refl
 value-injective [] (c ∷ m) e h = absurd (omega arith)
@@ -62,7 +62,7 @@ bits-value l =
 
 -- ---- joining and splitting
 
-pub value-join : (l m : List Bool) → valueOf (l ++ m) ≡ valueOf l * 2 ^ length m + valueOf m
+value-join : (l m : List Bool) → valueOf (l ++ m) ≡ valueOf l * 2 ^ length m + valueOf m
 unfolding valueOf
 value-join [] m = omega arith
 value-join (true ∷ l) m = rw (length-append l m) (omega (arith, value-join l m, pow-add 2 (length l) (length m)))

@@ -1,7 +1,7 @@
 -- Bits and the bytes that they fill: lengths, both round trips, zero bits after, one bit more. Assumes nothing.
 use Prim.Native.Nat.{ℕ, zero, suc, _+_, _-_, _*_, _/_, _%_, _^_, _<_, _≤_}
 use mathlib.Core.Path.{_≡_, refl, sym, ap, ap₂, _∙_}
-use mathlib.Core.Logic.{_⊎_, inl, inr}
+use mathlib.Core.Logic.{inl, inr}
 use mathlib.Core.Bool.{Bool, true, false, cond}
 use mathlib.Core.List.{List, [], _∷_, _++_, append-assoc, append-nil, List·Memᴰ·head as here, List·Memᴰ·tail as there, List·Memᴰ·not-nil, List·Memᴰ·cases-cons}
 use native.Mathlib.Nat.{zero-add, pow-suc, le-of-suc-le-suc, not-suc-le-zero}
@@ -25,24 +25,13 @@ zeros-take zero k h = refl
 zeros-take (suc n) zero h = absurd (not-suc-le-zero h)
 zeros-take (suc n) (suc k) h = ap (false ∷_) (zeros-take n k (le-of-suc-le-suc h))
 
-zeros-drop : (n k : ℕ) → drop n (replicate k false) ≡ replicate (k - n) false
-zeros-drop zero k = let e : k ≡ k - 0 = omega arith in ap (λ i. replicate i false) e
-zeros-drop (suc n) zero = let e : 0 ≡ 0 - suc n = omega arith in ap (λ i. replicate i false) e
-zeros-drop (suc n) (suc k) = let e : k - n ≡ suc k - suc n = omega arith in zeros-drop n k ∙ ap (λ i. replicate i false) e
-
 -- as many of the bits as there are, and zero bits for the others
-pub take-zeros : (n : ℕ) (l : List Bool) (k : ℕ) → n ≤ length l + k → take n (l ++ replicate k false) ≡ take n l ++ replicate (n - length l) false
+take-zeros : (n : ℕ) (l : List Bool) (k : ℕ) → n ≤ length l + k → take n (l ++ replicate k false) ≡ take n l ++ replicate (n - length l) false
 take-zeros zero l k h = let e : 0 ≡ 0 - length l = omega arith in ap (λ i. replicate i false) e
 take-zeros (suc n) [] k h = let e : suc n ≡ suc n - 0 = omega arith in zeros-take (suc n) k (omega arith) ∙ ap (λ i. replicate i false) e
 take-zeros (suc n) (b ∷ l) k h =
     let e : n - length l ≡ suc n - suc (length l) = omega arith in
     ap (b ∷_) (take-zeros n l k (omega arith) ∙ ap (λ i. take n l ++ replicate i false) e)
-
-pub drop-zeros : (n : ℕ) (l : List Bool) (k : ℕ) → drop n (l ++ replicate k false) ≡ drop n l ++ replicate (k - (n - length l)) false
-drop-zeros zero l k = let e : k ≡ k - (0 - length l) = omega arith in ap (λ i. l ++ replicate i false) e
-drop-zeros (suc n) [] k = let e : k - suc n ≡ k - (suc n - 0) = omega arith in zeros-drop (suc n) k ∙ ap (λ i. replicate i false) e
-drop-zeros (suc n) (b ∷ l) k =
-    let e : k - (n - length l) ≡ k - (suc n - suc (length l)) = omega arith in drop-zeros n l k ∙ ap (λ i. drop n l ++ replicate i false) e
 
 -- the first byte's bits
 head-bits : (l : List Bool) → take 8 (l ++ replicate 8 false) ≡ take 8 l ++ replicate (8 - length l) false
@@ -83,23 +72,16 @@ from-bits (suc k) l h =
     ap₂ _++_
     (ap (λ w. bitsOf w (valueOf (take 8 (l ++ replicate 8 false)))) (sym (head-length l)) ∙ bits-value (take 8 (l ++ replicate 8 false)) ∙ head-bits l)
     (from-bits k (drop 8 l) (omega arith) ∙ ap (λ i. drop 8 l ++ replicate (8 * k - i) false) n)
-    ∙ go (decided (ltb (length l) 8))
+    ∙ elim (decided (ltb (length l) 8)) [
+      | inl s ↦
+          let b : length l < 8 = ltb-true (length l) 8 s in
+          rw (take-all 8 l (omega arith), drop-of-length-le l {i = 8} (omega arith)) (append-assoc l (replicate (8 - length l) false) _)
+      | inr s ↦
+          let b : 8 ≤ length l = ltb-false (length l) 8 s in
+          let z : 8 - length l ≡ 0 = omega arith in
+          rw (z, append-nil) (sym (append-assoc (take 8 l) (drop 8 l) _) ∙ ap (_++ replicate (8 * k - (length l - 8)) false) (take-append-drop 8 l))
+    ]
     ∙ ap (l ++_) (replicate-append-replicate (8 - length l) (8 * k - (length l - 8)) false ∙ ap (λ i. replicate i false) e)
-  where
-    -- short of a byte nothing is left, else no zero bit goes in between
-    go : (ltb (length l) 8 ≡ true) ⊎ (ltb (length l) 8 ≡ false)
-        → (take 8 l ++ replicate (8 - length l) false) ++ (drop 8 l ++ replicate (8 * k - (length l - 8)) false)
-        ≡ l ++ (replicate (8 - length l) false ++ replicate (8 * k - (length l - 8)) false)
-    go (inl s) =
-        let b : length l < 8 = ltb-true (length l) 8 s in
-        rw (take-all 8 l (omega arith), drop-of-length-le l {i = 8} (omega arith))
-        (append-assoc l (replicate (8 - length l) false) (replicate (8 * k - (length l - 8)) false))
-    go (inr s) =
-        let b : 8 ≤ length l = ltb-false (length l) 8 s in
-        let z : 8 - length l ≡ 0 = omega arith in
-        rw (z, append-nil)
-        (sym (append-assoc (take 8 l) (drop 8 l) (replicate (8 * k - (length l - 8)) false))
-        ∙ ap (_++ replicate (8 * k - (length l - 8)) false) (take-append-drop 8 l))
 
 pub bytes-bits : (l : List Bool) → bitsIn (bytesOf l) ≡ l ++ replicate (8 * bytesFor (length l) - length l) false
 bytes-bits l = from-bits (bytesFor (length l)) l (omega arith)
@@ -128,41 +110,35 @@ from-small (suc k) l b m = elim (List·Memᴰ·cases-cons m) [
 ]
 
 -- bit i of bytes; past them none is set
-pub bits-in-at : (bs : List ℕ) (i : ℕ) → getD (bitsIn bs) i false ≡ bit (getD bs (i / 8) 0) (7 - i % 8)
+bits-in-at : (bs : List ℕ) (i : ℕ) → getD (bitsIn bs) i false ≡ bit (getD bs (i / 8) 0) (7 - i % 8)
 unfolding bitsIn
 bits-in-at [] i = sym (bit-none (7 - i % 8))
-bits-in-at (b ∷ bs) i = go (bits-in-at bs (i - 8)) (decided (ltb i 8))
-  where
-    go : getD (bitsIn bs) (i - 8) false ≡ bit (getD bs ((i - 8) / 8) 0) (7 - (i - 8) % 8)
-        → (ltb i 8 ≡ true) ⊎ (ltb i 8 ≡ false) → getD (bitsOf 8 b ++ bitsIn bs) i false ≡ bit (getD (b ∷ bs) (i / 8) 0) (7 - i % 8)
-    go k (inl s) =
-        let h : i < 8 = ltb-true i 8 s in
-        let q : i / 8 ≡ 0 = omega arith in
-        let r : 8 - 1 - i ≡ 7 - i % 8 = omega arith in
-        List·getD-append (bitsOf 8 b) (bitsIn bs) false i (omega (arith, bits-length 8 b)) ∙ bits-at 8 b i h ∙ rw (q, r)
-    go k (inr s) =
-        let h : 8 ≤ i = ltb-false i 8 s in
-        let j : i ≡ length (bitsOf 8 b) + (i - 8) = omega (arith, bits-length 8 b) in
-        let q : i / 8 ≡ suc ((i - 8) / 8) = omega arith in
-        let r : (i - 8) % 8 ≡ i % 8 = omega arith in
-        ap (λ n. getD (bitsOf 8 b ++ bitsIn bs) n false) j ∙ getD-append-add (bitsOf 8 b) (bitsIn bs) (i - 8) false ∙ k ∙ rw (q, r)
+bits-in-at (b ∷ bs) i = elim (decided (ltb i 8)) [
+  | inl s ↦
+      let h : i < 8 = ltb-true i 8 s in
+      let q : i / 8 ≡ 0 = omega arith in
+      let r : 8 - 1 - i ≡ 7 - i % 8 = omega arith in
+      List·getD-append (bitsOf 8 b) (bitsIn bs) false i (omega (arith, bits-length 8 b)) ∙ bits-at 8 b i h ∙ rw (q, r)
+  | inr s ↦
+      let h : 8 ≤ i = ltb-false i 8 s in
+      let j : i ≡ length (bitsOf 8 b) + (i - 8) = omega (arith, bits-length 8 b) in
+      let q : i / 8 ≡ suc ((i - 8) / 8) = omega arith in
+      let r : (i - 8) % 8 ≡ i % 8 = omega arith in
+      ap (λ n. getD (bitsOf 8 b ++ bitsIn bs) n false) j ∙ getD-append-add (bitsOf 8 b) (bitsIn bs) (i - 8) false ∙ bits-in-at bs (i - 8) ∙ rw (q, r)
+]
 
 -- ---- zero bits after change nothing
 
-pub from-zeros : (n : ℕ) (l : List Bool) (k : ℕ) → bytesFrom n (l ++ replicate k false) ≡ bytesFrom n l
-unfolding bytesFrom
-from-zeros zero l k = refl
-from-zeros (suc n) l k =
-    ap₂ _∷_
-    (ap (λ r. valueOf (take 8 r)) (append-assoc l (replicate k false) (replicate 8 false) ∙ ap (l ++_) (replicate-append-replicate k 8 false))
-    ∙ ap valueOf (take-zeros 8 l (k + 8) (omega arith) ∙ sym (head-bits l)))
-    (ap (bytesFrom n) (drop-zeros 8 l k) ∙ from-zeros n (drop 8 l) (k - (8 - length l)))
+filled : (l : List Bool) → bytesOf (l ++ replicate (8 * bytesFor (length l) - length l) false) ≡ bytesOf l
+filled l = ap bytesOf (sym (bytes-bits l)) ∙ bits-bytes (bytesOf l) (from-small (bytesFor (length l)) l)
 
 pub bytes-pad : (l : List Bool) (k : ℕ) → length l + k ≤ 8 * bytesFor (length l) → bytesOf (l ++ replicate k false) ≡ bytesOf l
 bytes-pad l k h =
-    let n : length (l ++ replicate k false) ≡ length l + k = length-append l (replicate k false) ∙ ap (length l +_) (length-replicate k false) in
-    let e : bytesFor (length (l ++ replicate k false)) ≡ bytesFor (length l) = omega arith in
-    ap (λ i. bytesFrom i (l ++ replicate k false)) e ∙ from-zeros (bytesFor (length l)) l k
+    let m = l ++ replicate k false in
+    let n : length m ≡ length l + k = length-append l (replicate k false) ∙ ap (length l +_) (length-replicate k false) in
+    let e : k + (8 * bytesFor (length m) - length m) ≡ 8 * bytesFor (length l) - length l = omega arith in
+    sym (filled m) ∙ ap bytesOf (append-assoc l (replicate k false) _ ∙ ap (l ++_) (replicate-append-replicate k _ false ∙ ap (λ i. replicate i false) e))
+    ∙ filled l
 
 -- ---- one bit more, put at its place into the last byte
 
@@ -177,43 +153,32 @@ last-bit l b h =
     let r : 8 - length (l ++ (b ∷ [])) ≡ 7 - length l = omega arith in
     let t : 8 - length l ≡ suc (7 - length l) = omega arith in
     short-value (l ++ (b ∷ [])) (omega arith) ∙ ap₂ (λ v k. v * 2 ^ k) (value-append l b) r
-    ∙ go b (ap (λ k. 2 ^ k) t ∙ pow-suc 2 (7 - length l))
+    ∙ rw (ap (λ k. 2 ^ k) t ∙ pow-suc 2 (7 - length l)) (elim b [ true ↦ omega arith | false ↦ omega arith ])
     ∙ ap (_+ cond b (2 ^ (7 - length l)) 0) (sym (short-value l (omega arith)))
-  where
-    go : (c : Bool) → 2 ^ (8 - length l) ≡ 2 ^ (7 - length l) * 2
-        → (2 * valueOf l + cond c 1 0) * 2 ^ (7 - length l) ≡ valueOf l * 2 ^ (8 - length l) + cond c (2 ^ (7 - length l)) 0
-    go true e = rw e (omega arith)
-    go false e = rw e (omega arith)
 
 -- in room for more bits, zero before
-pub from-more : (n : ℕ) (l : List Bool) (b : Bool)
+from-more : (n : ℕ) (l : List Bool) (b : Bool)
     → bytesFrom n (l ++ (b ∷ [])) ≡ set (bytesFrom n l) (length l / 8) (getD (bytesFrom n l) (length l / 8) 0 + cond b (2 ^ (7 - length l % 8)) 0)
 unfolding bytesFrom
 from-more zero l b = refl
-from-more (suc n) l b = go (from-more n (drop 8 l) b) (decided (ltb (length l) 8))
-  where
-    go : bytesFrom n (drop 8 l ++ (b ∷ [])) ≡ set (bytesFrom n (drop 8 l)) (length (drop 8 l) / 8)
-        (getD (bytesFrom n (drop 8 l)) (length (drop 8 l) / 8) 0 + cond b (2 ^ (7 - length (drop 8 l) % 8)) 0)
-        → (ltb (length l) 8 ≡ true) ⊎ (ltb (length l) 8 ≡ false)
-        → bytesFrom (suc n) (l ++ (b ∷ [])) ≡ set (bytesFrom (suc n) l) (length l / 8)
-        (getD (bytesFrom (suc n) l) (length l / 8) 0 + cond b (2 ^ (7 - length l % 8)) 0)
-    go k (inl s) =
-        let h : length l < 8 = ltb-true (length l) 8 s in
-        let q : length l / 8 ≡ 0 = omega arith in
-        let r : length l % 8 ≡ length l = omega arith in
-        rw (q, r)
-        (ap₂ _∷_ (last-bit l b h)
-        (ap (bytesFrom n) (drop-of-length-le (l ++ (b ∷ [])) {i = 8} (omega (arith, length-append l (b ∷ [])))
-        ∙ sym (drop-of-length-le l {i = 8} (omega arith)))))
-    go k (inr s) =
-        let h : 8 ≤ length l = ltb-false (length l) 8 s in
-        let q : length l / 8 ≡ suc (length (drop 8 l) / 8) = omega (arith, length-drop 8 l) in
-        let r : length l % 8 ≡ length (drop 8 l) % 8 = omega (arith, length-drop 8 l) in
-        rw (q, r)
-        (ap₂ _∷_
-        (ap valueOf (ap (take 8) (append-assoc l (b ∷ []) (replicate 8 false)) ∙ take-append-le 8 l ((b ∷ []) ++ replicate 8 false) h
-        ∙ sym (take-append-le 8 l (replicate 8 false) h)))
-        (ap (bytesFrom n) (drop-append-le 8 l (b ∷ []) h) ∙ k))
+from-more (suc n) l b = elim (decided (ltb (length l) 8)) [
+  | inl s ↦
+      let h : length l < 8 = ltb-true (length l) 8 s in
+      let q : length l / 8 ≡ 0 = omega arith in
+      let r : length l % 8 ≡ length l = omega arith in
+      rw (q, r)
+      (ap₂ _∷_ (last-bit l b h)
+      (ap (bytesFrom n) (drop-of-length-le (l ++ (b ∷ [])) {i = 8} (omega (arith, length-append l (b ∷ [])))
+      ∙ sym (drop-of-length-le l {i = 8} (omega arith)))))
+  | inr s ↦
+      let h : 8 ≤ length l = ltb-false (length l) 8 s in
+      let q : length l / 8 ≡ suc (length (drop 8 l) / 8) = omega (arith, length-drop 8 l) in
+      let r : length l % 8 ≡ length (drop 8 l) % 8 = omega (arith, length-drop 8 l) in
+      rw (q, r)
+      (ap₂ _∷_
+      (ap valueOf (ap (take 8) (append-assoc l (b ∷ []) (replicate 8 false)) ∙ take-append-le 8 l _ h ∙ sym (take-append-le 8 l (replicate 8 false) h)))
+      (ap (bytesFrom n) (drop-append-le 8 l (b ∷ []) h) ∙ from-more n (drop 8 l) b))
+]
 
 -- one byte more than the bits need is zero
 from-next : (n : ℕ) (l : List Bool) → length l ≤ 8 * n → bytesFrom (suc n) l ≡ bytesFrom n l ++ (0 ∷ [])
