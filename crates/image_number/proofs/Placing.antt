@@ -24,14 +24,13 @@ zero-at zero v = refl
 zero-at (suc n) zero = refl
 zero-at (suc n) (suc v) = zero-at n v
 
-module _ (ps : List ℕ) (w : Wide ps) (v x : ℕ) (h : v < mostVariables) (s : x < mostVariables) where
-  pub wide-set : Wide (set ps v x)
-  wide-set = record {
-    whole = length-set ps v x ∙ w .whole;
-    small = λ u. elim (stored ps v x u (omega (arith, w .whole))) [ inl (e, k) ↦ omega arith | inr (e, k) ↦ omega (arith, w .small u) ];
-  }
+wide-set : {ps : List ℕ} → Wide ps → (v x : ℕ) → v < mostVariables → x < mostVariables → Wide (set ps v x)
+wide-set {ps} w v x h s = record {
+  whole = length-set ps v x ∙ w .whole;
+  small = λ u. elim (stored ps v x u (omega (arith, w .whole))) [ inl (e, k) ↦ omega arith | inr (e, k) ↦ omega (arith, w .small u) ];
+}
 
-pub wide-zeros : Wide (replicate mostVariables 0)
+wide-zeros : Wide (replicate mostVariables 0)
 wide-zeros = record { whole = length-replicate {A = ℕ} mostVariables 0; small = λ v. omega (arith, zero-at mostVariables v) }
 
 -- ---- each at its own
@@ -41,7 +40,7 @@ itself-none = record { span = wide-zeros; each = λ v h. absurd (omega arith) }
 
 pub itself-next : (e : ℕ) (ps : List ℕ) → e < mostVariables → Itself e ps → Itself (e + 1) (set ps e e)
 itself-next e ps h i = record {
-  span = wide-set ps (i .span) e e h h;
+  span = wide-set (i .span) e e h h;
   each = λ v k. elim (stored ps e e v (omega (arith, i .span .whole))) [ inl (p, q) ↦ q ∙ sym p | inr (p, q) ↦ q ∙ i .each v (omega arith) ];
 }
 
@@ -57,7 +56,7 @@ placing-next n k order ps i z h p {x} f =
     let r = z .range i h in
     let inside : v < length ps = omega (arith, r .1, p .span .whole) in
     record {
-      span = wide-set ps (p .span) v x (r .1) (omega (arith, z .variables));
+      span = wide-set (p .span) v x (r .1) (omega (arith, z .variables));
       inputs = λ u b. elim (stored ps v x u inside) [ inl (e, q) ↦ absurd (omega (arith, r .0)) | inr (e, q) ↦ q ∙ p .inputs u b ];
       divisors = λ j b. elim (decided (eqb j i)) [
         | inl t ↦ let e : j ≡ i = eqb-true j i t in rw e (getD-set-same ps v x 0 inside ∙ f)

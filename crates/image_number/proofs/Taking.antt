@@ -2,11 +2,12 @@
 use Prim.Native.Nat.{ℕ, _+_, _*_, _/_, _%_, _^_, _<_}
 use mathlib.Core.Path.{_≡_, refl, sym, _∙_, ap}
 use mathlib.Core.Bool.{Bool, true, false, cond, _||_}
-use mathlib.Core.List.{List, [], _∷_}
+use mathlib.Core.List.{List, [], _∷_, map}
 use mathlib.Core.Option.{none, some}
 use native.Mathlib.Omega.{arith}
 use lib.Dec.{leb, eqb}
-use lib.ListN.{getD}
+use lib.ListN.{length, getD, length-map}
+use Rattle.expression.proofs.Sorting.{sort-length}
 use borrow.Author.Tests.{eqb-true, eqb-false, le-leb, lt-ltb}
 use Rattle.sets.specs.Sets.{mem, asc, insert, union, without, firstFrom}
 use Rattle.sets.proofs.First.{some-not-none}
@@ -18,7 +19,7 @@ use Rattle.cube.specs.declared.Found.{Found}
 use Rattle.cube.specs.declared.Found.the-variants.{At, Nothing}
 use Rattle.cube.specs.declared.Literal.{Literal}
 use Rattle.cube.proofs.Lits.{lits-asc, first-inside}
-use Rattle.image_number.specs.Parts.{Wide, literalBy, cubeBy}
+use Rattle.image_number.specs.Parts.{Wide, literalBy, cubeBy, nodeBy}
 
 -- ---- the smallest literal and the others
 
@@ -69,7 +70,7 @@ module _ (ps : List ℕ) (l v r : ℕ) (w : Wide ps) (e : v ≡ l / 2) where
 
 -- ---- the set of the new literals
 
-pub by-asc : (ps c : List ℕ) → asc (cubeBy ps c) ≡ true
+by-asc : (ps c : List ℕ) → asc (cubeBy ps c) ≡ true
 unfolding cubeBy
 by-asc ps [] = refl
 by-asc ps (l ∷ c) = insert-asc (literalBy ps l) (cubeBy ps c) (by-asc ps c)
@@ -88,11 +89,10 @@ union-insert x a b h = ext _ _ (union-asc (insert x a) b h) (union-asc a (insert
     turn : (p q r : Bool) → ((p || q) || r) ≡ (q || (p || r))
     turn true true r = refl
     turn true false r = refl
-    turn false true r = refl
-    turn false false r = refl
+    turn false q r = refl
 
 -- each is of a variable
-pub by-small : (ps : List ℕ) (l : ℕ) → Wide ps → literalBy ps l < 2 * width
+by-small : (ps : List ℕ) (l : ℕ) → Wide ps → literalBy ps l < 2 * width
 by-small ps l w = omega (arith, w .small (l / 2))
 
 -- the invariant of the loop: what is left and what is there make up the whole
@@ -106,3 +106,7 @@ by-more ps c x d r s w a e f =
 pub by-all : (ps c r : List ℕ) → c ≡ [] → union (cubeBy ps c) r ≡ r
 unfolding cubeBy union
 by-all ps c r e = rw e
+
+-- a node has as many cubes as before
+pub node-length : (ps : List ℕ) (f : List (List ℕ)) → length (nodeBy ps f) ≡ length f
+node-length ps f = sort-length (map (cubeBy ps) f) ∙ length-map f (cubeBy ps)

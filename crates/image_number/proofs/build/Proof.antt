@@ -1,21 +1,21 @@
 -- `image_number::build` meets its contract. The loop's invariant: the nodes passed stand one after the other, renumbered, their counts
 -- beside them. Assumes nothing.
 use Prim.Native.Nat.{ℕ, _+_, _-_, _<_, _≤_}
-use mathlib.Core.Path.{_≡_, sym, _∙_, ap, subst}
-use mathlib.Core.List.{List, [], map}
+use mathlib.Core.Path.{_≡_, sym, _∙_, ap}
+use mathlib.Core.List.{List, []}
 use native.Mathlib.Omega.{arith}
 use borrow.Author.Needs.{needs}
-use lib.ListN.{length, getD, take, length-map, length-replicate}
+use lib.ListN.{length, getD, take, length-replicate}
 use Rattle.expression.specs.Words.{cubesOf}
-use Rattle.expression.proofs.Sorting.{sort-length}
 use Rattle.expression.proofs.Words.{room-cubes}
 use Rattle.network.specs.Net.{nodes}
-use Rattle.network.specs.Handed.{LaidNodes, cubeSlots, wordSlots}
+use Rattle.network.specs.Handed.{LaidNodes, nodeSlots, cubeSlots, wordSlots}
 use Rattle.network.specs.Parts.{netAt}
 use Rattle.network.proofs.Laying.{laid-none, laid-more, laid-all}
 use Rattle.image_laws.specs.Renumber.{renumbered}
-use Rattle.image_number.specs.Parts.{cubeBy, nodeBy}
-use Rattle.image_number.proofs.Renumbering.{small, numbers-in, source-ready, source-in, size-at, new-many, new-room, new-holds, node-new}
+use Rattle.image_number.specs.Parts.{nodeBy}
+use Rattle.image_number.proofs.Taking.{node-length}
+use Rattle.image_number.proofs.Renumbering.{nodes-few, numbers-in, source-ready, source-in, size-at, new-many, new-room, new-holds, node-new}
 use Rattle.image_number.proofs.build.Statement.{statement}
 use Rattle.image_number.proofs.build.Tie as tie
 
@@ -36,8 +36,8 @@ head c = c .before .before
 abbrev chosen : tie.After-out Inv-loop μ-loop → tie.After-source Inv-loop μ-loop
 chosen c = c .before .before .before .before
 
-abbrev put : tie.After-put-node Inv-loop μ-loop → tie.After-out Inv-loop μ-loop
-put p = p .before
+abbrev put : tie.After-out2 Inv-loop μ-loop → tie.After-out Inv-loop μ-loop
+put p = p .before .before
 
 -- the new places and the old nodes
 abbrev placesAt : tie.At-loop Inv-loop μ-loop → List ℕ
@@ -49,30 +49,18 @@ fs s = nodes (renumbered (netAt (s .args .n) (s .args .m) (s .args .k) (s .args 
 abbrev node : tie.After-out Inv-loop μ-loop → List (List ℕ)
 node c = cubesOf (c .before .before .node .result .now)
 
-places-of-requires : tie.Need-places-of-requires Inv-loop μ-loop
-places-of-requires c κs = numbers-in (c .before .before .before .pre)
+few : (h : tie.At-loop Inv-loop μ-loop) → start h .args .m + start h .args .k ≤ nodeSlots
+few h = nodes-few (start h .pre)
 
 loop-holds : tie.Need-loop-holds Inv-loop μ-loop
 loop-holds c = (omega arith, length-replicate {A = ℕ} wordSlots 0, laid-none)
 
-add-loop : tie.Need-add-loop Inv-loop μ-loop
-add-loop c = let z = small (start c .pre) in omega (arith, z .0, z .1)
-
-source-requires : tie.Need-source-requires Inv-loop μ-loop
-source-requires c κs = source-ready (start (c .before) .pre) _ (omega arith)
-
 -- the node taken is one of the old ones
 taken : (c : tie.After-source Inv-loop μ-loop) → let s = start (head c) in c .source .result < s .args .m + s .args .k
-taken c =
-    let s = start (head c) in
-    subst (λ j. j < s .args .m + s .args .k) (sym (c .source .ensures)) (source-in (s .pre) (head c .loop .i) (omega arith))
-
-mul-size : tie.Need-mul-size Inv-loop μ-loop
-mul-size c = let z = small (start (head c) .pre) in omega (arith, taken c, z .0, z .1)
+taken c = omega (arith, c .source .ensures, source-in (start (head c) .pre) (head c .loop .i) (omega arith))
 
 shared-slice-read-size : tie.Need-shared-slice-read-size Inv-loop μ-loop
-shared-slice-read-size c =
-    let p = start (head (c .before)) .pre in let z = small p in omega (arith, taken (c .before), z .0, z .1, p .shape .slots)
+shared-slice-read-size c = let h = head (c .before) in omega (arith, taken (c .before), few h, start h .pre .shape .slots)
 
 -- it becomes the next of the network renumbered
 becomes : (c : tie.After-out Inv-loop μ-loop) → let h = head (chosen c) in nodeBy (placesAt h) (node c) ≡ getD (fs (start h)) (h .loop .i) []
@@ -84,50 +72,26 @@ becomes c =
 as-many : (c : tie.After-out Inv-loop μ-loop) → let s = start (head (chosen c)) in
     getD (s .args .counts .now) (chosen c .source .result) 0 ≡ length (nodeBy (placesAt (head (chosen c))) (node c))
 as-many c =
-    let h = head (chosen c) in
-    size-at (start h .pre) _ (taken (chosen c)) ∙ ap length (sym (c .before .before .node .ensures .0))
-    ∙ sym (sort-length (map (cubeBy (placesAt h)) (node c)) ∙ length-map (node c) (cubeBy (placesAt h)))
+    size-at (start (head (chosen c)) .pre) _ (taken (chosen c)) ∙ ap length (sym (c .before .before .node .ensures .0)) ∙ sym (node-length _ (node c))
 
 -- there is room for it
 roomy : (c : tie.After-out Inv-loop μ-loop) → let h = head (chosen c) in h .loop .at + length (nodeBy (placesAt h) (node c)) ≤ cubeSlots
 roomy c =
-    let h = head (chosen c) in
-    let r = new-room (start h .pre) {i = h .loop .i} (omega arith) (h .loop .inv .2 .place) in
-    omega (arith, r, ap length (becomes c))
+    let h = head (chosen c) in omega (arith, new-room (start h .pre) {i = h .loop .i} (omega arith) (h .loop .inv .2 .place), ap length (becomes c))
 
 put-node-requires : tie.Need-put-node-requires Inv-loop μ-loop
 put-node-requires c κs =
     let h = head (chosen c) in
-    let n = sort-length (map (cubeBy (placesAt h)) (node c)) ∙ length-map (node c) (cubeBy (placesAt h)) in
-    (h .before .places-of .ensures .span, omega (arith, roomy c, n, room-cubes (h .loop .out) cubeSlots (h .loop .inv .1)))
-
-mul-sizes : tie.Need-mul-sizes Inv-loop μ-loop
-mul-sizes c = let z = small (start (head (chosen (put (c .before)))) .pre) in omega (arith, z .0, z .1)
-
-array-write-sizes : tie.Need-array-write-sizes Inv-loop μ-loop
-array-write-sizes c = let z = small (start (head (chosen (put (c .before)))) .pre) in omega (arith, z .0, z .1)
-
-add-at : tie.Need-add-at Inv-loop μ-loop
-add-at c = let o = put (c .before) in omega (arith, roomy o, as-many o)
-
-add-i : tie.Need-add-i Inv-loop μ-loop
-add-i c = let z = small (start (head (chosen (put (c .before)))) .pre) in omega (arith, z .0, z .1)
-
-loop-less : tie.Need-loop-less Inv-loop μ-loop
-loop-less c = omega arith
+    (h .before .places-of .ensures .span, omega (arith, roomy c, node-length (placesAt h) (node c), room-cubes (h .loop .out) cubeSlots (h .loop .inv .1)))
 
 loop-again : tie.Need-loop-again Inv-loop μ-loop
 loop-again c =
-    let o = put (c .before) in
+    let o = put c in
     let h = head (chosen o) in
     let s = start h in
-    let z = small (s .pre) in
-    let n = new-many (s .pre) in (
-      omega arith,
-      search needs,
-      laid-more (fs s) (h .loop .inv .2) (omega (arith, n)) (omega (arith, n, z .0, z .1)) (becomes o) (as-many o)
-          (c .before .put-node .ensures),
-    )
+    let n = new-many (s .pre) in
+    let p = laid-more (fs s) (h .loop .inv .2) (omega (arith, n)) (omega (arith, n, few h)) (becomes o) (as-many o) (c .before .put-node .ensures) in
+    (omega arith, search needs, p)
 
 returns : tie.Need-returns Inv-loop μ-loop
 returns c =
@@ -141,20 +105,20 @@ build-spec =
     (tie.spec
     Inv-loop
     μ-loop
-    places-of-requires
+    (λ c κs. numbers-in (c .before .before .before .pre))
     loop-holds
-    add-loop
-    source-requires
-    mul-size
+    (λ c. omega (arith, few c))
+    (λ c κs. source-ready (start (c .before) .pre) _ (omega arith))
+    (λ c. omega (arith, taken c, few (head c)))
     shared-slice-read-size
     (λ c κs. search needs)
     (λ c. search needs)
     (λ c. search needs)
     put-node-requires
-    mul-sizes
-    array-write-sizes
-    add-at
-    add-i
-    loop-less
+    (λ c. omega (arith, few (head (chosen (put c)))))
+    (λ c. omega (arith, few (head (chosen (put c)))))
+    (λ c. omega (arith, roomy (put c), as-many (put c)))
+    (λ c. omega (arith, few (head (chosen (put c)))))
+    (λ c. search needs)
     loop-again
     returns)

@@ -53,9 +53,6 @@ others c =
     let f = taken (renewed c) in
     taken-next _ (sought f .first-from .ensures) (f .found .given .1) (c .before .before .empty2 .ensures) (c .before .with2 .ensures) (c .without .ensures)
 
-loop-less : tie.Need-loop-less Inv-loop μ-loop
-loop-less c = omega (arith, ap length (others c))
-
 loop-again : tie.Need-loop-again Inv-loop μ-loop
 loop-again c =
     let l = head c in
@@ -79,5 +76,5 @@ new-cube-spec =
     (λ c κs. search needs)
     (λ c κs. search needs)
     (λ c κs. search needs)
-    loop-less
+    (λ c. omega (arith, ap length (others c)))
     loop-again)

@@ -26,18 +26,6 @@ start h = h .before .before .before
 inside : (c : tie.In-loop Inv-loop μ-loop) → getD (start (c .before) .args .order .now) (c .before .loop .i) 0 < mostVariables
 inside c = start (c .before) .pre .range (c .before .loop .i) (omega arith) .1
 
-cast-v : tie.Need-cast-v Inv-loop μ-loop
-cast-v c = omega (arith, inside (c .before))
-
-cast-places : tie.Need-cast-places Inv-loop μ-loop
-cast-places c = omega (arith, c .number-of .ensures, start (c .before .before .before) .pre .variables)
-
-mul-places : tie.Need-mul-places Inv-loop μ-loop
-mul-places c = omega (arith, inside (c .before .before))
-
-array-write-places : tie.Need-array-write-places Inv-loop μ-loop
-array-write-places c = omega (arith, inside (c .before .before))
-
 loop-again : tie.Need-loop-again Inv-loop μ-loop
 loop-again c =
     let h = c .before .before .before in
@@ -61,11 +49,11 @@ places-of-spec =
     loop-holds
     (λ c. search needs)
     (λ c. search needs)
-    cast-v
+    (λ c. omega (arith, inside (c .before)))
     (λ c κs. search needs)
-    cast-places
-    mul-places
-    array-write-places
+    (λ c. omega (arith, c .number-of .ensures, start (c .before .before .before) .pre .variables))
+    (λ c. omega (arith, inside (c .before .before)))
+    (λ c. omega (arith, inside (c .before .before)))
     (λ c. search needs)
     (λ c. search needs)
     loop-again
