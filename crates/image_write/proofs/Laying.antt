@@ -13,7 +13,7 @@ use Rattle.image_write.specs.Parts.{overlaid, RoomFor, LaidBits}
 
 -- ---- one bit more
 
-module _ (o old : List ℕ) (l : List Bool) (b : Bool) (at x : ℕ) (n : length l ≡ at) (e : o ≡ overlaid l old) (w : x ≡ cond b (2 ^ (7 - at % 8)) 0)
+module _ {o : List ℕ} (old : List ℕ) (l : List Bool) (b : Bool) {at x : ℕ} (n : length l ≡ at) (e : o ≡ overlaid l old) (w : x ≡ cond b (2 ^ (7 - at % 8)) 0)
     (r : at + 1 ≤ 8 * length o) where
   size : length (bytesOf l) ≡ bytesFor at
   size = bytes-length l ∙ ap bytesFor n
@@ -25,56 +25,36 @@ module _ (o old : List ℕ) (l : List Bool) (b : Bool) (at x : ℕ) (n : length 
   pub bit-new : at % 8 ≡ 0 → set o (at / 8) x ≡ overlaid (l ++ (b ∷ [])) old
   bit-new z =
       let q : bytesFor at ≡ at / 8 = omega arith in
-      let h : at / 8 < length old = omega (
-        arith,
-        ap length e,
-        length-append (bytesOf l) (drop (bytesFor (length l)) old),
-        size,
-        length-drop (bytesFor (length l)) old,
-      ) in
-      let f : drop (bytesFor (length l)) old ≡ getD old (at / 8) 0 ∷ drop (suc (at / 8)) old =
-      ap (λ i. drop i old) (ap bytesFor n ∙ q) ∙ drop-cons old (at / 8) 0 h in
+      let h : at / 8 < length old = omega (arith, simp (length-append, length-drop) at (ap length e), size) in
+      let f = ap (λ i. drop i old) (ap bytesFor n ∙ q) ∙ drop-cons old (at / 8) 0 h in
       let v : x ≡ cond b (2 ^ 7) 0 = w ∙ ap (λ i. cond b (2 ^ (7 - i)) 0) z in
-      ap (λ (u : List ℕ). set u (at / 8) x) (e ∙ ap (bytesOf l ++_) f)
+      ap (λ u. set u (at / 8) x) (e ∙ ap (bytesOf l ++_) f)
       ∙ set-at (bytesOf l) _ (drop (suc (at / 8)) old) x (at / 8) (size ∙ q)
       ∙ sym (append-assoc (bytesOf l) (x ∷ []) (drop (suc (at / 8)) old))
-      ∙ ap₂ (λ (u : List ℕ) (i : ℕ). u ++ drop i old) (ap (λ i. bytesOf l ++ (i ∷ [])) v ∙ sym (bytes-more-new l b (ap (_% 8) n ∙ z))) (sym next)
+      ∙ ap₂ (λ u i. u ++ drop i old) (ap (λ i. bytesOf l ++ (i ∷ [])) v ∙ sym (bytes-more-new l b (ap (_% 8) n ∙ z))) (sym next)
 
   module _ (z : at % 8 ≡ 0 → ⊥) where
-    place : length l / 8 ≡ at / 8
-    place = ap (_/ 8) n
-
     inside : at / 8 < length (bytesOf l)
     inside = omega (arith, size)
 
     here : getD o (at / 8) 0 ≡ getD (bytesOf l) (at / 8) 0
-    here = ap (λ (u : List ℕ). getD u (at / 8) 0) e ∙ List·getD-append (bytesOf l) _ 0 (at / 8) inside
+    here = ap (λ u. getD u (at / 8) 0) e ∙ List·getD-append (bytesOf l) _ 0 (at / 8) inside
 
     more : bytesOf (l ++ (b ∷ [])) ≡ set (bytesOf l) (at / 8) (getD o (at / 8) 0 + x)
-    more =
-        bytes-more-old l b (λ k. z (sym (ap (_% 8) n) ∙ k))
-        ∙ ap₂ (λ (i j : ℕ). set (bytesOf l) i (getD (bytesOf l) i 0 + cond b (2 ^ (7 - j)) 0)) place (ap (_% 8) n)
-        ∙ ap₂ (λ (i j : ℕ). set (bytesOf l) (at / 8) (i + j)) (sym here) (sym w)
+    more = rw (here, w, ← n) (bytes-more-old l b (λ k. z (ap (_% 8) (sym n) ∙ k)))
 
     -- one of those that follow
     pub bit-old : set o (at / 8) (getD o (at / 8) 0 + x) ≡ overlaid (l ++ (b ∷ [])) old
     bit-old =
         let f : bytesFor (length l) ≡ bytesFor (length (l ++ (b ∷ []))) = omega (arith, next, size, bytes-length l, inside) in
-        ap (λ (u : List ℕ). set u (at / 8) (getD o (at / 8) 0 + x)) e
-        ∙ set-append-left (bytesOf l) (drop (bytesFor (length l)) old) (at / 8) (getD o (at / 8) 0 + x) inside
-        ∙ ap₂ (λ (u : List ℕ) (i : ℕ). u ++ drop i old) (sym more) f
+        ap (λ u. set u (at / 8) (getD o (at / 8) 0 + x)) e ∙ set-append-left (bytesOf l) _ (at / 8) _ inside ∙ ap₂ (λ u i. u ++ drop i old) (sym more) f
 
     -- the byte stays one
     pub bit-fits : getD o (at / 8) 0 + x < 256
     bit-fits =
-        let g : getD (bytesOf (l ++ (b ∷ []))) (at / 8) 0 ≡ getD o (at / 8) 0 + x =
-        ap (λ (u : List ℕ). getD u (at / 8) 0) more ∙ getD-set-same (bytesOf l) (at / 8) (getD o (at / 8) 0 + x) 0 inside in
-        omega (
-          arith,
-          g,
-          from-small (bytesFor (length (l ++ (b ∷ [])))) (l ++ (b ∷ [])) _
-              (at-in (bytesOf (l ++ (b ∷ []))) (at / 8) 0 (omega (arith, bytes-length (l ++ (b ∷ [])), next))),
-        )
+        let m = l ++ (b ∷ []) in
+        let g = ap (λ u. getD u (at / 8) 0) more ∙ getD-set-same (bytesOf l) (at / 8) _ 0 inside in
+        omega (arith, g, from-small (bytesFor (length m)) m _ (at-in (bytesOf m) (at / 8) 0 (omega (arith, bytes-length m, next))))
 
 -- ---- bits after bits
 

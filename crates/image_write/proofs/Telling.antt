@@ -4,12 +4,12 @@ use mathlib.Core.Path.{_≡_, refl, sym, ap, ap₂, _∙_}
 use mathlib.Core.Bool.{Bool, true, false}
 use mathlib.Core.List.{List, [], _++_}
 use native.Mathlib.Omega.{arith}
-use lib.ListN.{length, take, drop, length-append, length-map}
+use lib.ListN.{length, take, drop}
 use lib.Seq.{take-at, drop-at, take-take, take-add}
 use Rattle.expression.specs.Words.{cubesOf}
 use Rattle.image_fields.specs.Fields.{bytesFor, bytesFrom, fieldBits}
 use Rattle.image_fields.proofs.Bytes.{bytes-length}
-use Rattle.network.specs.Net.{Node, Net, nodes}
+use Rattle.network.specs.Net.{Net, nodes}
 use Rattle.network.specs.Held.{netOf, rules}
 use Rattle.network_nodes.specs.Nodes.{cut}
 use Rattle.network.specs.Handed.{nodeSlots, Shaped, Holds}
@@ -37,9 +37,6 @@ module _ (r : Network) (m : Net) (h : Holds r m) where
 
   abbrev e : ℕ
   e = r .outputs + r .divisors
-
-  many : length (nodes m) ≡ e
-  many = length-append (m .outputs) (divisorCubes m) ∙ ap₂ _+_ (sym (h .outputs)) (length-map (m .divisors) (λ (d : Node). d .cubes) ∙ sym (h .divisors))
 
   front : take e all ≡ nodes m
   front = sym (cut-take e (r .counts) (cubesOf (r .words))) ∙ ap₂ cut (used-held r m h) (h .laid .cubes) ∙ cut-flat (nodes m) _

@@ -18,22 +18,10 @@ start c = c .before .before .before
 abbrev words : tie.After-literals → List ℕ
 words c = start c .args .f .now
 
-mul-cubes : tie.Need-mul-cubes
-mul-cubes c = omega (arith, c .number .ensures, c .before .before .pre)
-
 -- nothing is capped
 literals-are : (c : tie.After-literals) → c .literals .result ≡ literalsOf (cubesOf (words c))
 literals-are c =
     c .literals .ensures ∙ rw (lt-ltb (literalsOf (cubesOf (words c))) 18446744073709551616 (omega (arith, literals-most (words c), start c .pre)))
-
-mul-result : tie.Need-mul-result
-mul-result c = omega (arith, literals-are c, literals-most (words c), start c .pre)
-
-add-result : tie.Need-add-result
-add-result c = omega (arith, literals-are c, literals-most (words c), start c .pre, c .before .number .ensures)
-
-add-result-2 : tie.Need-add-result-2
-add-result-2 c = omega (arith, literals-are c, literals-most (words c), start c .pre, c .before .number .ensures)
 
 returns : tie.Need-returns
 returns c =
@@ -44,4 +32,7 @@ returns c =
 pub node-bits-spec : {M : Type 1} → statement M
 node-bits-spec =
     tie.close
-    (tie.spec (λ c κs. search needs) mul-cubes (λ c κs. search needs) mul-result add-result add-result-2 returns)
+    (tie.spec (λ c κs. search needs) (λ c. omega (arith, c .number .ensures, c .before .before .pre)) (λ c κs. search needs)
+    (λ c. omega (arith, literals-are c, literals-most (words c), start c .pre))
+    (λ c. omega (arith, literals-are c, literals-most (words c), start c .pre, c .before .number .ensures))
+    (λ c. omega (arith, literals-are c, literals-most (words c), start c .pre, c .before .number .ensures)) returns)

@@ -23,17 +23,14 @@ loop-holds c = (omega arith, omega arith, omega arith)
 
 node-bits-requires : tie.Need-node-bits-requires Inv-loop μ-loop
 node-bits-requires c κs =
-    let s = c .before .before .before .before .before in
-    omega (arith, node-few (s .args .words .now) (s .args .counts .now) (c .before .before .loop .i) _ (c .node .ensures .0), s .pre .few)
+    let h = c .before .before in omega (arith, node-few _ _ (h .loop .i) _ (c .node .ensures .0), h .before .before .before .pre .few)
 
 loop-again : tie.Need-loop-again Inv-loop μ-loop
 loop-again c =
     let n = c .before in
     let h = n .before .before in
-    let s = h .before .before .before in
-    let f = cubesOf (n .node .result .now) in
-    let q = nodes-next (s .args .words .now) (s .args .counts .now) (h .loop .i) (s .args .e) f (omega arith) (s .pre .counted) (n .node .ensures .0) in
-    let l = ap length q ∙ length-append (fieldBits (nodeFields f)) _ in
+    let q = nodes-next _ _ (h .loop .i) _ _ (omega arith) (h .before .before .before .pre .counted) (n .node .ensures .0) in
+    let l = ap length q ∙ length-append (fieldBits (nodeFields (cubesOf (n .node .result .now)))) _ in
     (omega arith, omega (arith, l, h .loop .inv .1, c .node-bits .ensures .0), omega (arith, h .loop .inv .2, c .node-bits .ensures .1))
 
 returns : tie.Need-returns Inv-loop μ-loop

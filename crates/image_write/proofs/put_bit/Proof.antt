@@ -7,30 +7,21 @@ use Rattle.image_write.proofs.put_bit.Tie as tie
 
 returns : tie.Need-returns
 returns c =
-    let s = c .before .before .before in
-    record {
-      place = refl;
-      adds = λ l old n e. bit-new (s .args .o .now) old l (s .args .b) (s .args .at) _ n e (c .before .worth .ensures) (s .pre .room)
-          (c .if1 .taken);
-    }
+    let r = c .before .before .before .pre .room in
+    record { place = refl; adds = λ l old n e. bit-new old l _ n e (c .before .worth .ensures) r (c .if1 .taken) }
 
 add-o : tie.Need-add-o
 add-o c =
-    let s = c .before .before .before .before in
+    let e = c .before in
+    let s = e .before .before .before in
     let q = s .pre in
-    record {
-      fits = bit-fits (s .args .o .now) (q .old) (q .bits) (s .args .b) (s .args .at) _ (q .number) (q .bytes) (c .before .before .worth .ensures)
-          (q .room) (c .before .if1 .left);
-    }
+    record { fits = bit-fits (q .old) (q .bits) (s .args .b) (q .number) (q .bytes) (e .before .worth .ensures) (q .room) (e .if1 .left) }
 
 returns-2 : tie.Need-returns-2
 returns-2 c =
-    let s = c .before .before .before .before in
-    record {
-      place = refl;
-      adds = λ l old n e. bit-old (s .args .o .now) old l (s .args .b) (s .args .at) _ n e (c .before .before .worth .ensures)
-          (s .pre .room) (c .before .if1 .left);
-    }
+    let d = c .before in
+    let r = d .before .before .before .pre .room in
+    record { place = refl; adds = λ l old n e. bit-old old l _ n e (d .before .worth .ensures) r (d .if1 .left) }
 
 pub put-bit-spec : {M : Type 1} → statement M
 put-bit-spec =

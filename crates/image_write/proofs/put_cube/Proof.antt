@@ -78,9 +78,6 @@ others c =
     let f = taken (laid c) in
     taken-next _ (sought f .first-from .ensures) (f .found .given .1) (c .before .before .empty .ensures) (c .before .with .ensures) (c .without .ensures)
 
-loop-less : tie.Need-loop-less Inv-loop μ-loop
-loop-less c = omega (arith, ap length (others c))
-
 loop-again : tie.Need-loop-again Inv-loop μ-loop
 loop-again c =
     let p = laid c in
@@ -106,5 +103,5 @@ put-cube-spec =
     (λ c κs. search needs)
     (λ c κs. search needs)
     (λ c κs. search needs)
-    loop-less
+    (λ c. omega (arith, ap length (others c)))
     loop-again)

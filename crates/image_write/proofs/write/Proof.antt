@@ -28,9 +28,6 @@ renumbered-held c =
 returns : tie.Need-returns
 returns c = told-rule _ _ (told-refused _ _ _ _ (c .before .before .renumber .ensures) (c .enum-told2 .given .1) .0)
 
-add-nodes-bits : tie.Need-add-nodes-bits
-add-nodes-bits c = omega (arith, there (renumbered-held (lent c)) .nodes)
-
 nodes-bits-requires : tie.Need-nodes-bits-requires
 nodes-bits-requires c κs = there (renumbered-held (lent c))
 
@@ -60,7 +57,7 @@ write-spec =
     returns
     (λ c. search needs)
     (λ c. search needs)
-    add-nodes-bits
+    (λ c. omega (arith, there (renumbered-held (lent c)) .nodes))
     nodes-bits-requires
     (λ c. search needs)
     (λ c. search needs)
