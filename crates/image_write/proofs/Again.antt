@@ -13,7 +13,7 @@ use Rattle.expression.specs.declared.Verdict.the-variants.{Accepted}
 use Rattle.sets.proofs.Lists.{_∈_}
 use Rattle.network.specs.Net.{Net}
 use Rattle.network.specs.Held.{netOf, rules}
-use Rattle.network.specs.Handed.{Shaped, Holds, Return, gives}
+use Rattle.network.specs.Handed.{Shaped, Holds, gives}
 use Rattle.network.specs.Handed as handed
 use Rattle.network.specs.Evaluation.{evaluate}
 use Rattle.network.specs.declared.Handed.{Handed}
@@ -60,5 +60,5 @@ written-read-outputs n shape o o′ k w r t =
     let b = told-bytes (rules n) (imageOf m) o o′ k w in
     let l = rules-lawful n shape (b .0) in
     let e : take k o′ ≡ imageOf m = ap (take k) (b .2) ∙ take-at (imageOf m) _ k (sym (b .1)) in
-    let q : handed.Told (gives (renumbered m)) r = subst (λ (x : Return). handed.Told x r) (ap readImage e ∙ read-of-image m l) t in
-    (q .0, λ s. ap (λ (x : Net). evaluate x s) (holds-net (r .network) (renumbered m) (q .1) (renumbered-lawful m l .good .inTurn)) ∙ renumbered-evaluate m l s)
+    let q : handed.Told (gives (renumbered m)) r = subst (λ x. handed.Told x r) (ap readImage e ∙ read-of-image m l) t in
+    (q .0, λ s. ap (λ x. evaluate x s) (holds-net (r .network) (renumbered m) (q .1) (renumbered-lawful m l .good .inTurn)) ∙ renumbered-evaluate m l s)

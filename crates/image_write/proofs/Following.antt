@@ -63,12 +63,12 @@ node-bits f n e = ap (λ k. cubesBits k ++ spreadFrom f 0) (sym e)
 
 pub cubes-next : (f : List (List ℕ)) (i : ℕ) (c : List ℕ) → i < length f → c ≡ getD f i [] → spreadFrom f i ≡ fieldBits (cubeFields c) ++ spreadFrom f (i + 1)
 cubes-next f i c h e =
-    ap (λ (l : List (List ℕ)). fieldBits (flat (map cubeFields l))) (drop-next f i [] h ∙ ap (_∷ drop (i + 1) f) (sym e))
+    ap (λ l. fieldBits (flat (map cubeFields l))) (drop-next f i [] h ∙ ap (_∷ drop (i + 1) f) (sym e))
     ∙ fields-append (cubeFields c) (flat (map cubeFields (drop (i + 1) f)))
 
 pub cubes-none : (f : List (List ℕ)) (i : ℕ) → length f ≤ i → spreadFrom f i ≡ []
 unfolding fieldBits
-cubes-none f i h = ap (λ (l : List (List ℕ)). fieldBits (flat (map cubeFields l))) (drop-of-length-le f h)
+cubes-none f i h = ap (λ l. fieldBits (flat (map cubeFields l))) (drop-of-length-le f h)
 
 -- ---- nodes
 
@@ -80,8 +80,8 @@ module _ (words counts : List ℕ) where
       → bitsFrom i e words counts ≡ fieldBits (nodeFields f) ++ bitsFrom (i + 1) e words counts
   nodes-next i e f h k q =
       let n : e - i ≡ suc (e - (i + 1)) = omega arith in
-      let d : drop i all ≡ f ∷ drop (i + 1) all = drop-next all i [] (omega (arith, cut-length counts (cubesOf words))) ∙ ap (_∷ drop (i + 1) all) (sym q) in
-      ap₂ (λ (x : ℕ) (l : List (List (List ℕ))). fieldBits (flat (map nodeFields (take x l)))) n d
+      let d = drop-next all i [] (omega (arith, cut-length counts (cubesOf words))) ∙ ap (_∷ drop (i + 1) all) (sym q) in
+      ap₂ (λ x l. fieldBits (flat (map nodeFields (take x l)))) n d
       ∙ fields-append (nodeFields f) (flat (map nodeFields (nodesFrom (i + 1) e words counts)))
 
   pub nodes-none : (i e : ℕ) → e ≤ i → bitsFrom i e words counts ≡ []

@@ -1,11 +1,12 @@
 -- What the writer answers: 10, 9, or the image of the network renumbered. Assumes nothing.
 use Prim.Native.Nat.{ℕ, _+_, _-_, _*_, _<_, _≤_}
 use mathlib.Core.Path.{_≡_, refl, sym, ap, ap₂, _∙_}
-use mathlib.Core.Bool.{Bool, true, false}
+use mathlib.Core.Bool.{true, false}
 use mathlib.Core.List.{List, [], _++_}
 use native.Mathlib.Omega.{arith}
 use lib.ListN.{length, take, drop}
-use lib.Seq.{take-at, drop-at, take-take, take-add}
+use lib.Seq.{take-at, drop-at, take-take}
+use Rattle.sets.proofs.Rows.{drop-take}
 use Rattle.expression.specs.Words.{cubesOf}
 use Rattle.image_fields.specs.Fields.{bytesFor, bytesFrom, fieldBits}
 use Rattle.image_fields.proofs.Bytes.{bytes-length}
@@ -21,7 +22,7 @@ use Rattle.network_nodes.proofs.Cutting.{cut-take}
 use Rattle.image_laws.specs.Renumber.{renumbered}
 use Rattle.image_laws.proofs.Renumbering.{renumbered-lawful}
 use Rattle.image_laws.specs.Widths.{headSize}
-use Rattle.image_laws.specs.Image.{headFields, netFields, netBytes, imageOf}
+use Rattle.image_laws.specs.Image.{netFields, netBytes, imageOf}
 use Rattle.image_laws.proofs.Fielding.{divisorCubes, nodeBits, net-bits, net-bits-length, nodes-bits-length}
 use Rattle.letters.specs.Told.{Told}
 use Rattle.letters.specs.declared.Wrote.the-variants as wrote
@@ -45,27 +46,19 @@ module _ (r : Network) (m : Net) (h : Holds r m) where
   from-zero i = let z : i - 0 ≡ i = omega arith in ap (λ j. take j all) z
 
   outputs-held : take (r .outputs) all ≡ m .outputs
-  outputs-held = sym (take-take (r .outputs) e all (omega arith)) ∙ ap (take (r .outputs)) front
-      ∙ take-at (m .outputs) (divisorCubes m) (r .outputs) (sym (h .outputs))
+  outputs-held = rw (← take-take (r .outputs) e all (omega arith), front) (take-at (m .outputs) (divisorCubes m) (r .outputs) (sym (h .outputs)))
 
   divisors-held : nodesFrom (r .outputs) e (r .words) (r .counts) ≡ divisorCubes m
   divisors-held =
       let z : e - r .outputs ≡ r .divisors = omega arith in
-      ap (λ j. take j (drop (r .outputs) all)) z
-      ∙ sym (drop-at (take (r .outputs) all) (take (r .divisors) (drop (r .outputs) all)) (r .outputs) (ap length outputs-held ∙ sym (h .outputs)))
-      ∙ ap (drop (r .outputs)) (sym (take-add (r .outputs) (r .divisors) all) ∙ front)
-      ∙ drop-at (m .outputs) (divisorCubes m) (r .outputs) (sym (h .outputs))
+      rw (z, ← drop-take (r .outputs) (r .divisors) all, front) (drop-at (m .outputs) (divisorCubes m) (r .outputs) (sym (h .outputs)))
 
   pub bits-held : allBits (r .inputs) (r .outputs) (r .divisors) (r .words) (r .counts) ≡ fieldBits (netFields m)
-  bits-held =
-      ap₂ _++_ (ap₂ (λ (i o : ℕ). fieldBits (headFields i o (r .divisors))) (h .inputs) (h .outputs)
-      ∙ ap (λ d. fieldBits (headFields (m .inputs) (length (m .outputs)) d)) (h .divisors))
-      (ap₂ (λ (x y : List (List (List ℕ))). nodeBits x ++ nodeBits y) divisors-held (from-zero (r .outputs) ∙ outputs-held))
-      ∙ sym (net-bits m)
+  bits-held = rw (divisors-held, from-zero (r .outputs) ∙ outputs-held, h .inputs, h .outputs, h .divisors, net-bits m)
 
   -- so many of them
   pub size-held : headSize + length (bitsFrom 0 e (r .words) (r .counts)) ≡ length (fieldBits (netFields m))
-  size-held = omega (arith, ap (λ (x : List (List (List ℕ))). length (nodeBits x)) (from-zero e ∙ front), nodes-bits-length (nodes m), net-bits-length m)
+  size-held = omega (arith, ap (λ x. length (nodeBits x)) (from-zero e ∙ front), nodes-bits-length (nodes m), net-bits-length m)
 
 -- ---- the network renumbered
 
@@ -118,7 +111,7 @@ module _ {n r : Network} (w : Renewed n r) where
       unfolding bytesFrom imageOf netBytes
       told-written o′ p k =
           let e : o′ ≡ imageOf (netOf n) ++ drop (length (imageOf (netOf n))) o =
-          k .adds [] o refl refl ∙ ap (λ (u : List Bool). overlaid u o) (bits-held r new (w .holds))
+          k .adds [] o refl refl ∙ ap (λ u. overlaid u o) (bits-held r new (w .holds))
           ∙ ap (λ i. imageOf (netOf n) ++ drop i o) (sym (bytes-length (fieldBits (netFields new)))) in
           rw (w .lawful) (told-whole _ _ _ _ (omega (arith, image-length)) (sym image-length) e)
 

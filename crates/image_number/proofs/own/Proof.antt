@@ -1,7 +1,7 @@
 -- `image_number::own` meets its contract. The loop's invariant: each variable passed is at its own number. Assumes nothing.
 use borrow.Author.Needs.{needs}
 use Prim.Native.Nat.{_-_, _≤_}
-use mathlib.Core.Path.{_≡_, subst}
+use mathlib.Core.Path.{_≡_}
 use native.Mathlib.Omega.{arith}
 use Rattle.network.specs.Held.{mostVariables}
 use Rattle.image_number.specs.Parts.{Itself}
@@ -22,7 +22,7 @@ loop-again : tie.Need-loop-again Inv-loop μ-loop
 loop-again c = (omega arith, itself-next _ _ (omega arith) (c .before .loop .inv .1))
 
 returns : tie.Need-returns Inv-loop μ-loop
-returns c = let e : c .before .loop .v ≡ mostVariables = omega arith in subst (λ v. Itself v (c .before .loop .places)) e (c .before .loop .inv .1)
+returns c = let h = c .before .loop in let e : h .v ≡ mostVariables = omega arith in rw e at (h .inv .1)
 
 pub own-spec : {M : Type 1} → statement M
 own-spec =

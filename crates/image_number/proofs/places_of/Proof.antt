@@ -1,7 +1,7 @@
 -- `image_number::places_of` meets its contract. The loop's invariant: the divisors passed have the numbers from n on. Assumes nothing.
 use borrow.Author.Needs.{needs}
 use Prim.Native.Nat.{_-_, _<_, _≤_}
-use mathlib.Core.Path.{_≡_, subst}
+use mathlib.Core.Path.{_≡_}
 use native.Mathlib.Omega.{arith}
 use lib.ListN.{getD}
 use Rattle.network.specs.Held.{mostVariables}
@@ -33,11 +33,7 @@ loop-again c =
     (omega arith, placing-next _ _ _ _ _ z (omega arith) (h .loop .inv .1) (omega (arith, c .number-of .ensures, z .variables)))
 
 returns : tie.Need-returns Inv-loop μ-loop
-returns c =
-    let h = c .before in
-    let a = start h .args in
-    let e : h .loop .i ≡ a .k = omega arith in
-    subst (λ i. Placing (a .n) i (a .order .now) (h .loop .places)) e (h .loop .inv .1)
+returns c = let h = c .before in let e : h .loop .i ≡ start h .args .k = omega arith in rw e at (h .loop .inv .1)
 
 pub places-of-spec : {M : Type 1} → statement M
 places-of-spec =

@@ -18,9 +18,6 @@ Inv-loop words counts e sum₀ i₀ sum i = (i ≤ e) × (sum + length (bitsFrom
 abbrev μ-loop : tie.MeasureT-loop
 μ-loop words counts e sum₀ i₀ sum i = e - i
 
-loop-holds : tie.Need-loop-holds Inv-loop μ-loop
-loop-holds c = (omega arith, omega arith, omega arith)
-
 node-bits-requires : tie.Need-node-bits-requires Inv-loop μ-loop
 node-bits-requires c κs =
     let h = c .before .before in omega (arith, node-few _ _ (h .loop .i) _ (c .node .ensures .0), h .before .before .before .pre .few)
@@ -46,7 +43,7 @@ nodes-bits-spec =
     (tie.spec
     Inv-loop
     μ-loop
-    loop-holds
+    (λ c. search needs)
     (λ c κs. search needs)
     node-bits-requires
     (λ c. search needs)

@@ -1,5 +1,5 @@
 -- `image_write::put_cube` meets its contract. The loop's invariant: the fields of the literals left are due. Assumes nothing.
-use mathlib.Core.Path.{_≡_, _∙_, ap}
+use mathlib.Core.Path.{_≡_, ap}
 use mathlib.Core.Bool.{Bool}
 use mathlib.Core.List.{List, _∷_, _++_}
 use Prim.Native.Nat.{ℕ}
@@ -56,9 +56,6 @@ put-field-requires c κs = (omega arith, going-ready (literalsBits _) _ (opened 
 loop-holds : tie.Need-loop-holds Inv-loop μ-loop
 loop-holds c = going-all _ (begun (c .before .before) .room)
 
-same-length : tie.Need-same-length Inv-loop μ-loop
-same-length c = let h = c .before .before .before in h .loop .inv .same ∙ put h .put-field .kept .0
-
 returns : tie.Need-returns Inv-loop μ-loop
 returns c =
     let f = c .before .before in
@@ -96,7 +93,7 @@ put-cube-spec =
     (λ c κs. search needs)
     (λ c. search needs)
     (λ c. search needs)
-    same-length
+    (λ c. search needs)
     returns
     (λ c. search needs)
     put-field-requires-2

@@ -1,5 +1,4 @@
 -- `image_write::put_node` meets its contract. The loop's invariant: the fields of the cubes from i on are due. Assumes nothing.
-use mathlib.Core.Path.{_∙_}
 use mathlib.Core.Bool.{Bool}
 use mathlib.Core.List.{List, _++_}
 use Prim.Native.Nat.{ℕ, _+_, _-_, _≤_}
@@ -66,9 +65,6 @@ put-cube-requires c κs = going-ready (fieldBits (cubeFields (lits (c .cube-at .
 loop-again : tie.Need-loop-again Inv-loop μ-loop
 loop-again c = let p = c .before .before in (omega arith, going-next (ahead (p .before)) (p .put-cube .ensures) (p .put-cube .kept .0))
 
-same-length : tie.Need-same-length Inv-loop μ-loop
-same-length c = c .before .loop .inv .1 .same ∙ put (c .before) .put-field .kept .0
-
 returns : tie.Need-returns Inv-loop μ-loop
 returns c =
     let h = c .before in
@@ -89,5 +85,5 @@ put-node-spec =
     (λ c. search needs)
     (λ c. search needs)
     loop-again
-    same-length
+    (λ c. search needs)
     returns)

@@ -53,5 +53,5 @@ put-nodes-spec =
     (λ c. search needs)
     (λ c. search needs)
     loop-again
-    (λ c. c .before .loop .inv .1 .same)
+    (λ c. search needs)
     returns)
