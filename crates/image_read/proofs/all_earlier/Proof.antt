@@ -32,17 +32,8 @@ loop-holds c =
     let z : s .args .n + 0 ≡ s .args .n = omega arith in
     (omega arith, omega arith, ap (λ x. readsEarlier x (cut (s .args .counts .now) (cubesOf (s .args .words .now)))) z)
 
-mul-e : tie.Need-mul-e Inv-loop μ-loop
-mul-e c = search needs
-
-shared-slice-read-e : tie.Need-shared-slice-read-e Inv-loop μ-loop
-shared-slice-read-e c = search needs
-
 add-e : tie.Need-add-e Inv-loop μ-loop
 add-e c = let l = c .before .before in omega (arith, room l (c .before .loop-test .taken))
-
-part-requires : tie.Need-part-requires Inv-loop μ-loop
-part-requires c κs = search needs
 
 add-reaches : tie.Need-add-reaches Inv-loop μ-loop
 add-reaches c =
@@ -59,12 +50,6 @@ returns c =
     let s = l .before .before .before in
     sym (earlier-stop (s .args .counts .now) (cubesOf (s .args .words .now)) (l .loop .i) (l .loop .a) (p .before .before .loop-test .taken) _ refl _
     (p .part .ensures .0) (s .args .n + l .loop .i) (sym (c .before .reaches .ensures) ∙ not-true _ (c .if1 .taken))) ∙ l .loop .inv .2
-
-add-i : tie.Need-add-i Inv-loop μ-loop
-add-i c = search needs
-
-loop-less : tie.Need-loop-less Inv-loop μ-loop
-loop-less c = search needs
 
 loop-again : tie.Need-loop-again Inv-loop μ-loop
 loop-again c =
@@ -90,19 +75,5 @@ returns-2 c =
 
 pub all-earlier-spec : {M : Type 1} → statement M
 all-earlier-spec =
-    tie.close
-    (tie.spec
-    Inv-loop
-    μ-loop
-    loop-holds
-    mul-e
-    shared-slice-read-e
-    add-e
-    part-requires
-    add-reaches
-    reaches-requires
-    returns
-    add-i
-    loop-less
-    loop-again
-    returns-2)
+    tie.close (tie.spec Inv-loop μ-loop loop-holds (λ c. search needs) (λ c. search needs) add-e (λ c κs. search needs) add-reaches reaches-requires returns
+    (λ c. search needs) (λ c. search needs) loop-again returns-2)

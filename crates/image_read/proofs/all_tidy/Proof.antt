@@ -29,20 +29,8 @@ room l h = omega (arith, sum-next (l .before .before .before .args .counts .now)
 loop-holds : tie.Need-loop-holds Inv-loop μ-loop
 loop-holds c = (omega arith, omega arith, refl)
 
-mul-e : tie.Need-mul-e Inv-loop μ-loop
-mul-e c = search needs
-
-shared-slice-read-e : tie.Need-shared-slice-read-e Inv-loop μ-loop
-shared-slice-read-e c = search needs
-
 add-e : tie.Need-add-e Inv-loop μ-loop
 add-e c = let l = c .before .before in omega (arith, room l (c .before .loop-test .taken))
-
-part-requires : tie.Need-part-requires Inv-loop μ-loop
-part-requires c κs = search needs
-
-is-tidy-requires : tie.Need-is-tidy-requires Inv-loop μ-loop
-is-tidy-requires c κs = search needs
 
 returns : tie.Need-returns Inv-loop μ-loop
 returns c =
@@ -51,12 +39,6 @@ returns c =
     sym (tests-stop (l .before .before .before .args .counts .now) (cubesOf (l .before .before .before .args .words .now)) (l .loop .i) (l .loop .a)
     (p .before .before .loop-test .taken) _ refl _ (p .part .ensures .0) tidy (sym (c .before .is-tidy .ensures) ∙ not-true _ (c .if1 .taken)))
     ∙ l .loop .inv .2
-
-add-i : tie.Need-add-i Inv-loop μ-loop
-add-i c = search needs
-
-loop-less : tie.Need-loop-less Inv-loop μ-loop
-loop-less c = search needs
 
 loop-again : tie.Need-loop-again Inv-loop μ-loop
 loop-again c =
@@ -77,18 +59,5 @@ returns-2 c =
 
 pub all-tidy-spec : {M : Type 1} → statement M
 all-tidy-spec =
-    tie.close
-    (tie.spec
-    Inv-loop
-    μ-loop
-    loop-holds
-    mul-e
-    shared-slice-read-e
-    add-e
-    part-requires
-    is-tidy-requires
-    returns
-    add-i
-    loop-less
-    loop-again
-    returns-2)
+    tie.close (tie.spec Inv-loop μ-loop loop-holds (λ c. search needs) (λ c. search needs) add-e (λ c κs. search needs) (λ c κs. search needs) returns
+    (λ c. search needs) (λ c. search needs) loop-again returns-2)

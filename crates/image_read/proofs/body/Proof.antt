@@ -31,12 +31,6 @@ read n x e = subst (Read n) e (n .nodes .ensures)
 add-nodes : tie.Need-add-nodes
 add-nodes c = let s = c .before .before in omega (arith, s .pre .variables)
 
-slice-aggregate-nodes : tie.Need-slice-aggregate-nodes
-slice-aggregate-nodes c = search needs
-
-slice-aggregate-nodes-2 : tie.Need-slice-aggregate-nodes-2
-slice-aggregate-nodes-2 c = search needs
-
 nodes-requires : tie.Need-nodes-requires
 nodes-requires c κs =
     let s = c .before .before .before .before in (
@@ -45,18 +39,6 @@ nodes-requires c κs =
       omega (arith, s .pre .outputs, s .pre .variables, length-replicate {A = ℕ} nodeSlots 0),
       omega (arith, s .pre .variables),
     )
-
-enum-known-d : tie.Need-enum-known-d
-enum-known-d c = search needs
-
-refuse-requires : tie.Need-refuse-requires
-refuse-requires c κs = search needs
-
-enum-known-d-2 : tie.Need-enum-known-d-2
-enum-known-d-2 c = search needs
-
-slice-aggregate-rest : tie.Need-slice-aggregate-rest
-slice-aggregate-rest c = search needs
 
 rest-requires : tie.Need-rest-requires
 rest-requires c κs =
@@ -76,16 +58,5 @@ returns-2 c = c .rest .ensures
 
 pub body-spec : {M : Type 1} → statement M
 body-spec =
-    tie.close
-    (tie.spec
-    add-nodes
-    slice-aggregate-nodes
-    slice-aggregate-nodes-2
-    nodes-requires
-    enum-known-d
-    refuse-requires
-    enum-known-d-2
-    slice-aggregate-rest
-    rest-requires
-    returns
-    returns-2)
+    tie.close (tie.spec add-nodes (λ c. search needs) (λ c. search needs) nodes-requires (λ c. search needs) (λ c κs. search needs) (λ c. search needs)
+    (λ c. search needs) rest-requires returns returns-2)

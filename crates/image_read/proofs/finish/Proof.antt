@@ -15,35 +15,11 @@ add-s : tie.Need-add-s
 add-s c =
     let w = c .before .before .before .pre in omega (arith, w .cubes, w .half .divisors .near .cubes, w .outputs .near .cubes)
 
-slice-aggregate-judge : tie.Need-slice-aggregate-judge
-slice-aggregate-judge c = search needs
-
-slice-aggregate-judge-2 : tie.Need-slice-aggregate-judge-2
-slice-aggregate-judge-2 c = search needs
-
 judge-requires : tie.Need-judge-requires
 judge-requires c κs =
     let s = c .before .before .before .before .before in
     let n : length (s .args .t7) ≡ nodeSlots = search needs in
     whole-judging (s .pre) n
-
-enum-known-a : tie.Need-enum-known-a
-enum-known-a c = search needs
-
-refuse-requires : tie.Need-refuse-requires
-refuse-requires c κs = search needs
-
-enum-told : tie.Need-enum-told
-enum-told c = search needs
-
-slice-aggregate-copy : tie.Need-slice-aggregate-copy
-slice-aggregate-copy c = search needs
-
-copy-requires : tie.Need-copy-requires
-copy-requires c κs = search needs
-
-hand-requires : tie.Need-hand-requires
-hand-requires c κs = search needs
 
 returns : tie.Need-returns
 returns c =
@@ -60,17 +36,5 @@ returns-2 c =
 
 pub finish-spec : {M : Type 1} → statement M
 finish-spec =
-    tie.close
-    (tie.spec
-    add-s
-    slice-aggregate-judge
-    slice-aggregate-judge-2
-    judge-requires
-    enum-known-a
-    refuse-requires
-    enum-told
-    slice-aggregate-copy
-    copy-requires
-    hand-requires
-    returns
-    returns-2)
+    tie.close (tie.spec add-s (λ c. search needs) (λ c. search needs) judge-requires (λ c. search needs) (λ c κs. search needs) (λ c. search needs)
+    (λ c. search needs) (λ c κs. search needs) (λ c κs. search needs) returns returns-2)

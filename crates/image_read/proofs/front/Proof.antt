@@ -80,14 +80,4 @@ returns-4 c =
 
 pub front-spec : {M : Type 1} → statement M
 front-spec =
-    tie.close
-    (tie.spec
-    returns
-    value-at-requires
-    returns-2
-    returns-3
-    value-at-requires-2
-    value-at-requires-3
-    value-at-requires-4
-    sizes-of-requires
-    returns-4)
+    tie.close (tie.spec returns value-at-requires returns-2 returns-3 value-at-requires-2 value-at-requires-3 value-at-requires-4 sizes-of-requires returns-4)

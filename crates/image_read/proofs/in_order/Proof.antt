@@ -59,12 +59,4 @@ returns-4 c =
 
 pub in-order-spec : {M : Type 1} → statement M
 in-order-spec =
-    tie.close
-    (tie.spec
-    returns
-    all-tidy-requires
-    returns-2
-    all-tidy-requires-2
-    returns-3
-    all-earlier-requires
-    returns-4)
+    tie.close (tie.spec returns all-tidy-requires returns-2 all-tidy-requires-2 returns-3 all-earlier-requires returns-4)

@@ -16,9 +16,6 @@ use Rattle.image_read.proofs.Bits.{value-zero}
 use Rattle.image_read.proofs.is_padded.Statement.{statement}
 use Rattle.image_read.proofs.is_padded.Tie as tie
 
-add-if1 : tie.Need-add-if1
-add-if1 c = search needs
-
 returns : tie.Need-returns
 unfolding padding
 returns c =
@@ -37,9 +34,6 @@ returns-2 c =
 mul-value-at : tie.Need-mul-value-at
 mul-value-at c = omega (arith, c .before .if1 .left)
 
-sub-value-at : tie.Need-sub-value-at
-sub-value-at c = search needs
-
 value-at-requires : tie.Need-value-at-requires
 value-at-requires c κs =
     let s = c .before .before .before in (omega (arith, c .if2 .left), s .pre, omega (arith, c .before .if1 .left, c .if2 .left))
@@ -56,13 +50,4 @@ returns-3 c =
 
 pub is-padded-spec : {M : Type 1} → statement M
 is-padded-spec =
-    tie.close
-    (tie.spec
-    add-if1
-    returns
-    mul-if2
-    returns-2
-    mul-value-at
-    sub-value-at
-    value-at-requires
-    returns-3)
+    tie.close (tie.spec (λ c. search needs) returns mul-if2 returns-2 mul-value-at (λ c. search needs) value-at-requires returns-3)

@@ -8,16 +8,10 @@ use Rattle.expression.specs.Expression.{ordered}
 use Rattle.image_read.proofs.is_tidy.Statement.{statement}
 use Rattle.image_read.proofs.is_tidy.Tie as tie
 
-is-expression-requires : tie.Need-is-expression-requires
-is-expression-requires c κs = search needs
-
 returns : tie.Need-returns
 returns c =
     let s = c .before .before .before in sym (ap (λ (x : Bool). x && ordered (cubesOf (s .args .f .now)))
     (sym (c .before .is-expression .ensures) ∙ not-true _ (c .if1 .taken)))
-
-is-ordered-requires : tie.Need-is-ordered-requires
-is-ordered-requires c κs = search needs
 
 returns-2 : tie.Need-returns-2
 returns-2 c =
@@ -27,9 +21,4 @@ returns-2 c =
 
 pub is-tidy-spec : {M : Type 1} → statement M
 is-tidy-spec =
-    tie.close
-    (tie.spec
-    is-expression-requires
-    returns
-    is-ordered-requires
-    returns-2)
+    tie.close (tie.spec (λ c κs. search needs) returns (λ c κs. search needs) returns-2)

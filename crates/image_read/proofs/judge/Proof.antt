@@ -73,9 +73,6 @@ returns : tie.Need-returns
 returns c =
     let s = start (c .before) in verdict-11 (padded s) (few s) (sorted s) (sym (c .before .is-padded .ensures) ∙ not-true _ (c .if1 .taken))
 
-is-few-requires : tie.Need-is-few-requires
-is-few-requires c κs = search needs
-
 returns-2 : tie.Need-returns-2
 returns-2 c =
     let f = c .before in
@@ -85,23 +82,8 @@ returns-2 c =
 add-e : tie.Need-add-e
 add-e c = let s = whole c in omega (arith, s .pre .sized .outputs, s .pre .sized .variables)
 
-mul-in-order : tie.Need-mul-in-order
-mul-in-order c = search needs
-
-sub-in-order : tie.Need-sub-in-order
-sub-in-order c = search needs
-
-part-in-order-start : tie.Need-part-in-order-start
-part-in-order-start c = search needs
-
 part-in-order-end : tie.Need-part-in-order-end
 part-in-order-end c = let s = whole c in omega (arith, s .pre .sized .outputs, s .pre .sized .variables, s .pre .places)
-
-sub-in-order-2 : tie.Need-sub-in-order-2
-sub-in-order-2 c = search needs
-
-part-in-order-start-2 : tie.Need-part-in-order-start-2
-part-in-order-start-2 c = search needs
 
 part-in-order-end-2 : tie.Need-part-in-order-end-2
 part-in-order-end-2 c = let s = whole (c .before) in omega (arith, s .pre .sized .outputs, s .pre .places)
@@ -134,20 +116,5 @@ returns-4 c =
 
 pub judge-spec : {M : Type 1} → statement M
 judge-spec =
-    tie.close
-    (tie.spec
-    is-padded-requires
-    returns
-    is-few-requires
-    returns-2
-    add-e
-    mul-in-order
-    sub-in-order
-    part-in-order-start
-    part-in-order-end
-    sub-in-order-2
-    part-in-order-start-2
-    part-in-order-end-2
-    in-order-requires
-    returns-3
-    returns-4)
+    tie.close (tie.spec is-padded-requires returns (λ c κs. search needs) returns-2 add-e (λ c. search needs) (λ c. search needs) (λ c. search needs)
+    part-in-order-end (λ c. search needs) (λ c. search needs) part-in-order-end-2 in-order-requires returns-3 returns-4)

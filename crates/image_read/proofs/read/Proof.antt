@@ -12,18 +12,6 @@ use Rattle.image_read.proofs.read.Tie as tie
 told : (f : tie.After-front) (x : Head) → f .front .result ≡ x → HeadIs (bitsIn (f .before .before .args .bytes .now)) x
 told f x e = subst (HeadIs (bitsIn (f .before .before .args .bytes .now))) e (f .front .ensures)
 
-front-requires : tie.Need-front-requires
-front-requires c κs = search needs
-
-enum-known-h : tie.Need-enum-known-h
-enum-known-h c = search needs
-
-refuse-requires : tie.Need-refuse-requires
-refuse-requires c κs = search needs
-
-enum-known-h-2 : tie.Need-enum-known-h-2
-enum-known-h-2 c = search needs
-
 body-requires : tie.Need-body-requires
 body-requires c κs = told (c .before .before .before) _ (c .before .h2 .given .1) .sized
 
@@ -41,12 +29,4 @@ returns-2 c =
 
 pub read-spec : {M : Type 1} → statement M
 read-spec =
-    tie.close
-    (tie.spec
-    front-requires
-    enum-known-h
-    refuse-requires
-    enum-known-h-2
-    body-requires
-    returns
-    returns-2)
+    tie.close (tie.spec (λ c κs. search needs) (λ c. search needs) (λ c κs. search needs) (λ c. search needs) body-requires returns returns-2)

@@ -31,12 +31,6 @@ read n x e = subst (Read n) e (n .nodes .ensures)
 add-nodes : tie.Need-add-nodes
 add-nodes c = let s = c .before .before .before in omega (arith, s .pre .sized .variables)
 
-slice-aggregate-nodes : tie.Need-slice-aggregate-nodes
-slice-aggregate-nodes c = search needs
-
-slice-aggregate-nodes-2 : tie.Need-slice-aggregate-nodes-2
-slice-aggregate-nodes-2 c = search needs
-
 nodes-requires : tie.Need-nodes-requires
 nodes-requires c κs =
     let s = c .before .before .before .before .before in
@@ -47,15 +41,6 @@ nodes-requires c κs =
       omega (arith, s .pre .sized .outputs, m),
       omega (arith, s .pre .sized .outputs),
     )
-
-enum-known-o : tie.Need-enum-known-o
-enum-known-o c = search needs
-
-refuse-requires : tie.Need-refuse-requires
-refuse-requires c κs = search needs
-
-enum-known-o-2 : tie.Need-enum-known-o-2
-enum-known-o-2 c = search needs
 
 finish-requires : tie.Need-finish-requires
 finish-requires c κs =
@@ -82,15 +67,5 @@ returns-2 c = c .finish .ensures
 
 pub rest-spec : {M : Type 1} → statement M
 rest-spec =
-    tie.close
-    (tie.spec
-    add-nodes
-    slice-aggregate-nodes
-    slice-aggregate-nodes-2
-    nodes-requires
-    enum-known-o
-    refuse-requires
-    enum-known-o-2
-    finish-requires
-    returns
-    returns-2)
+    tie.close (tie.spec add-nodes (λ c. search needs) (λ c. search needs) nodes-requires (λ c. search needs) (λ c κs. search needs) (λ c. search needs)
+    finish-requires returns returns-2)

@@ -9,18 +9,6 @@ use Rattle.sets.proofs.Digits.{bit-test}
 use Rattle.image_read.proofs.fields.bit_at.Statement.{statement}
 use Rattle.image_read.proofs.fields.bit_at.Tie as tie
 
-shared-slice-read-wide : tie.Need-shared-slice-read-wide
-shared-slice-read-wide c = search needs
-
-wide-requires : tie.Need-wide-requires
-wide-requires c κs = search needs
-
-sub-if1 : tie.Need-sub-if1
-sub-if1 c = search needs
-
-shr-if1 : tie.Need-shr-if1
-shr-if1 c = search needs
-
 returns : tie.Need-returns
 returns c =
     let s = c .before .before .before .before in
@@ -37,11 +25,4 @@ returns-2 c =
 
 pub bit-at-spec : {M : Type 1} → statement M
 bit-at-spec =
-    tie.close
-    (tie.spec
-    shared-slice-read-wide
-    wide-requires
-    sub-if1
-    shr-if1
-    returns
-    returns-2)
+    tie.close (tie.spec (λ c. search needs) (λ c κs. search needs) (λ c. search needs) (λ c. search needs) returns returns-2)

@@ -15,7 +15,4 @@ returns-2 c =
 
 pub both-spec : {M : Type 1} → statement M
 both-spec =
-    tie.close
-    (tie.spec
-    returns
-    returns-2)
+    tie.close (tie.spec returns returns-2)

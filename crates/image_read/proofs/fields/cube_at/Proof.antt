@@ -27,12 +27,6 @@ read k = subst (λ (x : Field). FieldIs (edition1 .literals) (bits-from (start k
 field-at-requires : tie.Need-field-at-requires
 field-at-requires c κs = let s = c .before in (omega (arith, s .pre .0), omega arith, omega arith)
 
-enum-known-f : tie.Need-enum-known-f
-enum-known-f c = search needs
-
-enum-told : tie.Need-enum-told
-enum-told c = search needs
-
 returns : tie.Need-returns
 returns c =
     let a = c .before .before in
@@ -58,13 +52,4 @@ returns-3 c =
 
 pub cube-at-spec : {M : Type 1} → statement M
 cube-at-spec =
-    tie.close
-    (tie.spec
-    field-at-requires
-    enum-known-f
-    enum-told
-    returns
-    returns-2
-    add-literals
-    literals-requires
-    returns-3)
+    tie.close (tie.spec field-at-requires (λ c. search needs) (λ c. search needs) returns returns-2 add-literals literals-requires returns-3)

@@ -8,12 +8,6 @@ use Rattle.image_fields.proofs.Bytes.{left-length}
 use Rattle.image_read.proofs.fields.field_at.Statement.{statement}
 use Rattle.image_read.proofs.fields.field_at.Tie as tie
 
-add-if1 : tie.Need-add-if1
-add-if1 c = search needs
-
-add-if1-2 : tie.Need-add-if1-2
-add-if1-2 c = search needs
-
 returns : tie.Need-returns
 returns c =
     let s = c .before .before in
@@ -30,10 +24,4 @@ returns-2 c =
 
 pub field-at-spec : {M : Type 1} → statement M
 field-at-spec =
-    tie.close
-    (tie.spec
-    add-if1
-    add-if1-2
-    returns
-    value-at-requires
-    returns-2)
+    tie.close (tie.spec (λ c. search needs) (λ c. search needs) returns value-at-requires returns-2)

@@ -10,21 +10,9 @@ use Rattle.cube.specs.Cube.{lits}
 use Rattle.image_read.proofs.fields.is_allowed.Statement.{statement}
 use Rattle.image_read.proofs.fields.is_allowed.Tie as tie
 
-variable-of-requires : tie.Need-variable-of-requires
-variable-of-requires c κs = search needs
-
-cast-if1 : tie.Need-cast-if1
-cast-if1 c = search needs
-
 returns : tie.Need-returns
 returns c =
     let x = c .before .before in rw (le-ltb (x .before .args .l .0 / 2) (x .before .args .v) (omega (arith, x .variable-of .ensures, c .if1 .taken)))
-
-opposite-requires : tie.Need-opposite-requires
-opposite-requires c κs = search needs
-
-has-requires : tie.Need-has-requires
-has-requires c κs = search needs
 
 returns-2 : tie.Need-returns-2
 returns-2 c =
@@ -35,11 +23,4 @@ returns-2 c =
 
 pub is-allowed-spec : {M : Type 1} → statement M
 is-allowed-spec =
-    tie.close
-    (tie.spec
-    variable-of-requires
-    cast-if1
-    returns
-    opposite-requires
-    has-requires
-    returns-2)
+    tie.close (tie.spec (λ c κs. search needs) (λ c. search needs) returns (λ c κs. search needs) (λ c κs. search needs) returns-2)

@@ -41,21 +41,12 @@ read k = subst (λ (x : Field). FieldIs (edition1 .literal) (bits-from (head k))
 value-of : (k : tie.After-known-told Inv-loop μ-loop) → value k < 2 ^ (edition1 .literal)
 value-of k = field-below (edition1 .literal) (value k) (bits-from (head k)) (read k)
 
-empty-requires : tie.Need-empty-requires Inv-loop μ-loop
-empty-requires c κs = search needs
-
 loop-holds : tie.Need-loop-holds Inv-loop μ-loop
 loop-holds c = (omega arith, omega arith, gather-none _ _ _ _ _ (c .empty .ensures))
 
 field-at-requires : tie.Need-field-at-requires Inv-loop μ-loop
 field-at-requires c κs =
     let l = c .before in let s = l .before .before .before in (omega (arith, s .pre .0, s .pre .2, l .loop .inv .1), omega arith, omega arith)
-
-enum-known-f : tie.Need-enum-known-f Inv-loop μ-loop
-enum-known-f c = search needs
-
-enum-told : tie.Need-enum-told Inv-loop μ-loop
-enum-told c = search needs
 
 returns : tie.Need-returns Inv-loop μ-loop
 returns c =
@@ -67,9 +58,6 @@ returns c =
 cast-t13 : tie.Need-cast-t13 Inv-loop μ-loop
 cast-t13 c = omega (arith, value-of c)
 
-is-allowed-requires : tie.Need-is-allowed-requires Inv-loop μ-loop
-is-allowed-requires c κs = search needs
-
 returns-2 : tie.Need-returns-2 Inv-loop μ-loop
 returns-2 c =
     let k = c .before .before in
@@ -77,26 +65,11 @@ returns-2 c =
     gather-bad (l .loop .inv .2) (k .before .before .before .before .loop-test .taken) (value k) (read k)
     (sym (c .before .is-allowed .ensures) ∙ not-true _ (c .if1 .taken))
 
-is-below-requires : tie.Need-is-below-requires Inv-loop μ-loop
-is-below-requires c κs = search needs
-
-both-requires : tie.Need-both-requires Inv-loop μ-loop
-both-requires c κs = search needs
-
-with-requires : tie.Need-with-requires Inv-loop μ-loop
-with-requires c κs = search needs
-
 add-at : tie.Need-add-at Inv-loop μ-loop
 add-at c =
     let l = head (c .before .before .before .before .before) in
     let s = l .before .before .before in
     omega (arith, s .pre .0, s .pre .2, l .loop .inv .1)
-
-add-i : tie.Need-add-i Inv-loop μ-loop
-add-i c = search needs
-
-loop-less : tie.Need-loop-less Inv-loop μ-loop
-loop-less c = search needs
 
 loop-again : tie.Need-loop-again Inv-loop μ-loop
 loop-again c =
@@ -119,24 +92,6 @@ returns-3 c =
 
 pub literals-spec : {M : Type 1} → statement M
 literals-spec =
-    tie.close
-    (tie.spec
-    Inv-loop
-    μ-loop
-    empty-requires
-    loop-holds
-    field-at-requires
-    enum-known-f
-    enum-told
-    returns
-    cast-t13
-    is-allowed-requires
-    returns-2
-    is-below-requires
-    both-requires
-    with-requires
-    add-at
-    add-i
-    loop-less
-    loop-again
-    returns-3)
+    tie.close (tie.spec Inv-loop μ-loop (λ c κs. search needs) loop-holds field-at-requires (λ c. search needs) (λ c. search needs) returns cast-t13
+    (λ c κs. search needs) returns-2 (λ c κs. search needs) (λ c κs. search needs) (λ c κs. search needs) add-at (λ c. search needs) (λ c. search needs)
+    loop-again returns-3)

@@ -30,9 +30,6 @@ mul-v c =
     let s = l .before .before in
     omega (arith, l .loop .inv .1, value-small (l .loop .i) (drop (s .args .at) (bitsIn (s .args .bytes .now))) (omega (arith, s .pre .2, c .loop-test .taken)))
 
-add-bit-at : tie.Need-add-bit-at Inv-loop μ-loop
-add-bit-at c = search needs
-
 bit-at-requires : tie.Need-bit-at-requires Inv-loop μ-loop
 bit-at-requires c κs = let s = c .before .before .before in omega (arith, s .pre .0, c .loop-test .taken)
 
@@ -49,12 +46,6 @@ add-v c =
       c .bit-at .ensures,
       bit-small (bit (getD (s .args .bytes .now) (q / 8) 0) (7 - q % 8)),
     )
-
-add-i : tie.Need-add-i Inv-loop μ-loop
-add-i c = search needs
-
-loop-less : tie.Need-loop-less Inv-loop μ-loop
-loop-less c = search needs
 
 loop-again : tie.Need-loop-again Inv-loop μ-loop
 loop-again c =
@@ -77,16 +68,4 @@ returns c =
 
 pub value-at-spec : {M : Type 1} → statement M
 value-at-spec =
-    tie.close
-    (tie.spec
-    Inv-loop
-    μ-loop
-    loop-holds
-    mul-v
-    add-bit-at
-    bit-at-requires
-    add-v
-    add-i
-    loop-less
-    loop-again
-    returns)
+    tie.close (tie.spec Inv-loop μ-loop loop-holds mul-v (λ c. search needs) bit-at-requires add-v (λ c. search needs) (λ c. search needs) loop-again returns)

@@ -11,15 +11,6 @@ use Rattle.image_read.proofs.nodes.added.Tie as tie
 abbrev state : State → Taken → Bool → State
 state s c b = record { at = c .at; cubes = s .cubes + 1; literals = s .literals + c .literals; ascending = b }
 
-both-requires : tie.Need-both-requires
-both-requires c κs = search needs
-
-add-t4 : tie.Need-add-t4
-add-t4 c = search needs
-
-add-t5 : tie.Need-add-t5
-add-t5 c = search needs
-
 returns : tie.Need-returns
 returns c =
     let s = c .before .before .before .before in
@@ -27,9 +18,4 @@ returns c =
 
 pub added-spec : {M : Type 1} → statement M
 added-spec =
-    tie.close
-    (tie.spec
-    both-requires
-    add-t4
-    add-t5
-    returns)
+    tie.close (tie.spec (λ c κs. search needs) (λ c. search needs) (λ c. search needs) returns)

@@ -46,9 +46,6 @@ cube-at-requires c κs =
     let l = c .before in let s = l .before .before .before in
     (omega (arith, l .loop .inv .2 .near .at, s .pre .0 .at, s .pre .2, c .loop-test .taken), s .pre .1)
 
-enum-known-t : tie.Need-enum-known-t Inv-loop μ-loop
-enum-known-t c = search needs
-
 same-length : tie.Need-same-length Inv-loop μ-loop
 same-length c = c .before .before .before .before .before .loop .inv .1
 
@@ -57,12 +54,6 @@ returns c =
     let a = c .before .before .before in
     let l = a .before .before in
     fill-bad (l .loop .inv .2) (a .before .loop-test .taken) _ (read a _ (c .before .t .given .1))
-
-enum-known-t-2 : tie.Need-enum-known-t-2 Inv-loop μ-loop
-enum-known-t-2 c = search needs
-
-put-cube-requires : tie.Need-put-cube-requires Inv-loop μ-loop
-put-cube-requires c κs = search needs
 
 added-requires : tie.Need-added-requires Inv-loop μ-loop
 added-requires c κs =
@@ -79,12 +70,6 @@ added-requires c κs =
       },
       omega (arith, r .literals, r .few),
     )
-
-add-i : tie.Need-add-i Inv-loop μ-loop
-add-i c = search needs
-
-loop-less : tie.Need-loop-less Inv-loop μ-loop
-loop-less c = search needs
 
 loop-again : tie.Need-loop-again Inv-loop μ-loop
 loop-again c =
@@ -105,20 +90,5 @@ returns-2 c =
 
 pub cubes-spec : {M : Type 1} → statement M
 cubes-spec =
-    tie.close
-    (tie.spec
-    Inv-loop
-    μ-loop
-    loop-holds
-    cube-at-requires
-    enum-known-t
-    same-length
-    returns
-    enum-known-t-2
-    put-cube-requires
-    added-requires
-    add-i
-    loop-less
-    loop-again
-    same-length-2
-    returns-2)
+    tie.close (tie.spec Inv-loop μ-loop loop-holds cube-at-requires (λ c. search needs) same-length returns (λ c. search needs) (λ c κs. search needs)
+    added-requires (λ c. search needs) (λ c. search needs) loop-again same-length-2 returns-2)

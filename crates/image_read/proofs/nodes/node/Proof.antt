@@ -27,12 +27,6 @@ read k = subst (λ (x : Field). FieldIs (edition1 .cubes) (bits-from (start k)) 
 field-at-requires : tie.Need-field-at-requires
 field-at-requires c κs = let s = c .before .before in (omega (arith, s .pre .0 .at), omega arith, omega arith)
 
-enum-known-f : tie.Need-enum-known-f
-enum-known-f c = search needs
-
-enum-told : tie.Need-enum-told
-enum-told c = search needs
-
 returns : tie.Need-returns
 returns c =
     let a = c .before .before in
@@ -60,9 +54,6 @@ cubes-requires c κs =
       c .before .before .if1 .left,
     )
 
-same-length : tie.Need-same-length
-same-length c = search needs
-
 returns-3 : tie.Need-returns-3
 returns-3 c =
     let k = c .before .before .before .before .before .before in
@@ -71,14 +62,4 @@ returns-3 c =
 
 pub node-spec : {M : Type 1} → statement M
 node-spec =
-    tie.close
-    (tie.spec
-    field-at-requires
-    enum-known-f
-    enum-told
-    returns
-    returns-2
-    add-s
-    cubes-requires
-    same-length
-    returns-3)
+    tie.close (tie.spec field-at-requires (λ c. search needs) (λ c. search needs) returns returns-2 add-s cubes-requires (λ c. search needs) returns-3)

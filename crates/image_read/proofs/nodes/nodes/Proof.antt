@@ -56,12 +56,6 @@ node-requires c κs =
       s .pre .1,
     )
 
-enum-known-t : tie.Need-enum-known-t Inv-loop μ-loop
-enum-known-t c = search needs
-
-enum-told : tie.Need-enum-told Inv-loop μ-loop
-enum-told c = search needs
-
 same-length : tie.Need-same-length Inv-loop μ-loop
 same-length c =
     c .before .before .before .before .node .kept .1 .1 .1 .0 ∙ c .before .before .before .before .before .before .before .loop .inv .1
@@ -87,9 +81,6 @@ sub-counts c =
 add-counts : tie.Need-add-counts Inv-loop μ-loop
 add-counts c =
     let l = head (c .before .before) in let s = l .before .before .before .before in omega (arith, s .pre .2, l .loop .inv .2, more (c .before .before))
-
-mul-counts : tie.Need-mul-counts Inv-loop μ-loop
-mul-counts c = search needs
 
 slice-write-counts : tie.Need-slice-write-counts Inv-loop μ-loop
 slice-write-counts c =
@@ -127,24 +118,5 @@ returns-2 c =
 
 pub nodes-spec : {M : Type 1} → statement M
 nodes-spec =
-    tie.close
-    (tie.spec
-    Inv-loop
-    μ-loop
-    loop-holds
-    node-requires
-    enum-known-t
-    enum-told
-    same-length
-    same-length-2
-    returns
-    sub-counts
-    add-counts
-    mul-counts
-    slice-write-counts
-    add-i
-    loop-less
-    loop-again
-    same-length-3
-    same-length-4
-    returns-2)
+    tie.close (tie.spec Inv-loop μ-loop loop-holds node-requires (λ c. search needs) (λ c. search needs) same-length same-length-2 returns sub-counts add-counts
+    (λ c. search needs) slice-write-counts add-i loop-less loop-again same-length-3 same-length-4 returns-2)
