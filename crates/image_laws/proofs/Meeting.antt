@@ -66,8 +66,8 @@ image-as l = simp nodes-as
 -- what is read along a layout: all of it, or else which end the bits meet
 pub data Along (g : Layout) (l : List Bool) : Parsed Raw → Type 0 where
   all : {r : Raw} {rest : List Bool} → Along g l (got r rest)
-  stray : Meets Stray g l → Along g l (bad 12)
-  cut : Meets Cut g l → Along g l (bad 11)
+  strays : Meets Stray g l → Along g l (bad 12)
+  stops : Meets Cut g l → Along g l (bad 11)
 
 module _ (w : ℕ) (ok : ℕ → Bool) (g : ℕ → Layout) (l : List Bool) (all-there : w ≤ length l) where
   past : {End : ℕ → (ℕ → Bool) → List Bool → Type 0} → ok (valueOf (take w l)) ≡ true → Meets End (g (valueOf (take w l))) (drop w l)
@@ -76,30 +76,25 @@ module _ (w : ℕ) (ok : ℕ → Bool) (g : ℕ → Layout) (l : List Bool) (all
 
   along-past : ok (valueOf (take w l)) ≡ true → {o : Parsed Raw} → Along (g (valueOf (take w l))) (drop w l) o → Along (next w ok g) l o
   along-past y all = all
-  along-past y (stray m) = stray (past y m)
-  along-past y (cut m) = cut (past y m)
+  along-past y (strays m) = strays (past y m)
+  along-past y (stops m) = stops (past y m)
 
-along : (g : Layout) (l : List Bool) → Along g l (readBy g l)
+read-along : (g : Layout) (l : List Bool) → Along g l (readBy g l)
 unfolding readBy getField
-along (ends r) l = all
-along (next w ok g) l = go (ltb (length l) w) (ok (valueOf (take w l))) refl refl (along (g (valueOf (take w l))) (drop w l))
+read-along (ends r) l = all
+read-along (next w ok g) l = go (ltb (length l) w) (ok (valueOf (take w l))) refl refl (read-along (g (valueOf (take w l))) (drop w l))
   where
     go : (c d : Bool) → ltb (length l) w ≡ c → ok (valueOf (take w l)) ≡ d
         → Along (g (valueOf (take w l))) (drop w l) (readBy (g (valueOf (take w l))) (drop w l))
         → Along (next w ok g) l (andThen (cond c (bad 11) (cond d (got (valueOf (take w l)) (drop w l)) (bad 12))) (λ x r. readBy (g x) r))
-    go true d p q a = cut (here (ltb-true (length l) w p))
+    go true d p q a = stops (here (ltb-true (length l) w p))
     go false true p q a = along-past w ok g l (ltb-false (length l) w p) q a
-    go false false p q a = stray (here (record {
-      field = take w l;
-      rest = drop w l;
-      bits = sym (take-append-drop w l);
-      whole =
-          length-take-le w l (ltb-false (length l) w p);
-      out = q;
+    go false false p q a = strays (here (record {
+      front = take w l; rest = drop w l; bits = sym (take-append-drop w l); whole = length-take-le w l (ltb-false (length l) w p); out = q;
     }))
 
 pub raw-along : (l : List Bool) → Along imageLayout l (getRaw l)
-raw-along l = subst (Along imageLayout l) (image-as l) (along imageLayout l)
+raw-along l = subst (Along imageLayout l) (image-as l) (read-along imageLayout l)
 
 -- ---- each end has its number
 
@@ -112,7 +107,7 @@ meets-read m e h (later {w = w} {ok = ok} {l = l} b n y t) = rw (append-assoc b 
 -- a field out of range that is met is refused whatever follows
 pub stray-read : {l : List Bool} (m : List Bool) → Meets Stray imageLayout l → getRaw (l ++ m) ≡ bad 12
 stray-read {l} m t = sym (image-as (l ++ m)) ∙ meets-read m 12
-    (λ w ok r s. rw (s .bits, append-assoc (s .field) (s .rest) m, field-whole w ok (s .field) (s .rest ++ m) (s .whole), s .out)) t
+    (λ w ok r s. rw (s .bits, append-assoc (s .front) (s .rest) m, field-whole w ok (s .front) (s .rest ++ m) (s .whole), s .out)) t
 
 pub cut-read : (l : List Bool) → Meets Cut imageLayout l → getRaw l ≡ bad 11
 unfolding getField

@@ -10,9 +10,9 @@ use Rattle.image_fields.specs.Fields.{bitsIn}
 use Rattle.network.specs.Handed.{Return, gives, refuses}
 use Rattle.image_laws.specs.Reading.{Parsed, got, Raw, getRaw, rawNet, padding, summed, allInOrder, judgeRaw, readImage}
 use Rattle.image_laws.specs.Layout.{imageLayout, Meets, Cut}
-use Rattle.image_laws.specs.Meaning.{FitRaw, rawBits, Fills, ImageAnswer, field, early, over, sums, order, taken}
+use Rattle.image_laws.specs.Meaning.{FitRaw, rawBits, Fills, ImageAnswer, range, early, over, sums, order, taken}
 use Rattle.image_laws.proofs.Reading.{get-put, put-get}
-use Rattle.image_laws.proofs.Meeting.{Along, all, stray, cut, raw-along, stray-read, cut-read}
+use Rattle.image_laws.proofs.Meeting.{Along, all, strays, stops, raw-along, stray-read, cut-read}
 
 -- the beginning of fields in range ends early
 pub begins-early : (r : Raw) (l m : List Bool) → FitRaw r → rawBits r ≡ l ++ m → 0 < length m → Meets Cut imageLayout l
@@ -22,8 +22,8 @@ begins-early r l m f e h = go (raw-along l) refl
     whole = ap getRaw (sym e ∙ sym (append-nil (rawBits r))) ∙ get-put r [] f
 
     go : {o : Parsed Raw} → Along imageLayout l o → getRaw l ≡ o → Meets Cut imageLayout l
-    go (cut t) q = t
-    go (stray t) q = let z : _≡_ {A = ℕ} 0 1 = cc (whole, stray-read m t) in absurd (omega arith)
+    go (stops t) q = t
+    go (strays t) q = let z : _≡_ {A = ℕ} 0 1 = cc (whole, stray-read m t) in absurd (omega arith)
     go (all {r = x} {rest = t}) q =
         let p = put-get l x t q in
         let n : t ++ m ≡ [] = cc (whole, ap (λ k. getRaw (k ++ m)) (p .0), append-assoc (rawBits x) t m, get-put x (t ++ m) (p .1)) in
@@ -48,13 +48,13 @@ judged bytes = go (raw-along (bitsIn bytes)) refl
 
     go : {o : Parsed Raw} → Along imageLayout (bitsIn bytes) o → getRaw (bitsIn bytes) ≡ o → ImageAnswer bytes (judgeRaw o)
     go (all {r = r} {rest = l}) e = whole r l (padding l) (summed r) (allInOrder r) (fills-in bytes r l e) refl refl refl
-    go (stray m) e = field m
-    go (cut m) e = early m
+    go (strays m) e = range m
+    go (stops m) e = early m
 
 -- and no answer is given for another reason
 pub judged-read : (bytes : List ℕ) {o : Return} → ImageAnswer bytes o → readImage bytes ≡ o
 unfolding readImage judgeRaw
-judged-read bytes (field m) = rw (sym (ap getRaw (append-nil (bitsIn bytes))) ∙ stray-read [] m)
+judged-read bytes (range m) = rw (sym (ap getRaw (append-nil (bitsIn bytes))) ∙ stray-read [] m)
 judged-read bytes (early m) = rw (cut-read (bitsIn bytes) m)
 judged-read bytes (over {r = r} {rest = l} s p) = rw (fills-out bytes r l s, p)
 judged-read bytes (sums {r = r} {rest = l} s p q) = rw (fills-out bytes r l s, p, q)

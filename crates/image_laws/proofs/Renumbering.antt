@@ -14,8 +14,9 @@ use Rattle.sets.specs.Lists.{all, total, from}
 use Rattle.sets.specs.Sets.{mem}
 use Rattle.sets.specs.Masks.{bit, packed}
 use Rattle.sets.proofs.Truth.{both, together, or-left, or-right, decided, clash, refuted}
-use Rattle.sets.proofs.Lists.{_∈_, all-in, map-in, map-out, map-cong, map-map, map-fixed, total-append, total-const, total-map, total-same, pairwise-imp}
+use Rattle.sets.proofs.Lists.{_∈_, all-in, map-in, map-out, map-cong, map-map, total-append, total-cong, total-map, total-same, pairwise-imp}
 use Rattle.sets.proofs.Sets.{from-mem}
+use Rattle.sets.proofs.Rows.{from-snoc}
 use Rattle.expression.specs.Expression.{expression, ordered, literalsOf}
 use Rattle.expression.specs.Value.{lit, value}
 use Rattle.network.specs.Net.{Node, Net, nodes, variables, cubeCount, literalCount, cubesAt}
@@ -28,8 +29,9 @@ use Rattle.network.specs.Rules.{Lawful}
 use Rattle.network.proofs.Places.{differ-in, differ-out}
 use Rattle.network.proofs.Numbering.{in-output, in-divisor, numbered-length, numbered-numbers, numbered-cubes, cubes-at, known-below, below-known}
 use Rattle.network.proofs.Listings.{ready-out, listing-once, listing-number, listing-in, listing-step, good-sound}
+use Rattle.network.proofs.Mapping.{numbered-map, mapped-node, mapped-outputs, mapped-total, mapped-fixed}
 use Rattle.network.proofs.Evaluating.{evaluate-settled, evaluate-read}
-use Rattle.image_laws.specs.Renumber.{indexOf, newNumber, newNode, renumbered}
+use Rattle.image_laws.specs.Renumber.{indexOf, newNumber, newNode, relisted, renumbered}
 use Rattle.image_laws.specs.Meaning.{OneOrder}
 use Rattle.image_laws.proofs.NewNumbers.{index-before, index-new, index-from, Named, Reaches, oldNumber, new-input, new-listed, old-new}
 use Rattle.image_laws.proofs.NewNumbers.{new-injective, new-below, new-node-reads, new-node-length, new-node-literals, new-node-expression}
@@ -41,56 +43,56 @@ cubes l = map (λ (e : Node). e .cubes) l
 
 -- ---- the listing of a network by the rules
 
-pub lawful-sound : (n : Net) → Lawful n → Sound n
+lawful-sound : (n : Net) → Lawful n → Sound n
 lawful-sound n w = good-sound n (w .good)
 
 module _ (n : Net) (w : Lawful n) where
   -- it has the number of each divisor, each once
-  pub listed-whole : length (listing n) ≡ length (n .divisors)
+  listed-whole : length (listing n) ≡ length (n .divisors)
   listed-whole = (lawful-sound n w) .whole
 
-  pub listed-range : (v : ℕ) → v ∈ listing n → (n .inputs ≤ v) × (v < variables n)
+  listed-range : (v : ℕ) → v ∈ listing n → (n .inputs ≤ v) × (v < variables n)
   listed-range v m = let r = listing-number n v m in (
     rw (r .2) ((lawful-sound n w) .distinct .above (r .0) (r .1)),
     known-below n (cubes (n .divisors)) (w .good .inTurn) v (inr r),
   )
 
-  pub range-listed : (v : ℕ) → n .inputs ≤ v → v < variables n → v ∈ listing n
+  range-listed : (v : ℕ) → n .inputs ≤ v → v < variables n → v ∈ listing n
   range-listed v h k = elim (below-known n (cubes (n .divisors)) (w .good .inTurn) v k) [
     | inl q ↦ absurd (omega arith)
     | inr (e, m, p) ↦ Memᴰ·cast p (listing-in n listed-whole e m)
   ]
 
   -- and a listed divisor reads inputs and divisors listed before it alone
-  pub listed-reads : (a b : List ℕ) (v : ℕ) → listing n ≡ a ++ (v ∷ b) → (u : ℕ) → Reads (cubesAt v (n .divisors)) u → (u < n .inputs) ⊎ (u ∈ a)
+  listed-reads : (a b : List ℕ) (v : ℕ) → listing n ≡ a ++ (v ∷ b) → (u : ℕ) → Reads (cubesAt v (n .divisors)) u → (u < n .inputs) ⊎ (u ∈ a)
   listed-reads a b v e u r = ready-out (n .inputs) a (cubesAt v (n .divisors)) ((listing-step n ((lawful-sound n w) .distinct) a b v e) .allowed) u r
 
-  pub listed-node : (v : ℕ) → v ∈ listing n → cubesAt v (n .divisors) ∈ nodes n
+  listed-node : (v : ℕ) → v ∈ listing n → cubesAt v (n .divisors) ∈ nodes n
   listed-node v m = let r = listing-number n v m in rw (r .2, cubes-at n ((lawful-sound n w) .distinct) (r .1)) (in-divisor n (r .1))
 
   -- ---- new numbers
 
-  pub variable-named : (v : ℕ) → v < variables n → Named (n .inputs) (listing n) v
+  variable-named : (v : ℕ) → v < variables n → Named (n .inputs) (listing n) v
   variable-named v h = elim (decided (ltb v (n .inputs)))
       [ inl t ↦ inl (ltb-true v (n .inputs) t) | inr t ↦ inr (range-listed v (ltb-false v (n .inputs) t) h) ]
 
-  pub node-reaches : {f : List (List ℕ)} → f ∈ nodes n → Reaches (n .inputs) (listing n) f
+  node-reaches : {f : List (List ℕ)} → f ∈ nodes n → Reaches (n .inputs) (listing n) f
   node-reaches {f} m v r = variable-named v (w .good .known f m v r)
 
   pub new-number-injective : (u v : ℕ) → u < variables n → v < variables n → newNumber (n .inputs) (listing n) u ≡ newNumber (n .inputs) (listing n) v → u ≡ v
   new-number-injective u v h k e = new-injective (n .inputs) (listing n) u v (variable-named u h) (variable-named v k) e
 
-  pub new-number-below : (v : ℕ) → v < variables n → newNumber (n .inputs) (listing n) v < variables n
+  new-number-below : (v : ℕ) → v < variables n → newNumber (n .inputs) (listing n) v < variables n
   new-number-below v h = omega (arith, new-below (n .inputs) (listing n) v (variable-named v h), listed-whole)
 
   -- the number is from the inputs on, by the place in the listing
-  pub new-number-at : (a b : List ℕ) (v : ℕ) → listing n ≡ a ++ (v ∷ b) → newNumber (n .inputs) (listing n) v ≡ n .inputs + length a
+  new-number-at : (a b : List ℕ) (v : ℕ) → listing n ≡ a ++ (v ∷ b) → newNumber (n .inputs) (listing n) v ≡ n .inputs + length a
   new-number-at a b v e =
       let x = listing-step n ((lawful-sound n w) .distinct) a b v e in
       let above : n .inputs ≤ v = rw (x .number) ((lawful-sound n w) .distinct .above (x .node) (x .inside)) in
       new-listed (n .inputs) (listing n) v above ∙ ap (n .inputs +_) (ap (indexOf v) e ∙ index-new v a b (x .fresh))
 
-  pub new-number-before : (a b : List ℕ) (v : ℕ) → listing n ≡ a ++ b → v ∈ a → newNumber (n .inputs) (listing n) v < n .inputs + length a
+  new-number-before : (a b : List ℕ) (v : ℕ) → listing n ≡ a ++ b → v ∈ a → newNumber (n .inputs) (listing n) v < n .inputs + length a
   new-number-before a b v e m =
       let i : v ∈ listing n = subst (λ (l : List ℕ). v ∈ l) (sym e) (Memᴰ·append-left b m) in
       omega (arith, new-listed (n .inputs) (listing n) v ((listed-range v i) .0), ap (indexOf v) e, index-before v a b m)
@@ -116,56 +118,54 @@ pub through-less : (n : Net) → Earlier n → {u v : ℕ} → Through n u v →
 through-less n k (itself {e = e} {g = g} m i r) = k e m (g .number) r
 through-less n k (others {e = e} {g = g} m i r t) = omega (arith, k e m (g .number) r, through-less n k t)
 
-total-cong : {A : Type 0} (f g : A → ℕ) (l : List A) → ((x : A) → x ∈ l → f x ≡ g x) → total f l ≡ total g l
-total-cong f g l h = omega (arith, total-const f g 0 l (λ x m. omega (arith, h x m)))
-
 -- ---- the nodes
 
 module _ (n : Net) where
-  -- the new expression in place of f
-  abbrev pub renewed : List (List ℕ) → List (List ℕ)
+  -- the expression of the divisor v, and the new one in place of f
+  abbrev old : ℕ → List (List ℕ)
+  old v = cubesAt v (n .divisors)
+
+  abbrev renewed : List (List ℕ) → List (List ℕ)
   renewed f = newNode (n .inputs) (listing n) f
 
-  -- and that of the divisor v
-  abbrev listedAs : ℕ → List (List ℕ)
-  listedAs v = renewed (cubesAt v (n .divisors))
-
-  pub renumbered-nodes : nodes (renumbered n) ≡ map renewed (n .outputs) ++ map listedAs (listing n)
+  renumbered-stand : renumbered n .divisors ≡ numbered (n .inputs) (map (λ v. renewed (old v)) (listing n))
   unfolding renumbered
-  renumbered-nodes = ap (map renewed (n .outputs) ++_) (numbered-cubes (n .inputs) (map listedAs (listing n)))
+  renumbered-stand = numbered-map renewed (n .inputs) (map old (listing n)) ∙ ap (numbered (n .inputs)) (map-map renewed old (listing n))
 
-  pub renumbered-inputs : renumbered n .inputs ≡ n .inputs
+  pub renumbered-nodes : nodes (renumbered n) ≡ map renewed (n .outputs) ++ map (λ v. renewed (old v)) (listing n)
+  unfolding renumbered
+  renumbered-nodes = ap (map renewed (n .outputs) ++_) (ap cubes renumbered-stand ∙ numbered-cubes (n .inputs) _)
+
+  renumbered-inputs : renumbered n .inputs ≡ n .inputs
   unfolding renumbered
   renumbered-inputs = refl
 
-  pub renumbered-outputs : length (renumbered n .outputs) ≡ length (n .outputs)
+  renumbered-outputs : length (renumbered n .outputs) ≡ length (n .outputs)
   unfolding renumbered
-  renumbered-outputs = length-map (n .outputs) renewed
-
-  pub renumbered-turn : renumbered n .divisors ≡ numbered (renumbered n .inputs) (cubes (renumbered n .divisors))
-  unfolding renumbered
-  renumbered-turn = ap (numbered (n .inputs)) (sym (numbered-cubes (n .inputs) (map listedAs (listing n))))
+  renumbered-outputs = mapped-outputs renewed (relisted n)
 
   -- a divisor stands where the listing has it
-  pub renumbered-divisor : (e : Node) → e ∈ renumbered n .divisors
-      → (a : List ℕ) × (x : ℕ) × (b : List ℕ) × (listing n ≡ a ++ (x ∷ b)) × (e .number ≡ n .inputs + length a) × (e .cubes ≡ renewed (cubesAt x (n .divisors)))
-  unfolding renumbered
-  renumbered-divisor e m = numbered-from (n .inputs) listedAs (listing n) e m
+  renumbered-divisor : (e : Node) → e ∈ renumbered n .divisors
+      → (a : List ℕ) × (x : ℕ) × (b : List ℕ) × (listing n ≡ a ++ (x ∷ b)) × (e .number ≡ n .inputs + length a) × (e .cubes ≡ renewed (old x))
+  renumbered-divisor e m = numbered-from (n .inputs) (λ v. renewed (old v)) (listing n) e (rw renumbered-stand at m)
 
   module _ (w : Lawful n) where
     pub renumbered-divisors : length (renumbered n .divisors) ≡ length (n .divisors)
-    unfolding renumbered
-    renumbered-divisors = numbered-length (n .inputs) (map listedAs (listing n)) ∙ length-map (listing n) listedAs ∙ listed-whole n w
+    renumbered-divisors = ap length renumbered-stand ∙ numbered-length (n .inputs) _ ∙ length-map (listing n) _ ∙ listed-whole n w
 
-    pub renumbered-variables : variables (renumbered n) ≡ variables n
+    renumbered-variables : variables (renumbered n) ≡ variables n
     renumbered-variables = omega (arith, renumbered-inputs, renumbered-divisors)
 
-    -- each node is a new one
-    pub renumbered-node : (f : List (List ℕ)) → f ∈ nodes (renumbered n) → (h : List (List ℕ)) × (h ∈ nodes n) × (f ≡ renewed h)
-    renumbered-node f m = elim (List·Memᴰ·append-cases (map renewed (n .outputs)) (subst (λ (l : List (List (List ℕ))). f ∈ l) renumbered-nodes m)) [
-      | inl i ↦ let r = map-out renewed (n .outputs) i in (r .0, in-output n (r .1), r .2)
-      | inr i ↦ let r = map-out listedAs (listing n) i in (cubesAt (r .0) (n .divisors), listed-node n w (r .0) (r .1), r .2)
+    relisted-node : {f : List (List ℕ)} → f ∈ nodes (relisted n) → f ∈ nodes n
+    relisted-node m = elim (List·Memᴰ·append-cases (n .outputs) m) [
+      | inl i ↦ in-output n i
+      | inr i ↦ let r = map-out old (listing n) (rw numbered-cubes at i) in rw (r .2) (listed-node n w (r .0) (r .1))
     ]
+
+    -- each node is a new one
+    renumbered-node : (f : List (List ℕ)) → f ∈ nodes (renumbered n) → (h : List (List ℕ)) × (h ∈ nodes n) × (f ≡ renewed h)
+    unfolding renumbered
+    renumbered-node f m = let q = mapped-node renewed (relisted n) f m in (q .0, relisted-node (q .1), q .2)
 
     -- ---- sums
 
@@ -173,30 +173,26 @@ module _ (n : Net) where
     numbers = map (λ (e : Node). e .number) (n .divisors)
 
     -- over the listing as over the divisors
-    listed-total : (g : List (List ℕ) → ℕ) → total (λ v. g (cubesAt v (n .divisors))) (listing n) ≡ total g (cubes (n .divisors))
+    listed-total : (g : List (List ℕ) → ℕ) → total (λ v. g (old v)) (listing n) ≡ total g (cubes (n .divisors))
     listed-total g =
         total-same differ (λ x y h. differ-in (λ (e : y ≡ x). differ-out {x = x} {y = y} h (sym e))) (λ x. ap not (eq-eqb x x refl))
-        (λ v. g (cubesAt v (n .divisors))) (listing n) numbers
+        (λ v. g (old v)) (listing n) numbers
         (listing-once n)
         (pairwise-imp ltb differ numbers (λ x y q. differ-in (λ (e : x ≡ y). omega (arith, ltb-true x y q))) ((lawful-sound n w) .distinct .ascending))
         (λ v m. let r = listing-number n v m in Memᴰ·cast (r .2) (map-in (λ (e : Node). e .number) (r .1)))
         (λ v m. let r = map-out (λ (e : Node). e .number) (n .divisors) m in Memᴰ·cast (r .2) (listing-in n (listed-whole n w) (r .0) (r .1)))
-        ∙ total-map (λ v. g (cubesAt v (n .divisors))) (λ (e : Node). e .number) (n .divisors)
-        ∙ total-cong (λ (e : Node). g (cubesAt (e .number) (n .divisors))) (λ (e : Node). g (e .cubes)) (n .divisors)
-        (λ e m. ap g (cubes-at n ((lawful-sound n w) .distinct) m))
+        ∙ total-map (λ v. g (old v)) (λ (e : Node). e .number) (n .divisors)
+        ∙ total-cong _ (λ (e : Node). g (e .cubes)) (n .divisors) (λ e m. ap g (cubes-at n ((lawful-sound n w) .distinct) m))
         ∙ sym (total-map g (λ (e : Node). e .cubes) (n .divisors))
 
     -- a sum over the nodes that new numbers do not change
-    pub renumbered-total : (g : List (List ℕ) → ℕ) → ((f : List (List ℕ)) → f ∈ nodes n → g (renewed f) ≡ g f)
+    renumbered-total : (g : List (List ℕ) → ℕ) → ((f : List (List ℕ)) → f ∈ nodes n → g (renewed f) ≡ g f)
         → total g (nodes (renumbered n)) ≡ total g (nodes n)
+    unfolding renumbered
     renumbered-total g h =
-        ap (total g) renumbered-nodes
-        ∙ total-append g (map renewed (n .outputs)) (map listedAs (listing n))
-        ∙ ap₂ _+_
-        (total-map g renewed (n .outputs) ∙ total-cong (λ f. g (renewed f)) g (n .outputs) (λ f m. h f (in-output n m)))
-        (total-map g listedAs (listing n)
-        ∙ total-cong (λ v. g (listedAs v)) (λ v. g (cubesAt v (n .divisors))) (listing n) (λ v m. h (cubesAt v (n .divisors)) (listed-node n w v m))
-        ∙ listed-total g)
+        mapped-total renewed (relisted n) g (λ f m. h f (relisted-node m))
+        ∙ total-append g (n .outputs) (cubes (relisted n .divisors))
+        ∙ ap (total g (n .outputs) +_) (ap (total g) (numbered-cubes (n .inputs) _) ∙ total-map g old (listing n) ∙ listed-total g)
         ∙ sym (total-append g (n .outputs) (cubes (n .divisors)))
 
     pub renumbered-cubes : cubeCount (renumbered n) ≡ cubeCount n
@@ -219,7 +215,7 @@ module _ (n : Net) where
     divisor-earlier : Earlier (renumbered n)
     divisor-earlier e m v r =
         let q = renumbered-divisor e m in
-        let u = new-node-reads (n .inputs) (listing n) (cubesAt (q .1) (n .divisors)) v (subst (λ z. Reads z v) (q .5) r) in
+        let u = new-node-reads (n .inputs) (listing n) (old (q .1)) v (subst (λ z. Reads z v) (q .5) r) in
         elim (listed-reads n w (q .0) (q .2) (q .1) (q .3) (u .0) (u .1)) [
           | inl h ↦ omega (arith, u .2, new-input (n .inputs) (listing n) (u .0) h, q .4)
           | inr i ↦ omega (arith, u .2, new-number-before n w (q .0) (q .1 ∷ q .2) (u .0) (q .3) i, q .4)
@@ -242,7 +238,7 @@ module _ (n : Net) where
       good = record {
         expressions = λ f m. let q = renumbered-node f m in rw (q .2) ((node-made (q .1)) .0);
         known = node-known;
-        inTurn = renumbered-turn;
+        inTurn = rw (renumbered-inputs, renumbered-stand, numbered-cubes);
         acyclic = λ v t. omega (arith, through-less (renumbered n) divisor-earlier t);
       };
     }
@@ -266,7 +262,7 @@ module _ (n : Net) where
       node-kept : {f : List (List ℕ)} → f ∈ nodes n → value (lit becomes) (renewed f) ≡ value (lit was) f
       node-kept {f} m = new-node-value (n .inputs) (listing n) f (node-reaches n w m) was becomes kept
 
-      listed-value : (v : ℕ) → v ∈ listing n → was v ≡ value (lit was) (cubesAt v (n .divisors))
+      listed-value : (v : ℕ) → v ∈ listing n → was v ≡ value (lit was) (old v)
       listed-value v m = let r = listing-number n v m in rw (r .2, cubes-at n ((lawful-sound n w) .distinct) (r .1)) (was-consistent .divisors (r .0) (r .1))
 
       becomes-consistent : Consistent (renumbered n) (bit s) becomes
@@ -304,11 +300,6 @@ past-from : (k m : ℕ) → mem (k + m) (from k m) ≡ false
 past-from k m = refuted (λ h. let q = both (leb k (k + m)) (ltb (k + m) (k + m)) (sym (from-mem k m (k + m)) ∙ h) in
     omega (arith, ltb-true (k + m) (k + m) (q .1)))
 
-from-snoc : (k m : ℕ) → from k (suc m) ≡ from k m ++ ((k + m) ∷ [])
-unfolding from
-from-snoc k zero = let e : k + 0 ≡ k = omega arith in rw e
-from-snoc k (suc m) = let e : k + suc m ≡ suc k + m = omega arith in rw e (ap (k ∷_) (from-snoc (suc k) m))
-
 module _ (n : Net) (w : Lawful n) (k : Earlier n) where
   -- the smallest number that is left is ready
   turn-ready : (m : ℕ) (g : Node) → g ∈ n .divisors → g .number ≡ n .inputs + m → ready (n .inputs) (from (n .inputs) m) (g .cubes) ≡ true
@@ -344,7 +335,7 @@ module _ (n : Net) (w : Lawful n) (k : Earlier n) where
       (e ∙ ap (λ z. from (n .inputs) m ++ (z ∷ b)) (turn-next m b v (omega arith) e)
       ∙ sym (append-assoc (from (n .inputs) m) ((n .inputs + m) ∷ []) b) ∙ ap (_++ b) (sym (from-snoc (n .inputs) m)))
 
-  pub earlier-listing : listing n ≡ from (n .inputs) (length (n .divisors))
+  earlier-listing : listing n ≡ from (n .inputs) (length (n .divisors))
   unfolding from
   earlier-listing = turn-rest 0 (listing n) (omega (arith, listed-whole n w)) refl
 
@@ -365,24 +356,19 @@ module _ (n : Net) (w : Lawful n) (k : Earlier n) where
 -- a network in the one order stays as it is
 pub renumbered-same : (n : Net) → Lawful n → OneOrder n → renumbered n ≡ n
 unfolding renumbered
-renumbered-same n w o = λ i. record {
+renumbered-same n w o = mapped-fixed (renewed n) (relisted n) (λ f m. stays (relisted-node n w m)) ∙ λ i. record {
   inputs = n .inputs;
-  outputs = map-fixed (renewed n) (n .outputs) (λ f m. stays (in-output n m)) i;
+  outputs = n .outputs;
   divisors = (ap (numbered (n .inputs)) expressions ∙ sym (w .good .inTurn)) i;
 }
   where
     stays : {f : List (List ℕ)} → f ∈ nodes n → renewed n f ≡ f
     stays {f} m = new-node-same (n .inputs) (listing n) (earlier-stays n w (o .earlier)) f (node-reaches n w m) (w .good .expressions f m) (o .cubes f m)
 
-    numbers : map (λ (e : Node). e .number) (n .divisors) ≡ listing n
-    numbers = ap (map (λ (e : Node). e .number)) (w .good .inTurn)
-        ∙ numbered-numbers (n .inputs) (cubes (n .divisors))
-        ∙ ap (from (n .inputs)) (length-map (n .divisors) (λ (e : Node). e .cubes))
-        ∙ sym (earlier-listing n w (o .earlier))
+    numbers : listing n ≡ map (λ (e : Node). e .number) (n .divisors)
+    numbers = earlier-listing n w (o .earlier) ∙ ap (from (n .inputs)) (sym (length-map (n .divisors) (λ (e : Node). e .cubes)))
+        ∙ sym (ap (map (λ (e : Node). e .number)) (w .good .inTurn) ∙ numbered-numbers (n .inputs) (cubes (n .divisors)))
 
-    expressions : map (λ v. renewed n (cubesAt v (n .divisors))) (listing n) ≡ cubes (n .divisors)
-    expressions =
-        map-cong (λ v. renewed n (cubesAt v (n .divisors))) (λ v. cubesAt v (n .divisors)) (listing n) (λ v m. stays (listed-node n w v m))
-        ∙ ap (map (λ v. cubesAt v (n .divisors))) (sym numbers)
-        ∙ map-map (λ v. cubesAt v (n .divisors)) (λ (e : Node). e .number) (n .divisors)
-        ∙ map-cong (λ (e : Node). cubesAt (e .number) (n .divisors)) (λ (e : Node). e .cubes) (n .divisors) (λ e m. cubes-at n ((lawful-sound n w) .distinct) m)
+    expressions : map (old n) (listing n) ≡ cubes (n .divisors)
+    expressions = ap (map (old n)) numbers ∙ map-map (old n) (λ (e : Node). e .number) (n .divisors)
+        ∙ map-cong _ (λ (e : Node). e .cubes) (n .divisors) (λ e m. cubes-at n ((lawful-sound n w) .distinct) m)

@@ -43,45 +43,27 @@ pub padding-in : (k : ℕ) → k < 8 → padding (replicate k false) ≡ true
 unfolding padding
 padding-in k h = together (ltb (length (replicate k false)) 8) (all not (replicate k false)) (rw (length-replicate k false) (lt-ltb k 8 h)) (all-zeros k)
 
--- ---- what an accepted image is
-
-record Accepts (bytes : List ℕ) (n : Net) : Type 0 where
-  raw : Raw
-  rest : List Bool
-  fills : Fills bytes raw rest
-  padded : padding rest ≡ true
-  sums : summed raw ≡ true
-  order : allInOrder raw ≡ true
-  same : rawNet raw ≡ n
-
-taken-out : {bytes : List ℕ} {n : Net} → ImageAnswer bytes (gives n) → Accepts bytes n
-taken-out (taken {r = r} {rest = l} s p q o) = record { raw = r; rest = l; fills = s; padded = p; sums = q; order = o; same = refl }
-
-accepts : (bytes : List ℕ) (n : Net) → readImage bytes ≡ gives n → Accepts bytes n
-accepts bytes n h = taken-out ((judged-iff bytes (gives n)) .0 h)
-
 -- ---- both ways
 
 -- a network that is read is by the rules and in the one order
 pub read-lawful : (bytes : List ℕ) (n : Net) → readImage bytes ≡ gives n → Lawful n × OneOrder n
-read-lawful bytes n h =
-    let a = accepts bytes n h in
-    let f = a .fills .fits in
-    subst (λ m. Lawful m × OneOrder m) (a .same) (raw-lawful (a .raw) f (a .sums) (a .order), raw-order (a .raw) f (a .sums) (a .order))
+read-lawful bytes n h = go ((judged-iff bytes (gives n)) .0 h)
+  where
+    go : {m : Net} → ImageAnswer bytes (gives m) → Lawful m × OneOrder m
+    go (taken {r = r} s p q o) = (raw-lawful r (s .fits) q o, raw-order r (s .fits) q o)
 
 -- and its own bytes are the image
 pub read-bytes : (bytes : List ℕ) (n : Net) → ((b : ℕ) → b ∈ bytes → b < 256) → readImage bytes ≡ gives n → netBytes n ≡ bytes
 unfolding netBytes
-read-bytes bytes n small h =
-    let a = accepts bytes n h in
-    let l = rawBits (a .raw) in
-    let k = length (a .rest) in
-    let z = padding-out (a .rest) (a .padded) in
-    let e : bitsIn bytes ≡ l ++ replicate k false = a .fills .bits ∙ ap (l ++_) (z .1) in
-    let w : 8 * length bytes ≡ length l + k = sym (bits-in-length bytes) ∙ ap length e ∙ length-append l (replicate k false)
-    ∙ ap (length l +_) (length-replicate k false) in
-    subst (λ m. bytesOf (fieldBits (netFields m)) ≡ bytes) (a .same)
-    (sym (bytes-pad l k (omega (arith, z .0))) ∙ ap bytesOf (sym e) ∙ bits-bytes bytes small)
+read-bytes bytes n small h = go ((judged-iff bytes (gives n)) .0 h)
+  where
+    go : {m : Net} → ImageAnswer bytes (gives m) → bytesOf (fieldBits (netFields m)) ≡ bytes
+    go (taken {r = r} {rest = rest} s p q o) =
+        let k = length rest in
+        let z = padding-out rest p in
+        let e : bitsIn bytes ≡ rawBits r ++ replicate k false = s .bits ∙ ap (rawBits r ++_) (z .1) in
+        let w : 8 * length bytes ≡ length (rawBits r) + k = sym (bits-in-length bytes) ∙ ap length (s .bits) ∙ length-append (rawBits r) rest in
+        sym (bytes-pad (rawBits r) k (omega (arith, z .0))) ∙ ap bytesOf (sym e) ∙ bits-bytes bytes small
 
 module _ (n : Net) (h : Lawful n) where
   -- zero bits to the byte

@@ -55,11 +55,11 @@ pub data Meets (End : ℕ → (ℕ → Bool) → List Bool → Type 0) : Layout 
 
 -- a whole field out of range, whatever follows
 pub record Stray (w : ℕ) (ok : ℕ → Bool) (l : List Bool) : Type 0 where
-  pub field : List Bool
+  pub front : List Bool
   pub rest : List Bool
-  pub bits : l ≡ field ++ rest
-  pub whole : length field ≡ w
-  pub out : ok (valueOf field) ≡ false
+  pub bits : l ≡ front ++ rest
+  pub whole : length front ≡ w
+  pub out : ok (valueOf front) ≡ false
 
 -- a part of a field, maybe none of it
 abbrev pub Cut : ℕ → (ℕ → Bool) → List Bool → Type 0

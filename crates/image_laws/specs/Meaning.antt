@@ -49,8 +49,8 @@ pub record Fills (bytes : List ℕ) (r : Raw) (rest : List Bool) : Type 0 where
 -- ---- what an image is answered, and when
 
 pub data ImageAnswer (bytes : List ℕ) : Return → Type 0 where
-  -- a bad field met before the end; else an early end
-  field : Meets Stray imageLayout (bitsIn bytes) → ImageAnswer bytes (refuses 12)
+  -- a field out of range met before the end; else an early end
+  range : Meets Stray imageLayout (bitsIn bytes) → ImageAnswer bytes (refuses 12)
   early : Meets Cut imageLayout (bitsIn bytes) → ImageAnswer bytes (refuses 11)
   -- a byte over, or padding that is not zero
   over : {r : Raw} {rest : List Bool} → Fills bytes r rest → padding rest ≡ false → ImageAnswer bytes (refuses 11)

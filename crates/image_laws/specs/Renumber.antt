@@ -8,6 +8,7 @@ use Rattle.expression.specs.Expression.{sort}
 use Rattle.network.specs.Net.{Net, cubesAt}
 use Rattle.network.specs.Listing.{listing}
 use Rattle.network.specs.Held.{numbered}
+use Rattle.network.specs.Map.{mapNodes}
 
 -- the place of v in a list; its length where v is not there
 unfoldable pub indexOf : ℕ → List ℕ → ℕ
@@ -30,9 +31,10 @@ newCube n listed (l ∷ c) = insert (newLiteral n listed l) (newCube n listed c)
 unfoldable pub newNode : ℕ → List ℕ → List (List ℕ) → List (List ℕ)
 newNode n listed f = sort (map (newCube n listed) f)
 
+-- the divisors in the order of the listing, numbered in turn from the inputs on
+abbrev pub relisted : Net → Net
+relisted n = record { inputs = n .inputs; outputs = n .outputs; divisors = numbered (n .inputs) (map (λ v. cubesAt v (n .divisors)) (listing n)) }
+
+-- and the new literals in every node
 unfoldable pub renumbered : Net → Net
-renumbered n = record {
-  inputs = n .inputs;
-  outputs = map (newNode (n .inputs) (listing n)) (n .outputs);
-  divisors = numbered (n .inputs) (map (λ v. newNode (n .inputs) (listing n) (cubesAt v (n .divisors))) (listing n));
-}
+renumbered n = mapNodes (newNode (n .inputs) (listing n)) (relisted n)
