@@ -13,7 +13,7 @@ use Rattle.sets.specs.Lists.{all, total, pairwise}
 use Rattle.sets.specs.Literal.{oppositeOf}
 use Rattle.sets.specs.Sets.{mem, asc, proper}
 use Rattle.sets.proofs.Truth.{both, together, clash}
-use Rattle.sets.proofs.Lists.{_∈_, all-in, all-out, ahead, total-append}
+use Rattle.sets.proofs.Lists.{_∈_, all-in, all-out, ahead, total-append, total-in}
 use Rattle.sets.proofs.Sets.{mem-of, of-mem, sub-in, proper-out, proper-sub}
 use Rattle.expression.specs.Expression.{isCube, loose, ordered, literalsOf}
 use Rattle.network.specs.Net.{Node, Net, nodes}
@@ -30,9 +30,8 @@ module _ {A : Type 0} where
   swap-in : {x : A} (a b : List A) → x ∈ (a ++ b) → x ∈ (b ++ a)
   swap-in a b m = elim (List·Memᴰ·append-cases a m) [ inl i ↦ Memᴰ·append-right b i | inr i ↦ Memᴰ·append-left a i ]
 
-  total-in : (f : A → ℕ) {x : A} {l : List A} → x ∈ l → f x ≤ total f l
-  total-in f (here {xs = l} e) = omega (arith, ap f e)
-  total-in f (there m) = omega (arith, total-in f m)
+  swap-total : (f : A → ℕ) (a b : List A) → total f (a ++ b) ≡ total f (b ++ a)
+  swap-total f a b = omega (arith, total-append f a b, total-append f b a)
 
 -- ---- a divisor reads earlier variables alone
 
@@ -64,13 +63,13 @@ module _ (r : Raw) (fits : FitRaw r) (sums : summed r ≡ true) (order : allInOr
 
   ranks : (f : List (List ℕ)) → f ∈ nodes (rawNet r) → inTheOrder f ≡ true
   unfolding allInOrder
-  ranks f m = all-out inTheOrder (raw-in m) ((both (all inTheOrder (rawNodes r)) (readsEarlier (r .inputs) (r .divisors)) order) .0)
+  ranks f m = all-out inTheOrder (raw-in m) (both _ _ order .0)
 
   pub raw-order : OneOrder (rawNet r)
   unfolding allInOrder inTheOrder
   raw-order = record {
-    cubes = λ f m. (both (ordered f) (pairwise loose f) ((both (all asc f) (ordered f && pairwise loose f) (ranks f m)) .1)) .0;
-    earlier = earlier-out (r .inputs) (r .divisors) ((both (all inTheOrder (rawNodes r)) (readsEarlier (r .inputs) (r .divisors)) order) .1);
+    cubes = λ f m. both (ordered f) (pairwise loose f) (both (all asc f) _ (ranks f m) .1) .0;
+    earlier = earlier-out (r .inputs) (r .divisors) (both (all inTheOrder (rawNodes r)) _ order .1);
   }
 
   pub raw-lawful : Lawful (rawNet r)
@@ -82,27 +81,14 @@ module _ (r : Raw) (fits : FitRaw r) (sums : summed r ≡ true) (order : allInOr
         outputs = fits .outputs;
         within = record {
           variables = rw (numbered-length (r .inputs) (r .divisors)) (fits .few);
-          cubes = rw (numbered-cubes (r .inputs) (r .divisors))
-              (omega (
-                arith,
-                total-append length (r .outputs) (r .divisors),
-                total-append length (r .divisors) (r .outputs),
-                leb-true (total length (rawNodes r)) mostCubes (s .0),
-              ));
-          literals = rw (numbered-cubes (r .inputs) (r .divisors))
-              (omega (
-                arith,
-                total-append literalsOf (r .outputs) (r .divisors),
-                total-append literalsOf (r .divisors) (r .outputs),
-                leb-true (total literalsOf (rawNodes r)) mostLiterals (s .1),
-              ));
+          cubes = rw (numbered-cubes (r .inputs) (r .divisors), swap-total length (r .outputs) (r .divisors)) (leb-true _ mostCubes (s .0));
+          literals = rw (numbered-cubes (r .inputs) (r .divisors), swap-total literalsOf (r .outputs) (r .divisors)) (leb-true _ mostLiterals (s .1));
         };
         good = record {
           expressions = λ f m.
               let q = both (all asc f) (ordered f && pairwise loose f) (ranks f m) in
-              together (all isCube f) (pairwise loose f)
-              (all-in isCube f (λ c i. together (asc c) (proper c) (all-out asc i (q .0)) ((((fits .nodes f (raw-in m)) .cubes c i) .single))))
-              ((both (ordered f) (pairwise loose f) (q .1)) .1);
+              together _ _ (all-in isCube f (λ c i. together _ _ (all-out asc i (q .0)) (fits .nodes f (raw-in m) .cubes c i .single)))
+              (both (ordered f) (pairwise loose f) (q .1) .1);
           known = λ f m v d. rw (numbered-length (r .inputs) (r .divisors), d .2 .2)
               (((fits .nodes f (raw-in m)) .cubes (d .0) (d .1)) .known (d .2 .0) (d .2 .1));
           inTurn = ap (numbered (r .inputs)) (sym (numbered-cubes (r .inputs) (r .divisors)));
@@ -155,19 +141,13 @@ module _ (n : Net) (h : Lawful n) where
   pub lawful-sums : summed (rawOf n) ≡ true
   unfolding summed
   lawful-sums =
-      together (leb (total length (rawNodes (rawOf n))) mostCubes) (leb (total literalsOf (rawNodes (rawOf n))) mostLiterals)
-      (le-leb (total length (rawNodes (rawOf n))) mostCubes
-      (omega (arith, total-append length (n .outputs) (divisorCubes n), total-append length (divisorCubes n) (n .outputs), h .within .cubes)))
-      (le-leb (total literalsOf (rawNodes (rawOf n))) mostLiterals
-      (omega (arith, total-append literalsOf (n .outputs) (divisorCubes n), total-append literalsOf (divisorCubes n) (n .outputs), h .within .literals)))
+      together _ _ (le-leb (total length (rawNodes (rawOf n))) mostCubes (rw (swap-total length (divisorCubes n) (n .outputs)) (h .within .cubes)))
+      (le-leb (total literalsOf (rawNodes (rawOf n))) mostLiterals (rw (swap-total literalsOf (divisorCubes n) (n .outputs)) (h .within .literals)))
 
   pub lawful-order : OneOrder n → allInOrder (rawOf n) ≡ true
   unfolding allInOrder inTheOrder
   lawful-order o =
-      together (all inTheOrder (rawNodes (rawOf n))) (readsEarlier (n .inputs) (divisorCubes n))
-      (all-in inTheOrder (rawNodes (rawOf n)) (λ f m.
+      together _ _ (all-in inTheOrder (rawNodes (rawOf n)) (λ f m.
       let q = both (all isCube f) (pairwise loose f) (h .good .expressions f (node-in m)) in
-      together (all asc f) (ordered f && pairwise loose f)
-      (all-in asc f (λ c i. (both (asc c) (proper c) (all-out isCube i (q .0))) .0))
-      (together (ordered f) (pairwise loose f) (o .cubes f (node-in m)) (q .1))))
+      together _ _ (all-in asc f (λ c i. (both (asc c) (proper c) (all-out isCube i (q .0))) .0)) (together _ _ (o .cubes f (node-in m)) (q .1))))
       (earlier-in (n .inputs) (divisorCubes n) (λ e m. o .earlier e (subst (e ∈_) (sym (h .good .inTurn)) m)))

@@ -3,7 +3,7 @@
 use Prim.Native.Nat.{ℕ, zero, suc, _+_, _-_, _/_, _%_, _<_, _≤_}
 use mathlib.Core.Path.{_≡_, refl, sym, ap, ap₂, _∙_, subst}
 use mathlib.Core.Logic.{_⊎_, inl, inr}
-use mathlib.Core.Bool.{Bool, true, false, cond, _&&_, _||_, or-true}
+use mathlib.Core.Bool.{Bool, true, false, cond, _&&_, _||_, or-false}
 use mathlib.Core.List.{List, [], _∷_, _++_, map, append-nil, List·Memᴰ·head as here, List·Memᴰ·tail as there, List·Memᴰ·not-nil, List·Memᴰ·cases-cons}
 use mathlib.Core.List.{Memᴰ·cast}
 use native.Mathlib.Omega.{arith}
@@ -12,15 +12,20 @@ use lib.ListN.{length, getD, length-map}
 use borrow.Author.Tests.{eqb-true, eq-eqb, ne-eqb, ltb-true, ltb-false, lt-ltb, le-ltb}
 use Rattle.sets.specs.Lists.{any, all, pairwise, from}
 use Rattle.sets.specs.Literal.{oppositeOf}
-use Rattle.sets.specs.Sets.{mem, sub, asc, proper, insert}
+use Rattle.sets.specs.Sets.{mem, sub, asc, proper, insert, union}
 use Rattle.sets.proofs.Truth.{iff, both, together, either, neither, decided, clash}
-use Rattle.sets.proofs.Lists.{_∈_, all-in, all-out, map-out, map-fixed, total-map, total-const, pairwise-map, ahead}
-use Rattle.sets.proofs.Sets.{mem-of, of-mem, insert-mem, insert-asc, insert-all, insert-length, sub-in, sub-out, proper-in, proper-out, head-once, ext}
+use Rattle.sets.proofs.Lists.{_∈_, all-in, all-out, map-in, map-out, map-fixed, total-map, total-const, pairwise-map, ahead}
+use Rattle.sets.proofs.Sets.{mem-of, of-mem, insert-all, insert-length, union-mem, union-asc, sub-in, sub-out, proper-in, proper-out, head-once, ext}
 use Rattle.expression.specs.Expression.{isCube, loose, expression, sort, ordered, literalsOf}
 use Rattle.expression.specs.Value.{lit, value}
 use Rattle.expression.proofs.Sorting.{sort-out, any-sort, total-sort, sort-length, ordered-sort, expression-sort}
 use Rattle.network.specs.Meaning.{Reads}
 use Rattle.image_laws.specs.Renumber.{indexOf, newNumber, newLiteral, newCube, newNode}
+
+-- literals as a set are the literals
+pub set-mem : (z : ℕ) (c : List ℕ) → mem z (union c []) ≡ mem z c
+unfolding mem
+set-mem z c = union-mem z c [] ∙ or-false (mem z c)
 
 -- ---- the place of a number in a list
 
@@ -105,19 +110,19 @@ module _ (n : ℕ) (l : List ℕ) where
 
   -- ---- literals
 
-  pub new-variable : (x : ℕ) → newLiteral n l x / 2 ≡ newNumber n l (x / 2)
+  new-variable : (x : ℕ) → newLiteral n l x / 2 ≡ newNumber n l (x / 2)
   unfolding newLiteral
   new-variable x = omega arith
 
-  pub new-polarity : (x : ℕ) → newLiteral n l x % 2 ≡ x % 2
+  new-polarity : (x : ℕ) → newLiteral n l x % 2 ≡ x % 2
   unfolding newLiteral
   new-polarity x = omega arith
 
-  pub new-opposite : (x : ℕ) → newLiteral n l (oppositeOf x) ≡ oppositeOf (newLiteral n l x)
+  new-opposite : (x : ℕ) → newLiteral n l (oppositeOf x) ≡ oppositeOf (newLiteral n l x)
   unfolding newLiteral
   new-opposite x = let e : oppositeOf x / 2 ≡ x / 2 = omega arith in rw e (omega arith)
 
-  pub new-literal-injective : (x y : ℕ) → Named (x / 2) → Named (y / 2) → newLiteral n l x ≡ newLiteral n l y → x ≡ y
+  new-literal-injective : (x y : ℕ) → Named (x / 2) → Named (y / 2) → newLiteral n l x ≡ newLiteral n l y → x ≡ y
   new-literal-injective x y i j e =
       let v : x / 2 ≡ y / 2 = new-injective (x / 2) (y / 2) i j (sym (new-variable x) ∙ ap (_/ 2) e ∙ new-variable y) in
       let p : x % 2 ≡ y % 2 = sym (new-polarity x) ∙ ap (_% 2) e ∙ new-polarity y in
@@ -129,52 +134,50 @@ module _ (n : ℕ) (l : List ℕ) where
   abbrev pub Over : List ℕ → Type 0
   Over c = (x : ℕ) → x ∈ c → Named (x / 2)
 
-  pub new-cube-in : {x : ℕ} {c : List ℕ} → x ∈ c → newLiteral n l x ∈ newCube n l c
-  unfolding newCube
-  new-cube-in {x} (here {x = y} {xs = c} e) = of-mem (newLiteral n l x) (insert (newLiteral n l y) (newCube n l c))
-      (insert-mem (newLiteral n l x) (newLiteral n l y) (newCube n l c) ∙ rw (eq-eqb (newLiteral n l x) (newLiteral n l y) (ap (newLiteral n l) e)))
-  new-cube-in {x} (there {x = y} {xs = c} m) = of-mem (newLiteral n l x) (insert (newLiteral n l y) (newCube n l c))
-      (insert-mem (newLiteral n l x) (newLiteral n l y) (newCube n l c) ∙ rw (mem-of (new-cube-in m), or-true))
+  abbrev fresh : ℕ → ℕ
+  fresh x = newLiteral n l x
 
-  pub new-cube-out : (c : List ℕ) {z : ℕ} → z ∈ newCube n l c → (x : ℕ) × (x ∈ c) × (z ≡ newLiteral n l x)
-  unfolding newCube
-  new-cube-out [] m = absurd (List·Memᴰ·not-nil m)
-  new-cube-out (y ∷ c) {z} m = elim (either (eqb z (newLiteral n l y)) (mem z (newCube n l c))
-      (sym (insert-mem z (newLiteral n l y) (newCube n l c)) ∙ mem-of m)) [
-        | inl e ↦ (y, here refl, eqb-true z (newLiteral n l y) e)
-        | inr t ↦ let r = new-cube-out c (of-mem z (newCube n l c) t) in (r .0, there (r .1), r .2)
-      ]
+  new-cube-set : (c : List ℕ) → newCube n l c ≡ union (map fresh c) []
+  unfolding newCube union
+  new-cube-set [] = refl
+  new-cube-set (x ∷ c) = ap (insert (fresh x)) (new-cube-set c)
+
+  new-cube-has : (z : ℕ) (c : List ℕ) → mem z (newCube n l c) ≡ mem z (map fresh c)
+  new-cube-has z c = ap (mem z) (new-cube-set c) ∙ set-mem z (map fresh c)
+
+  new-cube-in : {x : ℕ} {c : List ℕ} → x ∈ c → fresh x ∈ newCube n l c
+  new-cube-in {x} {c} m = of-mem (fresh x) (newCube n l c) (new-cube-has (fresh x) c ∙ mem-of (map-in fresh m))
+
+  new-cube-out : (c : List ℕ) {z : ℕ} → z ∈ newCube n l c → (x : ℕ) × (x ∈ c) × (z ≡ fresh x)
+  new-cube-out c {z} m = map-out fresh c (of-mem z (map fresh c) (sym (new-cube-has z c) ∙ mem-of m))
 
   -- a literal is in a cube exactly when the new one is in the new one
-  pub new-cube-mem : (c : List ℕ) (x : ℕ) → Over c → Named (x / 2) → mem (newLiteral n l x) (newCube n l c) ≡ mem x c
+  new-cube-mem : (c : List ℕ) (x : ℕ) → Over c → Named (x / 2) → mem (fresh x) (newCube n l c) ≡ mem x c
   new-cube-mem c x o k = iff
-      (λ h. let r = new-cube-out c (of-mem (newLiteral n l x) (newCube n l c) h) in
+      (λ h. let r = new-cube-out c (of-mem (fresh x) (newCube n l c) h) in
       mem-of (Memᴰ·cast (new-literal-injective x (r .0) k (o (r .0) (r .1)) (r .2)) (r .1)))
       (λ h. mem-of (new-cube-in (of-mem x c h)))
 
-  pub new-cube-asc : (c : List ℕ) → asc (newCube n l c) ≡ true
-  unfolding newCube
-  new-cube-asc [] = refl
-  new-cube-asc (x ∷ c) = insert-asc (newLiteral n l x) (newCube n l c) (new-cube-asc c)
+  new-cube-asc : (c : List ℕ) → asc (newCube n l c) ≡ true
+  new-cube-asc c = rw (new-cube-set c) (union-asc (map fresh c) [] refl)
 
-  pub new-cube-length : (c : List ℕ) → asc c ≡ true → Over c → length (newCube n l c) ≡ length c
+  new-cube-length : (c : List ℕ) → asc c ≡ true → Over c → length (newCube n l c) ≡ length c
   unfolding newCube
   new-cube-length [] h o = refl
   new-cube-length (x ∷ c) h o =
-      let fresh : mem (newLiteral n l x) (newCube n l c) ≡ false = new-cube-mem c x (λ y m. o y (there m)) (o x (here refl)) ∙ head-once x c h in
-      insert-length (newLiteral n l x) (newCube n l c) fresh ∙ ap suc (new-cube-length c ((ahead ltb x c h) .1) (λ y m. o y (there m)))
+      insert-length (fresh x) (newCube n l c) (new-cube-mem c x (λ y m. o y (there m)) (o x (here refl)) ∙ head-once x c h)
+      ∙ ap suc (new-cube-length c ((ahead ltb x c h) .1) (λ y m. o y (there m)))
 
   -- no variable both ways
-  pub new-cube-proper : (c : List ℕ) → Over c → proper c ≡ true → proper (newCube n l c) ≡ true
+  new-cube-proper : (c : List ℕ) → Over c → proper c ≡ true → proper (newCube n l c) ≡ true
   new-cube-proper c o h = proper-in (newCube n l c) (λ z m.
       let r = new-cube-out c (of-mem z (newCube n l c) m) in
       let e : oppositeOf (r .0) / 2 ≡ r .0 / 2 = omega arith in
-      let w : mem (newLiteral n l (oppositeOf (r .0))) (newCube n l c) ≡ false =
-      new-cube-mem c (oppositeOf (r .0)) o (subst Named (sym e) (o (r .0) (r .1))) ∙ proper-out c (r .0) h (mem-of (r .1)) in
-      rw (r .2, ← (new-opposite (r .0))) w)
+      rw (r .2, ← (new-opposite (r .0)))
+      (new-cube-mem c (oppositeOf (r .0)) o (subst Named (sym e) (o (r .0) (r .1))) ∙ proper-out c (r .0) h (mem-of (r .1))))
 
   -- one contains another exactly when it did
-  pub new-cube-sub : (c d : List ℕ) → Over c → Over d → sub c d ≡ sub (newCube n l c) (newCube n l d)
+  new-cube-sub : (c d : List ℕ) → Over c → Over d → sub c d ≡ sub (newCube n l c) (newCube n l d)
   new-cube-sub c d o k = iff
       (λ h. sub-in (newCube n l c) (newCube n l d) (λ z m. let r = new-cube-out c (of-mem z (newCube n l c) m) in
       rw (r .2) (mem-of (new-cube-in (of-mem (r .0) d (sub-out c d (r .0) h (mem-of (r .1))))))))
@@ -187,7 +190,7 @@ module _ (n : ℕ) (l : List ℕ) where
   abbrev pub Reaches : List (List ℕ) → Type 0
   Reaches f = (v : ℕ) → Reads f v → Named v
 
-  pub reaches-over : {c : List ℕ} (f : List (List ℕ)) → Reaches f → c ∈ f → Over c
+  reaches-over : {c : List ℕ} (f : List (List ℕ)) → Reaches f → c ∈ f → Over c
   reaches-over {c} f k m x i = k (x / 2) (c, m, (x, i, refl))
 
   -- what a new node reads
@@ -217,16 +220,11 @@ module _ (n : ℕ) (l : List ℕ) where
       -- a new node has an expression, in cube order
       pub new-node-expression : (expression (newNode n l f) ≡ true) × (ordered (newNode n l f) ≡ true)
       unfolding newNode loose
-      new-node-expression = expression-sort (map (newCube n l) f) (together (all isCube (map (newCube n l) f)) (pairwise loose (map (newCube n l) f))
+      new-node-expression = expression-sort (map (newCube n l) f) (together _ _
           (all-in isCube (map (newCube n l) f) (λ d m. let r = map-out (newCube n l) f m in
-          rw (r .2) (together (asc (newCube n l (r .0))) (proper (newCube n l (r .0))) (new-cube-asc (r .0))
-          (new-cube-proper (r .0) (reaches-over f k (r .1)) ((cube-of (r .1)) .1)))))
-          (pairwise-map loose loose (newCube n l) f
-          (λ c d i j t. rw (
-            ← (new-cube-sub c d (reaches-over f k i) (reaches-over f k j)),
-            ← (new-cube-sub d c (reaches-over f k j) (reaches-over f k i)),
-          ) t)
-          ((both (all isCube f) (pairwise loose f) h) .1)))
+          rw (r .2) (together _ _ (new-cube-asc (r .0)) (new-cube-proper (r .0) (reaches-over f k (r .1)) ((cube-of (r .1)) .1)))))
+          (pairwise-map loose loose (newCube n l) f (λ c d i j t. let a = reaches-over f k i in let b = reaches-over f k j in
+          rw (← (new-cube-sub c d a b), ← (new-cube-sub d c b a)) t) ((both (all isCube f) (pairwise loose f) h) .1)))
 
     -- where new variables have the values of the old ones, so do nodes
     module _ (a b : ℕ → Bool) (e : (v : ℕ) → Named v → b (newNumber n l v) ≡ a v) where

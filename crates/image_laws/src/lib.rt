@@ -1,4 +1,10 @@
-// The widths of an image's fields in edition 1; the definitions and laws of images are in specs/ and proofs/.
+// The widths of an image's fields in edition 1, tied to the definitions; these and the laws of images are in specs/ and proofs/.
+ghost use mathlib.Core.Path.{_≡_};
+ghost use mathlib.Core.List.{[], _∷_};
+ghost use Prim.Native.Nat.{_+_};
+ghost use Rattle.image_fields.specs.Fields.{bytesFor};
+ghost use Rattle.image_laws.specs.Widths.{editionField, edition1, headSize, mostCubeBits, mostNodeBits, mostBits};
+
 pub const EDITION: usize = 1;
 
 pub const EDITION_WIDTH: usize = 4;
@@ -28,3 +34,28 @@ pub const IMAGE_BITS: usize = HEAD_WIDTH + (network::OUTPUTS + network::VARIABLE
 
 // The bytes of the longest such image, and one more by which a longer one is known.
 pub const ROOM: usize = (IMAGE_BITS + 7) / 8 + 1;
+
+// The row of edition 1, as the definitions have it.
+fn row() -> [usize; 9]
+    ensures { λ r. ⌜ r ≡ edition1 .number ∷ editionField ∷ edition1 .inputs ∷ edition1 .outputs ∷ edition1 .divisors ∷ headSize
+        ∷ edition1 .cubes ∷ edition1 .literals ∷ edition1 .literal ∷ [] ⌝ }
+{
+    [
+        EDITION,
+        EDITION_WIDTH,
+        INPUTS_WIDTH,
+        OUTPUTS_WIDTH,
+        DIVISORS_WIDTH,
+        HEAD_WIDTH,
+        CUBES_WIDTH,
+        LITERALS_WIDTH,
+        LITERAL_WIDTH,
+    ]
+}
+
+// The most bits, and the room for them.
+fn most() -> [usize; 4]
+    ensures { λ r. ⌜ r ≡ mostCubeBits ∷ mostNodeBits ∷ mostBits ∷ (bytesFor mostBits + 1) ∷ [] ⌝ }
+{
+    [CUBE_BITS, NODE_BITS, IMAGE_BITS, ROOM]
+}
