@@ -35,14 +35,6 @@ loop-holds c =
 add-e : tie.Need-add-e Inv-loop μ-loop
 add-e c = let l = c .before .before in omega (arith, room l (c .before .loop-test .taken))
 
-add-reaches : tie.Need-add-reaches Inv-loop μ-loop
-add-reaches c =
-    let l = c .before .before .before in omega (arith, c .before .before .loop-test .taken, l .before .before .before .pre .1)
-
-reaches-requires : tie.Need-reaches-requires Inv-loop μ-loop
-reaches-requires c κs =
-    let l = c .before .before .before in omega (arith, c .before .before .loop-test .taken, l .before .before .before .pre .1)
-
 returns : tie.Need-returns Inv-loop μ-loop
 returns c =
     let p = c .before .before in
@@ -75,5 +67,5 @@ returns-2 c =
 
 pub all-earlier-spec : {M : Type 1} → statement M
 all-earlier-spec =
-    tie.close (tie.spec Inv-loop μ-loop loop-holds (λ c. search needs) (λ c. search needs) add-e (λ c κs. search needs) add-reaches reaches-requires returns
-    (λ c. search needs) (λ c. search needs) loop-again returns-2)
+    tie.close (tie.spec Inv-loop μ-loop loop-holds (λ c. search needs) (λ c. search needs) add-e (λ c κs. search needs) (λ c. search needs)
+    (λ c κs. search needs) returns (λ c. search needs) (λ c. search needs) loop-again returns-2)

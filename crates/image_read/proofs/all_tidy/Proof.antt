@@ -26,9 +26,6 @@ room : (l : tie.At-loop Inv-loop μ-loop) → l .loop .i < length (l .before .be
     → l .loop .a + getD (l .before .before .before .args .counts .now) (l .loop .i) 0 ≤ 1088
 room l h = omega (arith, sum-next (l .before .before .before .args .counts .now) (l .loop .i) h, l .loop .inv .1, l .before .before .before .pre)
 
-loop-holds : tie.Need-loop-holds Inv-loop μ-loop
-loop-holds c = (omega arith, omega arith, refl)
-
 add-e : tie.Need-add-e Inv-loop μ-loop
 add-e c = let l = c .before .before in omega (arith, room l (c .before .loop-test .taken))
 
@@ -59,5 +56,5 @@ returns-2 c =
 
 pub all-tidy-spec : {M : Type 1} → statement M
 all-tidy-spec =
-    tie.close (tie.spec Inv-loop μ-loop loop-holds (λ c. search needs) (λ c. search needs) add-e (λ c κs. search needs) (λ c κs. search needs) returns
+    tie.close (tie.spec Inv-loop μ-loop (λ c. search needs) (λ c. search needs) (λ c. search needs) add-e (λ c κs. search needs) (λ c κs. search needs) returns
     (λ c. search needs) (λ c. search needs) loop-again returns-2)

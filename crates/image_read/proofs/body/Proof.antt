@@ -28,18 +28,6 @@ Read n x =
 read : (n : tie.After-nodes) (x : Step) → n .nodes .result ≡ x → Read n x
 read n x e = subst (Read n) e (n .nodes .ensures)
 
-add-nodes : tie.Need-add-nodes
-add-nodes c = let s = c .before .before in omega (arith, s .pre .variables)
-
-nodes-requires : tie.Need-nodes-requires
-nodes-requires c κs =
-    let s = c .before .before .before .before in (
-      record { at = omega arith; cubes = omega arith; literals = omega arith },
-      s .pre .variables,
-      omega (arith, s .pre .outputs, s .pre .variables, length-replicate {A = ℕ} nodeSlots 0),
-      omega (arith, s .pre .variables),
-    )
-
 rest-requires : tie.Need-rest-requires
 rest-requires c κs =
     let o = c .before .before in
@@ -53,10 +41,7 @@ returns c =
     let s = start n in
     divisors-refused (bitsIn (s .args .bytes .now)) (s .args .z) _ (c .refuse .result) (c .refuse .ensures) (read n _ (o .d .given .1))
 
-returns-2 : tie.Need-returns-2
-returns-2 c = c .rest .ensures
-
 pub body-spec : {M : Type 1} → statement M
 body-spec =
-    tie.close (tie.spec add-nodes (λ c. search needs) (λ c. search needs) nodes-requires (λ c. search needs) (λ c κs. search needs) (λ c. search needs)
-    (λ c. search needs) rest-requires returns returns-2)
+    tie.close (tie.spec (λ c. search needs) (λ c. search needs) (λ c. search needs) (λ c κs. search needs) (λ c. search needs) (λ c κs. search needs)
+    (λ c. search needs) (λ c. search needs) rest-requires returns (λ c. search needs) )

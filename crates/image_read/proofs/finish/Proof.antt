@@ -11,10 +11,6 @@ use Rattle.image_read.proofs.finish.Tie as tie
 abbrev start : tie.After-judge → tie.Start
 start j = j .before .before .before .before .before .before
 
-add-s : tie.Need-add-s
-add-s c =
-    let w = c .before .before .before .pre in omega (arith, w .cubes, w .half .divisors .near .cubes, w .outputs .near .cubes)
-
 judge-requires : tie.Need-judge-requires
 judge-requires c κs =
     let s = c .before .before .before .before .before in
@@ -36,5 +32,5 @@ returns-2 c =
 
 pub finish-spec : {M : Type 1} → statement M
 finish-spec =
-    tie.close (tie.spec add-s (λ c. search needs) (λ c. search needs) judge-requires (λ c. search needs) (λ c κs. search needs) (λ c. search needs)
-    (λ c. search needs) (λ c κs. search needs) (λ c κs. search needs) returns returns-2)
+    tie.close (tie.spec (λ c. search needs) (λ c. search needs) (λ c. search needs) judge-requires (λ c. search needs) (λ c κs. search needs)
+    (λ c. search needs) (λ c. search needs) (λ c κs. search needs) (λ c κs. search needs) returns returns-2)

@@ -3,6 +3,7 @@ use mathlib.Core.Bool.{Bool}
 use mathlib.Core.List.{List}
 use native.Mathlib.Omega.{arith}
 use lib.ListN.{drop}
+use borrow.Author.Needs.{needs}
 use Rattle.image_fields.specs.Fields.{bitsIn}
 use Rattle.image_laws.specs.Widths.{editionField, edition1}
 use Rattle.image_read.specs.Parts.{FieldIs}
@@ -39,9 +40,6 @@ divisors v = field-is (start (first (v .before .before)) .args .bytes .now) divi
 returns : tie.Need-returns
 returns c = let s = c .before .before in edition-cut (bits s) (field-short (s .args .bytes .now) 0 editionField 0 (omega (arith, c .if1 .taken)) (omega arith))
 
-value-at-requires : tie.Need-value-at-requires
-value-at-requires c κs = (omega (arith, c .if1 .left), omega arith, omega arith)
-
 returns-2 : tie.Need-returns-2
 returns-2 c = let v = c .before in edition-bad (bits (start v)) _ (edition v) (c .if2 .taken)
 
@@ -49,15 +47,6 @@ returns-3 : tie.Need-returns-3
 returns-3 c =
     let v = c .before .before in
     front-cut (start v .args .bytes .now) _ (edition v) (c .before .if2 .left) (omega (arith, v .before .if1 .left)) (c .if3 .taken)
-
-value-at-requires-2 : tie.Need-value-at-requires-2
-value-at-requires-2 c κs = (omega (arith, c .if3 .left), omega arith, omega arith)
-
-value-at-requires-3 : tie.Need-value-at-requires-3
-value-at-requires-3 c κs = (omega (arith, c .before .if3 .left), omega arith, omega arith)
-
-value-at-requires-4 : tie.Need-value-at-requires-4
-value-at-requires-4 c κs = (omega (arith, c .before .before .if3 .left), omega arith, omega arith)
 
 sizes-of-requires : tie.Need-sizes-of-requires
 sizes-of-requires c κs =
@@ -80,4 +69,5 @@ returns-4 c =
 
 pub front-spec : {M : Type 1} → statement M
 front-spec =
-    tie.close (tie.spec returns value-at-requires returns-2 returns-3 value-at-requires-2 value-at-requires-3 value-at-requires-4 sizes-of-requires returns-4)
+    tie.close (tie.spec returns (λ c κs. search needs) returns-2 returns-3 (λ c κs. search needs) (λ c κs. search needs) (λ c κs. search needs)
+    sizes-of-requires returns-4)

@@ -2,6 +2,7 @@
 use mathlib.Core.Path.{sym, _∙_}
 use mathlib.Core.Bool.{Bool}
 use borrow.Author.Tests.{not-true, not-false}
+use borrow.Author.Needs.{needs}
 use Rattle.sets.specs.Lists.{all}
 use Rattle.image_laws.specs.Reading.{readsEarlier}
 use Rattle.image_read.specs.Parts.{tidy, nodesIn}
@@ -26,16 +27,10 @@ returns : tie.Need-returns
 returns c =
     let s = c .before .before .before .before .before in stop-first (s .args .ascending) (divisors s) (outputs s) (earlier s) (not-true _ (c .if1 .taken))
 
-all-tidy-requires : tie.Need-all-tidy-requires
-all-tidy-requires c κs = c .before .before .before .before .before .pre .0 .divisors
-
 returns-2 : tie.Need-returns-2
 returns-2 c =
     let s = start (c .before) in stop-second (s .args .ascending) (divisors s) (outputs s) (earlier s) (not-false _ (c .before .before .if1 .left))
     (sym (c .before .all-tidy .ensures) ∙ not-true _ (c .if2 .taken))
-
-all-tidy-requires-2 : tie.Need-all-tidy-requires-2
-all-tidy-requires-2 c κs = c .before .before .before .before .before .before .before .pre .0 .outputs
 
 returns-3 : tie.Need-returns-3
 returns-3 c =
@@ -43,10 +38,6 @@ returns-3 c =
     let s = start a in
     stop-third (s .args .ascending) (divisors s) (outputs s) (earlier s) (not-false _ (a .before .if1 .left))
     (sym (a .all-tidy .ensures) ∙ not-false _ (c .before .before .if2 .left)) (sym (c .before .all-tidy2 .ensures) ∙ not-true _ (c .if3 .taken))
-
-all-earlier-requires : tie.Need-all-earlier-requires
-all-earlier-requires c κs =
-    let s = c .before .before .before .before .before .before .before .before .before in (s .pre .0 .divisors, s .pre .1)
 
 returns-4 : tie.Need-returns-4
 returns-4 c =
@@ -59,4 +50,4 @@ returns-4 c =
 
 pub in-order-spec : {M : Type 1} → statement M
 in-order-spec =
-    tie.close (tie.spec returns all-tidy-requires returns-2 all-tidy-requires-2 returns-3 all-earlier-requires returns-4)
+    tie.close (tie.spec returns (λ c κs. search needs) returns-2 (λ c κs. search needs) returns-3 (λ c κs. search needs) returns-4)

@@ -22,21 +22,11 @@ returns c =
     let s = c .before .before in
     rw (le-ltb (length (drop (s .args .at) (bitsIn (s .args .bytes .now)))) 8 (omega (arith, c .if1 .taken, left-length (s .args .bytes .now) (s .args .at))))
 
-mul-if2 : tie.Need-mul-if2
-mul-if2 c = omega (arith, c .if1 .left)
-
 returns-2 : tie.Need-returns-2
 unfolding padding
 returns-2 c =
     let s = c .before .before .before in
     rw (drop-of-length-le (bitsIn (s .args .bytes .now)) {i = s .args .at} (omega (arith, c .if2 .taken, bits-in-length (s .args .bytes .now))))
-
-mul-value-at : tie.Need-mul-value-at
-mul-value-at c = omega (arith, c .before .if1 .left)
-
-value-at-requires : tie.Need-value-at-requires
-value-at-requires c κs =
-    let s = c .before .before .before in (omega (arith, c .if2 .left), s .pre, omega (arith, c .before .if1 .left, c .if2 .left))
 
 returns-3 : tie.Need-returns-3
 unfolding padding
@@ -50,4 +40,4 @@ returns-3 c =
 
 pub is-padded-spec : {M : Type 1} → statement M
 is-padded-spec =
-    tie.close (tie.spec (λ c. search needs) returns mul-if2 returns-2 mul-value-at (λ c. search needs) value-at-requires returns-3)
+    tie.close (tie.spec (λ c. search needs) returns (λ c. search needs) returns-2 (λ c. search needs) (λ c. search needs) (λ c κs. search needs) returns-3)

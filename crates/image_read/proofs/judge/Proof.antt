@@ -66,9 +66,6 @@ back s = let e : s .args .z .outputs - 0 ≡ s .args .z .outputs = omega arith i
 same : (s : tie.Start) → ordered s (lentDivisors s) (lentOutputs s) ≡ sorted s
 same s = ap₂ (ordered s) (front s) (back s)
 
-is-padded-requires : tie.Need-is-padded-requires
-is-padded-requires c κs = omega (arith, c .before .before .before .before .pre .at)
-
 returns : tie.Need-returns
 returns c =
     let s = start (c .before) in verdict-11 (padded s) (few s) (sorted s) (sym (c .before .is-padded .ensures) ∙ not-true _ (c .if1 .taken))
@@ -78,15 +75,6 @@ returns-2 c =
     let f = c .before in
     let s = start (summed f) in
     verdict-12 (padded s) (few s) (sorted s) (is-padded f) (sym (f .is-few .ensures) ∙ not-true _ (c .if2 .taken))
-
-add-e : tie.Need-add-e
-add-e c = let s = whole c in omega (arith, s .pre .sized .outputs, s .pre .sized .variables)
-
-part-in-order-end : tie.Need-part-in-order-end
-part-in-order-end c = let s = whole c in omega (arith, s .pre .sized .outputs, s .pre .sized .variables, s .pre .places)
-
-part-in-order-end-2 : tie.Need-part-in-order-end-2
-part-in-order-end-2 c = let s = whole (c .before) in omega (arith, s .pre .sized .outputs, s .pre .places)
 
 in-order-requires : tie.Need-in-order-requires
 in-order-requires c κs =
@@ -116,5 +104,5 @@ returns-4 c =
 
 pub judge-spec : {M : Type 1} → statement M
 judge-spec =
-    tie.close (tie.spec is-padded-requires returns (λ c κs. search needs) returns-2 add-e (λ c. search needs) (λ c. search needs) (λ c. search needs)
-    part-in-order-end (λ c. search needs) (λ c. search needs) part-in-order-end-2 in-order-requires returns-3 returns-4)
+    tie.close (tie.spec (λ c κs. search needs) returns (λ c κs. search needs) returns-2 (λ c. search needs) (λ c. search needs) (λ c. search needs)
+    (λ c. search needs) (λ c. search needs) (λ c. search needs) (λ c. search needs) (λ c. search needs) in-order-requires returns-3 returns-4)

@@ -28,20 +28,6 @@ Read n x =
 read : (n : tie.After-nodes) (x : Step) → n .nodes .result ≡ x → Read n x
 read n x e = subst (Read n) e (n .nodes .ensures)
 
-add-nodes : tie.Need-add-nodes
-add-nodes c = let s = c .before .before .before in omega (arith, s .pre .sized .variables)
-
-nodes-requires : tie.Need-nodes-requires
-nodes-requires c κs =
-    let s = c .before .before .before .before .before in
-    let n = s .pre .divisors .near in
-    let m : length (s .args .given) ≡ nodeSlots = search needs in (
-      record { at = omega (arith, n .at); cubes = omega arith; literals = omega (arith, n .literals) },
-      s .pre .sized .variables,
-      omega (arith, s .pre .sized .outputs, m),
-      omega (arith, s .pre .sized .outputs),
-    )
-
 finish-requires : tie.Need-finish-requires
 finish-requires c κs =
     let o = c .before in
@@ -62,10 +48,7 @@ returns c =
     let s = start n in
     outputs-refused (bitsIn (s .args .bytes .now)) (s .args .z) _ (c .refuse .result) (c .refuse .ensures) (s .pre) (read n _ (o .o .given .1))
 
-returns-2 : tie.Need-returns-2
-returns-2 c = c .finish .ensures
-
 pub rest-spec : {M : Type 1} → statement M
 rest-spec =
-    tie.close (tie.spec add-nodes (λ c. search needs) (λ c. search needs) nodes-requires (λ c. search needs) (λ c κs. search needs) (λ c. search needs)
-    finish-requires returns returns-2)
+    tie.close (tie.spec (λ c. search needs) (λ c. search needs) (λ c. search needs) (λ c κs. search needs) (λ c. search needs) (λ c κs. search needs)
+    (λ c. search needs) finish-requires returns (λ c. search needs) )

@@ -24,9 +24,6 @@ bits-from s = drop (s .args .at) (bitsIn (s .args .bytes .now))
 read : (k : tie.After-known-told) → FieldIs (edition1 .literals) (bits-from (start k)) (Is (k .before .f .given .0 .0))
 read k = subst (λ (x : Field). FieldIs (edition1 .literals) (bits-from (start k)) x) (k .before .f .given .1) (k .before .before .before .field-at .ensures)
 
-field-at-requires : tie.Need-field-at-requires
-field-at-requires c κs = let s = c .before in (omega (arith, s .pre .0), omega arith, omega arith)
-
 returns : tie.Need-returns
 returns c =
     let a = c .before .before in
@@ -38,13 +35,6 @@ returns-2 : tie.Need-returns-2
 returns-2 c =
     let s = start (c .before) in cube-bad (bitsIn (s .args .bytes .now)) (s .args .v) (s .args .at) _ (read (c .before)) (c .if1 .taken)
 
-add-literals : tie.Need-add-literals
-add-literals c = let s = start (c .before) in omega (arith, s .pre .0)
-
-literals-requires : tie.Need-literals-requires
-literals-requires c κs =
-    let s = start (c .before) in (omega (arith, s .pre .0), s .pre .1, omega (arith, s .pre .1, c .if1 .left))
-
 returns-3 : tie.Need-returns-3
 returns-3 c =
     let s = start (c .before .before) in cube-is (bitsIn (s .args .bytes .now)) (s .args .v) (s .args .at) _ (read (c .before .before)) (c .before .if1 .left)
@@ -52,4 +42,4 @@ returns-3 c =
 
 pub cube-at-spec : {M : Type 1} → statement M
 cube-at-spec =
-    tie.close (tie.spec field-at-requires (λ c. search needs) (λ c. search needs) returns returns-2 add-literals literals-requires returns-3)
+    tie.close (tie.spec (λ c κs. search needs) (λ c. search needs) (λ c. search needs) returns returns-2 (λ c. search needs) (λ c κs. search needs) returns-3)

@@ -15,13 +15,10 @@ returns c =
     omega (arith, c .if1 .taken, s .pre .1, left-length (s .args .bytes .now) (s .args .at)) in
     short
 
-value-at-requires : tie.Need-value-at-requires
-value-at-requires c κs = let s = c .before .before in (omega (arith, c .if1 .left), s .pre .0, s .pre .2)
-
 returns-2 : tie.Need-returns-2
 returns-2 c =
     let s = c .before .before .before in (omega (arith, c .before .if1 .left, left-length (s .args .bytes .now) (s .args .at)), c .value-at .ensures)
 
 pub field-at-spec : {M : Type 1} → statement M
 field-at-spec =
-    tie.close (tie.spec (λ c. search needs) (λ c. search needs) returns value-at-requires returns-2)
+    tie.close (tie.spec (λ c. search needs) (λ c. search needs) returns (λ c κs. search needs) returns-2)

@@ -44,10 +44,6 @@ value-of k = field-below (edition1 .literal) (value k) (bits-from (head k)) (rea
 loop-holds : tie.Need-loop-holds Inv-loop μ-loop
 loop-holds c = (omega arith, omega arith, gather-none _ _ _ _ _ (c .empty .ensures))
 
-field-at-requires : tie.Need-field-at-requires Inv-loop μ-loop
-field-at-requires c κs =
-    let l = c .before in let s = l .before .before .before in (omega (arith, s .pre .0, s .pre .2, l .loop .inv .1), omega arith, omega arith)
-
 returns : tie.Need-returns Inv-loop μ-loop
 returns c =
     let a = c .before .before in
@@ -64,12 +60,6 @@ returns-2 c =
     let l = head k in
     gather-bad (l .loop .inv .2) (k .before .before .before .before .loop-test .taken) (value k) (read k)
     (sym (c .before .is-allowed .ensures) ∙ not-true _ (c .if1 .taken))
-
-add-at : tie.Need-add-at Inv-loop μ-loop
-add-at c =
-    let l = head (c .before .before .before .before .before) in
-    let s = l .before .before .before in
-    omega (arith, s .pre .0, s .pre .2, l .loop .inv .1)
 
 loop-again : tie.Need-loop-again Inv-loop μ-loop
 loop-again c =
@@ -92,6 +82,6 @@ returns-3 c =
 
 pub literals-spec : {M : Type 1} → statement M
 literals-spec =
-    tie.close (tie.spec Inv-loop μ-loop (λ c κs. search needs) loop-holds field-at-requires (λ c. search needs) (λ c. search needs) returns cast-t13
-    (λ c κs. search needs) returns-2 (λ c κs. search needs) (λ c κs. search needs) (λ c κs. search needs) add-at (λ c. search needs) (λ c. search needs)
-    loop-again returns-3)
+    tie.close (tie.spec Inv-loop μ-loop (λ c κs. search needs) loop-holds (λ c κs. search needs) (λ c. search needs) (λ c. search needs) returns cast-t13
+    (λ c κs. search needs) returns-2 (λ c κs. search needs) (λ c κs. search needs) (λ c κs. search needs) (λ c. search needs) (λ c. search needs)
+    (λ c. search needs) loop-again returns-3)

@@ -22,16 +22,13 @@ abbrev μ-loop : tie.MeasureT-loop
 
 loop-holds : tie.Need-loop-holds Inv-loop μ-loop
 unfolding valueOf
-loop-holds c = (omega arith, refl)
+loop-holds c = search needs
 
 mul-v : tie.Need-mul-v Inv-loop μ-loop
 mul-v c =
     let l = c .before in
     let s = l .before .before in
     omega (arith, l .loop .inv .1, value-small (l .loop .i) (drop (s .args .at) (bitsIn (s .args .bytes .now))) (omega (arith, s .pre .2, c .loop-test .taken)))
-
-bit-at-requires : tie.Need-bit-at-requires Inv-loop μ-loop
-bit-at-requires c κs = let s = c .before .before .before in omega (arith, s .pre .0, c .loop-test .taken)
 
 add-v : tie.Need-add-v Inv-loop μ-loop
 add-v c =
@@ -68,4 +65,5 @@ returns c =
 
 pub value-at-spec : {M : Type 1} → statement M
 value-at-spec =
-    tie.close (tie.spec Inv-loop μ-loop loop-holds mul-v (λ c. search needs) bit-at-requires add-v (λ c. search needs) (λ c. search needs) loop-again returns)
+    tie.close (tie.spec Inv-loop μ-loop loop-holds mul-v (λ c. search needs) (λ c κs. search needs) add-v (λ c. search needs) (λ c. search needs) loop-again
+    returns)

@@ -41,14 +41,6 @@ read a x e = subst (Read a) e (a .cube-at .ensures)
 loop-holds : tie.Need-loop-holds Inv-loop μ-loop
 loop-holds c = (omega arith, refl, fill-none _ _ _ _ _)
 
-cube-at-requires : tie.Need-cube-at-requires Inv-loop μ-loop
-cube-at-requires c κs =
-    let l = c .before in let s = l .before .before .before in
-    (omega (arith, l .loop .inv .2 .near .at, s .pre .0 .at, s .pre .2, c .loop-test .taken), s .pre .1)
-
-same-length : tie.Need-same-length Inv-loop μ-loop
-same-length c = c .before .before .before .before .before .loop .inv .1
-
 returns : tie.Need-returns Inv-loop μ-loop
 returns c =
     let a = c .before .before .before in
@@ -81,14 +73,11 @@ loop-again c =
           (c .added .ensures),
     )
 
-same-length-2 : tie.Need-same-length-2 Inv-loop μ-loop
-same-length-2 c = c .before .loop .inv .1
-
 returns-2 : tie.Need-returns-2 Inv-loop μ-loop
 returns-2 c =
     let l = c .before in let s = l .before .before .before in fill-end (l .loop .inv .2) (c .loop-test .left) (omega (arith, s .pre .2))
 
 pub cubes-spec : {M : Type 1} → statement M
 cubes-spec =
-    tie.close (tie.spec Inv-loop μ-loop loop-holds cube-at-requires (λ c. search needs) same-length returns (λ c. search needs) (λ c κs. search needs)
-    added-requires (λ c. search needs) (λ c. search needs) loop-again same-length-2 returns-2)
+    tie.close (tie.spec Inv-loop μ-loop loop-holds (λ c κs. search needs) (λ c. search needs) (λ c. search needs) returns (λ c. search needs)
+    (λ c κs. search needs) added-requires (λ c. search needs) (λ c. search needs) loop-again (λ c. search needs) returns-2)

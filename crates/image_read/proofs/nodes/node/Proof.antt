@@ -24,9 +24,6 @@ bits-from s = drop (s .args .start .at) (bitsIn (s .args .bytes .now))
 read : (k : tie.After-known-told) → FieldIs (edition1 .cubes) (bits-from (start k)) (Is (k .before .f .given .0 .0))
 read k = subst (λ (x : Field). FieldIs (edition1 .cubes) (bits-from (start k)) x) (k .before .f .given .1) (k .before .before .before .field-at .ensures)
 
-field-at-requires : tie.Need-field-at-requires
-field-at-requires c κs = let s = c .before .before in (omega (arith, s .pre .0 .at), omega arith, omega arith)
-
 returns : tie.Need-returns
 returns c =
     let a = c .before .before in
@@ -38,22 +35,6 @@ returns-2 : tie.Need-returns-2
 returns-2 c =
     let s = start (c .before) in node-bad (bitsIn (s .args .bytes .now)) (s .args .v) (s .args .start) _ (read (c .before)) (c .if1 .taken)
 
-add-s : tie.Need-add-s
-add-s c = let s = start (c .before .before) in omega (arith, s .pre .0 .at)
-
-cubes-requires : tie.Need-cubes-requires
-cubes-requires c κs =
-    let s = start (c .before .before .before) in (
-      record {
-        at = omega (arith, s .pre .0 .at);
-        cubes = omega (arith, s .pre .0 .cubes);
-        literals =
-            omega (arith, s .pre .0 .literals);
-      },
-      s .pre .1,
-      c .before .before .if1 .left,
-    )
-
 returns-3 : tie.Need-returns-3
 returns-3 c =
     let k = c .before .before .before .before .before .before in
@@ -62,4 +43,5 @@ returns-3 c =
 
 pub node-spec : {M : Type 1} → statement M
 node-spec =
-    tie.close (tie.spec field-at-requires (λ c. search needs) (λ c. search needs) returns returns-2 add-s cubes-requires (λ c. search needs) returns-3)
+    tie.close (tie.spec (λ c κs. search needs) (λ c. search needs) (λ c. search needs) returns returns-2 (λ c. search needs) (λ c κs. search needs)
+    (λ c. search needs) returns-3)

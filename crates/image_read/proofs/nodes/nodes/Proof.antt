@@ -41,28 +41,6 @@ read a x e = subst (Read a) e (a .node .ensures)
 loop-holds : tie.Need-loop-holds Inv-loop μ-loop
 loop-holds c = (omega arith, refl, refl, count-none _ _ _ _ _ _ _)
 
-node-requires : tie.Need-node-requires Inv-loop μ-loop
-node-requires c κs =
-    let l = c .before .before in
-    let s = l .before .before .before .before in
-    let n = l .loop .inv .3 .near in
-    let more = c .before .loop-test .taken in (
-      record {
-        at = omega (arith, n .at, s .pre .0 .at, s .pre .3, more);
-        cubes = omega (arith, n .cubes, s .pre .0 .cubes, s .pre .3, more);
-        literals =
-            omega (arith, n .literals, s .pre .0 .literals, s .pre .3, more);
-      },
-      s .pre .1,
-    )
-
-same-length : tie.Need-same-length Inv-loop μ-loop
-same-length c =
-    c .before .before .before .before .node .kept .1 .1 .1 .0 ∙ c .before .before .before .before .before .before .before .loop .inv .1
-
-same-length-2 : tie.Need-same-length-2 Inv-loop μ-loop
-same-length-2 c = c .before .before .before .before .before .before .before .loop .inv .2
-
 returns : tie.Need-returns Inv-loop μ-loop
 returns c =
     let a = c .before .before .before .before in
@@ -78,21 +56,6 @@ sub-counts c =
     let k = c .before .before in
     omega (arith, read (k .before .before .before .before .before) _ (k .before .t .given .1) .put .cubes)
 
-add-counts : tie.Need-add-counts Inv-loop μ-loop
-add-counts c =
-    let l = head (c .before .before) in let s = l .before .before .before .before in omega (arith, s .pre .2, l .loop .inv .2, more (c .before .before))
-
-slice-write-counts : tie.Need-slice-write-counts Inv-loop μ-loop
-slice-write-counts c =
-    let l = head (c .before .before) in let s = l .before .before .before .before in omega (arith, s .pre .2, l .loop .inv .2, more (c .before .before))
-
-add-i : tie.Need-add-i Inv-loop μ-loop
-add-i c =
-    let l = head (c .before .before) in let s = l .before .before .before .before in omega (arith, s .pre .3, more (c .before .before))
-
-loop-less : tie.Need-loop-less Inv-loop μ-loop
-loop-less c = omega (arith, more (c .before .before))
-
 loop-again : tie.Need-loop-again Inv-loop μ-loop
 loop-again c =
     let k = c .before .before in
@@ -105,12 +68,6 @@ loop-again c =
       count-next (l .loop .inv .3) (more k) _ _ (read a _ (k .before .t .given .1)),
     )
 
-same-length-3 : tie.Need-same-length-3 Inv-loop μ-loop
-same-length-3 c = c .before .loop .inv .1
-
-same-length-4 : tie.Need-same-length-4 Inv-loop μ-loop
-same-length-4 c = c .before .loop .inv .2
-
 returns-2 : tie.Need-returns-2 Inv-loop μ-loop
 returns-2 c =
     let l = c .before in let s = l .before .before .before .before in
@@ -118,5 +75,6 @@ returns-2 c =
 
 pub nodes-spec : {M : Type 1} → statement M
 nodes-spec =
-    tie.close (tie.spec Inv-loop μ-loop loop-holds node-requires (λ c. search needs) (λ c. search needs) same-length same-length-2 returns sub-counts add-counts
-    (λ c. search needs) slice-write-counts add-i loop-less loop-again same-length-3 same-length-4 returns-2)
+    tie.close (tie.spec Inv-loop μ-loop loop-holds (λ c κs. search needs) (λ c. search needs) (λ c. search needs) (λ c. search needs) (λ c. search needs)
+    returns sub-counts (λ c. search needs) (λ c. search needs) (λ c. search needs) (λ c. search needs) (λ c. search needs) loop-again (λ c. search needs)
+    (λ c. search needs) returns-2)
