@@ -90,7 +90,11 @@ read-along (next w ok g) l = go (ltb (length l) w) (ok (valueOf (take w l))) ref
     go true d p q a = stops (here (ltb-true (length l) w p))
     go false true p q a = along-past w ok g l (ltb-false (length l) w p) q a
     go false false p q a = strays (here (record {
-      front = take w l; rest = drop w l; bits = sym (take-append-drop w l); whole = length-take-le w l (ltb-false (length l) w p); out = q;
+      front = take w l;
+      rest = drop w l;
+      bits = sym (take-append-drop w l);
+      whole = length-take-le w l (ltb-false (length l) w p);
+      out = q;
     }))
 
 pub raw-along : (l : List Bool) → Along imageLayout l (getRaw l)

@@ -13,7 +13,7 @@ use borrow.Author.Tests.{eqb-true, eq-eqb, ne-eqb, ltb-true, ltb-false, lt-ltb, 
 use Rattle.sets.specs.Lists.{any, all, pairwise, from}
 use Rattle.sets.specs.Literal.{oppositeOf}
 use Rattle.sets.specs.Sets.{mem, sub, asc, proper, insert, union}
-use Rattle.sets.proofs.Truth.{iff, both, together, either, neither, decided, clash}
+use Rattle.sets.proofs.Truth.{iff, both, together, neither, decided, clash}
 use Rattle.sets.proofs.Lists.{_∈_, all-in, all-out, map-in, map-out, map-fixed, total-map, total-const, pairwise-map, ahead}
 use Rattle.sets.proofs.Sets.{mem-of, of-mem, insert-all, insert-length, union-mem, union-asc, sub-in, sub-out, proper-in, proper-out, head-once, ext}
 use Rattle.expression.specs.Expression.{isCube, loose, expression, sort, ordered, literalsOf}
@@ -131,8 +131,8 @@ module _ (n : ℕ) (l : List ℕ) where
   -- ---- cubes
 
   -- every literal is of a known variable
-  abbrev pub Over : List ℕ → Type 0
-  Over c = (x : ℕ) → x ∈ c → Named (x / 2)
+  abbrev pub AllNamed : List ℕ → Type 0
+  AllNamed c = (x : ℕ) → x ∈ c → Named (x / 2)
 
   abbrev fresh : ℕ → ℕ
   fresh x = newLiteral n l x
@@ -152,7 +152,7 @@ module _ (n : ℕ) (l : List ℕ) where
   new-cube-out c {z} m = map-out fresh c (of-mem z (map fresh c) (sym (new-cube-has z c) ∙ mem-of m))
 
   -- a literal is in a cube exactly when the new one is in the new one
-  new-cube-mem : (c : List ℕ) (x : ℕ) → Over c → Named (x / 2) → mem (fresh x) (newCube n l c) ≡ mem x c
+  new-cube-mem : (c : List ℕ) (x : ℕ) → AllNamed c → Named (x / 2) → mem (fresh x) (newCube n l c) ≡ mem x c
   new-cube-mem c x o k = iff
       (λ h. let r = new-cube-out c (of-mem (fresh x) (newCube n l c) h) in
       mem-of (Memᴰ·cast (new-literal-injective x (r .0) k (o (r .0) (r .1)) (r .2)) (r .1)))
@@ -161,7 +161,7 @@ module _ (n : ℕ) (l : List ℕ) where
   new-cube-asc : (c : List ℕ) → asc (newCube n l c) ≡ true
   new-cube-asc c = rw (new-cube-set c) (union-asc (map fresh c) [] refl)
 
-  new-cube-length : (c : List ℕ) → asc c ≡ true → Over c → length (newCube n l c) ≡ length c
+  new-cube-length : (c : List ℕ) → asc c ≡ true → AllNamed c → length (newCube n l c) ≡ length c
   unfolding newCube
   new-cube-length [] h o = refl
   new-cube-length (x ∷ c) h o =
@@ -169,7 +169,7 @@ module _ (n : ℕ) (l : List ℕ) where
       ∙ ap suc (new-cube-length c ((ahead ltb x c h) .1) (λ y m. o y (there m)))
 
   -- no variable both ways
-  new-cube-proper : (c : List ℕ) → Over c → proper c ≡ true → proper (newCube n l c) ≡ true
+  new-cube-proper : (c : List ℕ) → AllNamed c → proper c ≡ true → proper (newCube n l c) ≡ true
   new-cube-proper c o h = proper-in (newCube n l c) (λ z m.
       let r = new-cube-out c (of-mem z (newCube n l c) m) in
       let e : oppositeOf (r .0) / 2 ≡ r .0 / 2 = omega arith in
@@ -177,7 +177,7 @@ module _ (n : ℕ) (l : List ℕ) where
       (new-cube-mem c (oppositeOf (r .0)) o (subst Named (sym e) (o (r .0) (r .1))) ∙ proper-out c (r .0) h (mem-of (r .1))))
 
   -- one contains another exactly when it did
-  new-cube-sub : (c d : List ℕ) → Over c → Over d → sub c d ≡ sub (newCube n l c) (newCube n l d)
+  new-cube-sub : (c d : List ℕ) → AllNamed c → AllNamed d → sub c d ≡ sub (newCube n l c) (newCube n l d)
   new-cube-sub c d o k = iff
       (λ h. sub-in (newCube n l c) (newCube n l d) (λ z m. let r = new-cube-out c (of-mem z (newCube n l c) m) in
       rw (r .2) (mem-of (new-cube-in (of-mem (r .0) d (sub-out c d (r .0) h (mem-of (r .1))))))))
@@ -190,7 +190,7 @@ module _ (n : ℕ) (l : List ℕ) where
   abbrev pub Reaches : List (List ℕ) → Type 0
   Reaches f = (v : ℕ) → Reads f v → Named v
 
-  reaches-over : {c : List ℕ} (f : List (List ℕ)) → Reaches f → c ∈ f → Over c
+  reaches-over : {c : List ℕ} (f : List (List ℕ)) → Reaches f → c ∈ f → AllNamed c
   reaches-over {c} f k m x i = k (x / 2) (c, m, (x, i, refl))
 
   -- what a new node reads
@@ -232,7 +232,7 @@ module _ (n : ℕ) (l : List ℕ) where
       unfolding lit
       new-lit x i = rw (new-polarity x, new-variable x, e (x / 2) i)
 
-      new-cube-value : (c : List ℕ) → Over c → all (lit b) (newCube n l c) ≡ all (lit a) c
+      new-cube-value : (c : List ℕ) → AllNamed c → all (lit b) (newCube n l c) ≡ all (lit a) c
       unfolding newCube
       new-cube-value [] o = refl
       new-cube-value (x ∷ c) o =
@@ -254,7 +254,7 @@ module _ (n : ℕ) (l : List ℕ) where
     unfolding newLiteral
     new-literal-same x i = omega (arith, e (x / 2) i)
 
-    new-cube-same : (c : List ℕ) → asc c ≡ true → Over c → newCube n l c ≡ c
+    new-cube-same : (c : List ℕ) → asc c ≡ true → AllNamed c → newCube n l c ≡ c
     new-cube-same c h o = ext (newCube n l c) c (new-cube-asc c) h (λ z. iff
         (λ m. let r = new-cube-out c (of-mem z (newCube n l c) m) in mem-of (Memᴰ·cast (r .2 ∙ new-literal-same (r .0) (o (r .0) (r .1))) (r .1)))
         (λ m. let i = of-mem z c m in mem-of (Memᴰ·cast (sym (new-literal-same z (o z i))) (new-cube-in i))))

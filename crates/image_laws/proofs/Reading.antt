@@ -40,19 +40,19 @@ field-put w v ok rest h k = field-whole w ok (bitsOf w v) rest (bits-length w v)
 
 -- ---- what holds of what is read, if anything is
 
-data Ends {A : Type 0} (P : A → List Bool → Type 0) : Parsed A → Type 0 where
-  read : {x : A} {l : List Bool} → P x l → Ends P (got x l)
-  nothing : {e : ℕ} → Ends P (bad e)
+data Yields {A : Type 0} (P : A → List Bool → Type 0) : Parsed A → Type 0 where
+  read : {x : A} {l : List Bool} → P x l → Yields P (got x l)
+  nothing : {e : ℕ} → Yields P (bad e)
 
-ends-out : {A : Type 0} {P : A → List Bool → Type 0} {x : A} {l : List Bool} → Ends P (got x l) → P x l
-ends-out (read p) = p
+yields-out : {A : Type 0} {P : A → List Bool → Type 0} {x : A} {l : List Bool} → Yields P (got x l) → P x l
+yields-out (read p) = p
 
-field-ends : (w : ℕ) (ok : ℕ → Bool) (l : List Bool) → Ends (λ v r. (l ≡ bitsOf w v ++ r) × (v < 2 ^ w) × (ok v ≡ true)) (getField w ok l)
+field-yields : (w : ℕ) (ok : ℕ → Bool) (l : List Bool) → Yields (λ v r. (l ≡ bitsOf w v ++ r) × (v < 2 ^ w) × (ok v ≡ true)) (getField w ok l)
 unfolding getField
-field-ends w ok l = go (ltb (length l) w) (ok (valueOf (take w l))) refl refl
+field-yields w ok l = go (ltb (length l) w) (ok (valueOf (take w l))) refl refl
   where
     go : (b c : Bool) → ltb (length l) w ≡ b → ok (valueOf (take w l)) ≡ c
-        → Ends (λ v r. (l ≡ bitsOf w v ++ r) × (v < 2 ^ w) × (ok v ≡ true)) (cond b (bad 11) (cond c (got (valueOf (take w l)) (drop w l)) (bad 12)))
+        → Yields (λ v r. (l ≡ bitsOf w v ++ r) × (v < 2 ^ w) × (ok v ≡ true)) (cond b (bad 11) (cond c (got (valueOf (take w l)) (drop w l)) (bad 12)))
     go true c p q = nothing
     go false false p q = nothing
     go false true p q =
@@ -60,15 +60,15 @@ field-ends w ok l = go (ltb (length l) w) (ok (valueOf (take w l))) refl refl
         let b : take w l ≡ bitsOf w (valueOf (take w l)) = sym (bits-value (take w l)) ∙ ap (λ m. bitsOf m (valueOf (take w l))) n in
         read (sym (take-append-drop w l) ∙ ap (_++ drop w l) b, omega (arith, value-lt (take w l), ap (λ m. 2 ^ m) n), q)
 
-ends-more : {A : Type 0} {P Q : A → List Bool → Type 0} {m : Parsed A} → Ends P m → ((x : A) (l : List Bool) → P x l → Q x l) → Ends Q m
-ends-more (read {x = x} {l = l} p) f = read (f x l p)
-ends-more nothing f = nothing
+yields-more : {A : Type 0} {P Q : A → List Bool → Type 0} {m : Parsed A} → Yields P m → ((x : A) (l : List Bool) → P x l → Q x l) → Yields Q m
+yields-more (read {x = x} {l = l} p) f = read (f x l p)
+yields-more nothing f = nothing
 
 -- and then of what follows
 module _ {A B : Type 0} {P : A → List Bool → Type 0} {Q : B → List Bool → Type 0} where
-  then-ends : {m : Parsed A} {k : A → List Bool → Parsed B} → Ends P m → ((x : A) (r : List Bool) → P x r → Ends Q (k x r)) → Ends Q (andThen m k)
-  then-ends (read {x = x} {l = r} h) f = f x r h
-  then-ends nothing f = nothing
+  then-yields : {m : Parsed A} {k : A → List Bool → Parsed B} → Yields P m → ((x : A) (r : List Bool) → P x r → Yields Q (k x r)) → Yields Q (andThen m k)
+  then-yields (read {x = x} {l = r} h) f = f x r h
+  then-yields nothing f = nothing
 
 module _ {A : Type 0} (g : List Bool → Parsed A) (put : A → List Field) where
   many-put : (xs : List A) (rest : List Bool) → ((x : A) → x ∈ xs → (t : List Bool) → g (fieldBits (put x) ++ t) ≡ got x t)
@@ -83,11 +83,11 @@ module _ {A : Type 0} (g : List Bool → Parsed A) (put : A → List Field) wher
         many-put xs rest (λ y m. h y (there m)),
       )
 
-  many-ends : (P : A → Type 0) → ((l : List Bool) → Ends (λ x r. (l ≡ fieldBits (put x) ++ r) × P x) (g l)) → (k : ℕ) (l : List Bool)
-      → Ends (λ xs r. (l ≡ fieldBits (flat (map put xs)) ++ r) × (length xs ≡ k) × ((x : A) → x ∈ xs → P x)) (getMany g k l)
+  many-yields : (P : A → Type 0) → ((l : List Bool) → Yields (λ x r. (l ≡ fieldBits (put x) ++ r) × P x) (g l)) → (k : ℕ) (l : List Bool)
+      → Yields (λ xs r. (l ≡ fieldBits (flat (map put xs)) ++ r) × (length xs ≡ k) × ((x : A) → x ∈ xs → P x)) (getMany g k l)
   unfolding getMany fieldBits
-  many-ends P h zero l = read (refl, refl, λ y m. absurd (List·Memᴰ·not-nil m))
-  many-ends P h (suc k) l = then-ends (h l) (λ x r (e, p). then-ends (many-ends P h k r) (λ xs t (f, n, q). read (
+  many-yields P h zero l = read (refl, refl, λ y m. absurd (List·Memᴰ·not-nil m))
+  many-yields P h (suc k) l = then-yields (h l) (λ x r (e, p). then-yields (many-yields P h k r) (λ xs t (f, n, q). read (
     e ∙ ap (fieldBits (put x) ++_) f ∙ simp (fields-append, append-assoc),
     ap suc n,
     λ y m. elim (List·Memᴰ·cases-cons m) [ inl w ↦ subst P (sym w) p | inr w ↦ q y w ],
@@ -132,12 +132,12 @@ record GotLiterals (v k : ℕ) (seen : List ℕ) (l : List Bool) (c : List ℕ) 
   free : (x : ℕ) → x ∈ c → mem (oppositeOf x) seen ≡ false
   single : proper c ≡ true
 
-literals-ends : (v k : ℕ) (seen : List ℕ) (l : List Bool) → Ends (GotLiterals v k seen l) (getLiterals v k seen l)
+literals-yields : (v k : ℕ) (seen : List ℕ) (l : List Bool) → Yields (GotLiterals v k seen l) (getLiterals v k seen l)
 unfolding getLiterals fieldBits mem proper
-literals-ends v zero seen l =
+literals-yields v zero seen l =
     read (record { bits = refl; count = refl; known = λ x m. absurd (List·Memᴰ·not-nil m); free = λ x m. absurd (List·Memᴰ·not-nil m); single = refl })
-literals-ends v (suc k) seen l = then-ends (field-ends (edition1 .literal) (allowed v seen) l) (λ x r (e, s, a).
-    then-ends (literals-ends v k (x ∷ seen) r) (λ xs t o.
+literals-yields v (suc k) seen l = then-yields (field-yields (edition1 .literal) (allowed v seen) l) (λ x r (e, s, a).
+    then-yields (literals-yields v k (x ∷ seen) r) (λ xs t o.
     let w = both (ltb (x / 2) v) (not (mem (oppositeOf x) seen)) a in
     let other : (y : ℕ) → y ∈ xs → (eqb (oppositeOf y) x ≡ false) × (mem (oppositeOf y) seen ≡ false) = λ y m. neither _ _ (o .free y m) in
     read (record {
@@ -160,10 +160,10 @@ cube-put v h c f rest =
     )
     (literals-put v c h (f .single) c [] rest (λ x m. m) (λ x m. absurd (List·Memᴰ·not-nil m)) (f .known))
 
-cube-ends : (v : ℕ) (l : List Bool) → Ends (λ c r. (l ≡ fieldBits (cubeFields c) ++ r) × FitCube v c) (getCube v l)
+cube-yields : (v : ℕ) (l : List Bool) → Yields (λ c r. (l ≡ fieldBits (cubeFields c) ++ r) × FitCube v c) (getCube v l)
 unfolding getCube cubeFields fieldBits
-cube-ends v l = then-ends (field-ends (edition1 .literals) (λ k. leb k v) l) (λ k r (e, s, a).
-    ends-more (literals-ends v k [] r) (λ c t o. (
+cube-yields v l = then-yields (field-yields (edition1 .literals) (λ k. leb k v) l) (λ k r (e, s, a).
+    yields-more (literals-yields v k [] r) (λ c t o. (
       e ∙ ap₂ (λ n u. literalsBits n ++ u) (sym (o .count)) (o .bits) ∙ simp append-assoc,
       record { few = omega (arith, o .count, leb-true k v a); known = o .known; single = o .single },
     )))
@@ -178,10 +178,10 @@ node-put v h f k rest =
     )
     (many-put (getCube v) cubeFields f rest (λ c m. cube-put v h c (k .cubes c m)))
 
-node-ends : (v : ℕ) (l : List Bool) → Ends (λ f r. (l ≡ fieldBits (nodeFields f) ++ r) × FitNode v f) (getNode v l)
+node-yields : (v : ℕ) (l : List Bool) → Yields (λ f r. (l ≡ fieldBits (nodeFields f) ++ r) × FitNode v f) (getNode v l)
 unfolding getNode nodeFields fieldBits
-node-ends v l = then-ends (field-ends (edition1 .cubes) (λ c. leb c mostCubes) l) (λ k r (e, s, a).
-    ends-more (many-ends (getCube v) cubeFields (FitCube v) (cube-ends v) k r) (λ f t (b, n, o). (
+node-yields v l = then-yields (field-yields (edition1 .cubes) (λ c. leb c mostCubes) l) (λ k r (e, s, a).
+    yields-more (many-yields (getCube v) cubeFields (FitCube v) (cube-yields v) k r) (λ f t (b, n, o). (
       e ∙ ap₂ (λ x u. cubesBits x ++ u) (sym n) b ∙ simp append-assoc,
       record { few = omega (arith, leb-true k mostCubes a); cubes = o },
     )))
@@ -236,11 +236,11 @@ record GotNodes (n m k : ℕ) (l : List Bool) (r : Raw) (rest : List Bool) : Typ
   divisors : length (r .divisors) ≡ k
   nodes : (f : List (List ℕ)) → f ∈ rawNodes r → FitNode (n + k) f
 
-nodes-ends : (n m k : ℕ) (l : List Bool) → Ends (GotNodes n m k l) (getNodes n m k l)
+nodes-yields : (n m k : ℕ) (l : List Bool) → Yields (GotNodes n m k l) (getNodes n m k l)
 unfolding getNodes
-nodes-ends n m k l =
-    let some = many-ends (getNode (n + k)) nodeFields (FitNode (n + k)) (node-ends (n + k)) in
-    then-ends (some k l) (λ ds r (a, i, p). then-ends (some m r) (λ os t (b, j, q). read (record {
+nodes-yields n m k l =
+    let some = many-yields (getNode (n + k)) nodeFields (FitNode (n + k)) (node-yields (n + k)) in
+    then-yields (some k l) (λ ds r (a, i, p). then-yields (some m r) (λ os t (b, j, q). read (record {
       bits = a ∙ ap (nodeBits ds ++_) b ∙ simp append-assoc;
       inputs = refl;
       outputs = j;
@@ -248,14 +248,14 @@ nodes-ends n m k l =
       nodes = λ f x. elim (List·Memᴰ·append-cases ds x) [ inl y ↦ p f y | inr y ↦ q f y ];
     })))
 
-raw-ends : (l : List Bool) → Ends (λ r rest. (l ≡ rawBits r ++ rest) × FitRaw r) (getRaw l)
+raw-yields : (l : List Bool) → Yields (λ r rest. (l ≡ rawBits r ++ rest) × FitRaw r) (getRaw l)
 unfolding getRaw
-raw-ends l =
-    then-ends (field-ends editionField (eqb (edition1 .number)) l) (λ d l₁ (e₁, _, one).
-    then-ends (field-ends (edition1 .inputs) (λ x. true) l₁) (λ a l₂ (e₂, below, _).
-    then-ends (field-ends (edition1 .outputs) (λ x. true) l₂) (λ b l₃ (e₃, under, _).
-    then-ends (field-ends (edition1 .divisors) (λ k. leb (suc a + k) mostVariables) l₃) (λ k l₄ (e₄, _, some).
-    ends-more (nodes-ends (suc a) (suc b) k l₄) (λ r rest o. (
+raw-yields l =
+    then-yields (field-yields editionField (eqb (edition1 .number)) l) (λ d l₁ (e₁, _, one).
+    then-yields (field-yields (edition1 .inputs) (λ x. true) l₁) (λ a l₂ (e₂, below, _).
+    then-yields (field-yields (edition1 .outputs) (λ x. true) l₂) (λ b l₃ (e₃, under, _).
+    then-yields (field-yields (edition1 .divisors) (λ k. leb (suc a + k) mostVariables) l₃) (λ k l₄ (e₄, _, some).
+    yields-more (nodes-yields (suc a) (suc b) k l₄) (λ r rest o. (
       e₁ ∙ ap₂ (λ x t. bitsOf editionField x ++ t) (sym (eqb-true (edition1 .number) d one))
           (e₂ ∙ ap₂ (λ x t. bitsOf (edition1 .inputs) x ++ t) (omega (arith, o .inputs))
           (e₃ ∙ ap₂ (λ x t. bitsOf (edition1 .outputs) x ++ t) (omega (arith, o .outputs))
@@ -270,4 +270,4 @@ raw-ends l =
 
 -- what is read was put, and fits
 pub put-get : (l : List Bool) (r : Raw) (rest : List Bool) → getRaw l ≡ got r rest → (l ≡ rawBits r ++ rest) × FitRaw r
-put-get l r rest e = ends-out (rw e at (raw-ends l))
+put-get l r rest e = yields-out (rw e at (raw-yields l))

@@ -1,7 +1,7 @@
 -- A network renumbered in the order of its listing follows the rules, stands in the one order, is of the same size and has the same
 -- outputs; one in that order stays as it is. Assumes nothing.
-use Prim.Native.Nat.{ℕ, zero, suc, _+_, _-_, _/_, _<_, _≤_}
-use mathlib.Core.Path.{_≡_, refl, sym, ap, ap₂, _∙_, subst}
+use Prim.Native.Nat.{ℕ, suc, _+_, _-_, _/_, _<_, _≤_}
+use mathlib.Core.Path.{_≡_, refl, sym, ap, _∙_, subst}
 use mathlib.Core.Logic.{_⊎_, inl, inr}
 use mathlib.Core.Bool.{Bool, true, false, not, _||_}
 use mathlib.Core.List.{List, [], _∷_, _++_, map, append-nil, append-assoc, List·Memᴰ·head as here, List·Memᴰ·not-nil, List·Memᴰ·cases-cons}
@@ -110,11 +110,11 @@ numbered-from v g (x ∷ l) e m = elim (List·Memᴰ·cases-cons m) [
 ]
 
 -- each divisor reads smaller numbers alone
-abbrev Earlier : Net → Type 0
-Earlier n = (e : Node) → e ∈ n .divisors → (v : ℕ) → Reads (e .cubes) v → v < e .number
+abbrev ReadsBack : Net → Type 0
+ReadsBack n = (e : Node) → e ∈ n .divisors → (v : ℕ) → Reads (e .cubes) v → v < e .number
 
 -- and so do those that it reads in turn
-pub through-less : (n : Net) → Earlier n → {u v : ℕ} → Through n u v → v < u
+pub through-less : (n : Net) → ReadsBack n → {u v : ℕ} → Through n u v → v < u
 through-less n k (itself {e = e} {g = g} m i r) = k e m (g .number) r
 through-less n k (others {e = e} {g = g} m i r t) = omega (arith, k e m (g .number) r, through-less n k t)
 
@@ -212,7 +212,7 @@ module _ (n : Net) where
         let u = new-node-reads (n .inputs) (listing n) (q .0) v (subst (λ z. Reads z v) (q .2) r) in
         omega (arith, renumbered-variables, u .2, new-number-below n w (u .0) (w .good .known (q .0) (q .1) (u .0) (u .1)))
 
-    divisor-earlier : Earlier (renumbered n)
+    divisor-earlier : ReadsBack (renumbered n)
     divisor-earlier e m v r =
         let q = renumbered-divisor e m in
         let u = new-node-reads (n .inputs) (listing n) (old (q .1)) v (subst (λ z. Reads z v) (q .5) r) in
@@ -300,7 +300,7 @@ past-from : (k m : ℕ) → mem (k + m) (from k m) ≡ false
 past-from k m = refuted (λ h. let q = both (leb k (k + m)) (ltb (k + m) (k + m)) (sym (from-mem k m (k + m)) ∙ h) in
     omega (arith, ltb-true (k + m) (k + m) (q .1)))
 
-module _ (n : Net) (w : Lawful n) (k : Earlier n) where
+module _ (n : Net) (w : Lawful n) (k : ReadsBack n) where
   -- the smallest number that is left is ready
   turn-ready : (m : ℕ) (g : Node) → g ∈ n .divisors → g .number ≡ n .inputs + m → ready (n .inputs) (from (n .inputs) m) (g .cubes) ≡ true
   unfolding ready

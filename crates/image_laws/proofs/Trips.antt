@@ -1,6 +1,6 @@
 -- The round trips of the image: what is read is a network by the rules that gives the same bytes, and the bytes of one give it back. Assumes nothing.
 use Prim.Native.Nat.{ℕ, zero, suc, _+_, _-_, _*_, _<_}
-use mathlib.Core.Path.{_≡_, refl, sym, ap, ap₂, _∙_, subst}
+use mathlib.Core.Path.{_≡_, refl, sym, ap, ap₂, _∙_}
 use mathlib.Core.Logic.{_↔_}
 use mathlib.Core.Bool.{Bool, true, false, not}
 use mathlib.Core.List.{List, [], _∷_, _++_, append-assoc}
@@ -19,8 +19,8 @@ use Rattle.network.specs.Rules.{Lawful}
 use Rattle.image_laws.specs.Renumber.{renumbered}
 use Rattle.image_laws.specs.Image.{netFields, netBytes, imageOf}
 use Rattle.network.specs.Handed.{gives, refuses}
-use Rattle.image_laws.specs.Reading.{Raw, rawNet, padding, summed, allInOrder, readImage}
-use Rattle.image_laws.specs.Meaning.{OneOrder, rawBits, Fills, ImageAnswer, early, over, taken}
+use Rattle.image_laws.specs.Reading.{padding, readImage}
+use Rattle.image_laws.specs.Meaning.{OneOrder, rawBits, ImageAnswer, early, over, taken}
 use Rattle.image_laws.proofs.Refusing.{begins-early, judged-iff, judged-read}
 use Rattle.image_laws.proofs.Renumbering.{renumbered-same, renumbered-lawful, renumbered-order}
 use Rattle.image_laws.proofs.Judging.{raw-order, raw-lawful, rawOf, raw-net, lawful-fits, lawful-sums, lawful-order}

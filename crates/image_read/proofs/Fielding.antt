@@ -8,14 +8,14 @@ use lib.Seq.{drop-drop}
 use borrow.Author.Tests.{lt-ltb, le-ltb}
 use Rattle.image_laws.specs.Reading.{got, bad, getField}
 use Rattle.image_read.specs.Parts.{FieldIs}
-use Rattle.image_read.specs.declared.fields.Field.the-variants.{Is, Cut}
+use Rattle.image_read.specs.declared.fields.Field.the-variants.{Value, Cut}
 
 module _ (w : ℕ) (ok : ℕ → Bool) (l : List Bool) where
   pub field-cut : FieldIs w l Cut → getField w ok l ≡ bad 11
   unfolding getField
   field-cut h = rw (lt-ltb (length l) w h)
 
-  module _ (v : ℕ) (h : FieldIs w l (Is v)) where
+  module _ (v : ℕ) (h : FieldIs w l (Value v)) where
     pub field-bad : ok v ≡ false → getField w ok l ≡ bad 12
     unfolding getField
     field-bad e = rw (le-ltb (length l) w (h .0), sym (h .1), e)
@@ -24,6 +24,6 @@ module _ (w : ℕ) (ok : ℕ → Bool) (l : List Bool) where
     unfolding getField
     field-here e = rw (le-ltb (length l) w (h .0), sym (h .1), e)
 
-pub field-got : (w : ℕ) (ok : ℕ → Bool) (bits : List Bool) (at v : ℕ) → FieldIs w (drop at bits) (Is v) → ok v ≡ true
+pub field-got : (w : ℕ) (ok : ℕ → Bool) (bits : List Bool) (at v : ℕ) → FieldIs w (drop at bits) (Value v) → ok v ≡ true
     → getField w ok (drop at bits) ≡ got v (drop (at + w) bits)
 field-got w ok bits at v h e = field-here w ok (drop at bits) v h e ∙ ap (got v) (drop-drop w at bits)

@@ -20,14 +20,14 @@ use Rattle.network.proofs.Handing.{flat-last}
 use Rattle.network.specs.Held.{mostVariables, mostCubes}
 use Rattle.image_laws.specs.Widths.{edition1, mostCubeBits, mostCubesBits, mostNodeBits}
 use Rattle.image_laws.specs.Reading.{Parsed, bad, getMany, getCube, getNode}
-use Rattle.image_read.specs.Parts.{FieldIs, setOf, CubeGot, added, Near, Gathered, CubesGot, CubesAre, NodesGot}
-use Rattle.image_read.specs.declared.fields.Field.the-variants.{Is, Cut}
+use Rattle.image_read.specs.Parts.{FieldIs, setOf, CubeGot, added, GrowsBy, Gathered, CubesGot, CubesAre, NodesGot}
+use Rattle.image_read.specs.declared.fields.Field.the-variants.{Value, Cut}
 use Rattle.image_read.specs.declared.fields.Taken.{Taken}
 use Rattle.image_read.specs.declared.nodes.State.{State}
 use Rattle.image_read.specs.declared.nodes.Step.{Step}
 use Rattle.image_read.specs.declared.nodes.Step.the-variants.{On, Bad}
 use Rattle.image_read.proofs.Fielding.{field-cut, field-bad, field-got}
-use Rattle.image_read.proofs.Going.{Going, going-none, going-bad, going-next, going-end}
+use Rattle.image_read.proofs.Going.{Begun, going-none, going-bad, going-next, going-end}
 
 -- ---- what was put
 
@@ -68,7 +68,7 @@ added-one h s old new p = record {
   proper = and-true (proper (h .read)) ∙ h .proper;
 }
 
-near-same : (s : State) → Near 0 s s
+near-same : (s : State) → GrowsBy 0 s s
 near-same s = record { at = omega arith; cubes = omega arith; literals = omega arith }
 
 -- ---- cubes
@@ -76,9 +76,9 @@ near-same s = record { at = omega arith; cubes = omega arith; literals = omega a
 -- i of k cubes are read and put
 pub record Filling (bits : List Bool) (v k i : ℕ) (start : State) (old new : List ℕ) (s : State) : Type 0 where
   pub read : List (List ℕ)
-  pub going : Going (getCube v) k i (drop (start .at) bits) (drop (s .at) bits) read
+  pub going : Begun (getCube v) k i (drop (start .at) bits) (drop (s .at) bits) read
   pub put : Gathered start s old new read
-  pub near : Near (mostCubeBits * i) start s
+  pub near : GrowsBy (mostCubeBits * i) start s
 
 pub fill-none : (bits : List Bool) (v k : ℕ) (start : State) (ws : List ℕ) → Filling bits v k 0 start ws ws start
 fill-none bits v k start ws = record {
@@ -125,7 +125,7 @@ module _ (bits : List Bool) (v : ℕ) (s : State) where
   unfolding getNode
   node-cut h = rw (field-cut (edition1 .cubes) (λ c. leb c mostCubes) (drop (s .at) bits) h)
 
-  module _ (k : ℕ) (h : FieldIs (edition1 .cubes) (drop (s .at) bits) (Is k)) where
+  module _ (k : ℕ) (h : FieldIs (edition1 .cubes) (drop (s .at) bits) (Value k)) where
     pub node-bad : mostCubes < k → getNode v (drop (s .at) bits) ≡ bad 12
     unfolding getNode
     node-bad m = rw (field-bad (edition1 .cubes) (λ c. leb c mostCubes) (drop (s .at) bits) k h (lt-leb k mostCubes m))
@@ -142,13 +142,13 @@ module _ (bits : List Bool) (v : ℕ) (s : State) where
     node-are m old new (On t) c = record {
       read = c .read;
       is = node-on m ∙ c .is;
-      put = record {
-        stored = c .put .stored;
-        places = c .put .places;
-        cubes = c .put .cubes;
-        literals = c .put .literals;
-        ascending = c .put .ascending;
-        proper = c .put .proper;
+      put = let p = c .put in record {
+        stored = p .stored;
+        places = p .places;
+        cubes = p .cubes;
+        literals = p .literals;
+        ascending = p .ascending;
+        proper = p .proper;
       };
       near = record { at = omega (arith, c .near .at); cubes = omega (arith, c .near .cubes); literals = omega (arith, c .near .literals) };
     }
@@ -158,10 +158,10 @@ module _ (bits : List Bool) (v : ℕ) (s : State) where
 -- i of k nodes are read and put, their counts too
 pub record Counting (bits : List Bool) (v k i : ℕ) (start : State) (old new : List ℕ) (first : ℕ) (was are : List ℕ) (s : State) : Type 0 where
   pub read : List (List (List ℕ))
-  pub going : Going (getNode v) k i (drop (start .at) bits) (drop (s .at) bits) read
+  pub going : Begun (getNode v) k i (drop (start .at) bits) (drop (s .at) bits) read
   pub put : Gathered start s old new (flat read)
   pub counts : are ≡ sets was first (map length read)
-  pub near : Near (mostNodeBits * i) start s
+  pub near : GrowsBy (mostNodeBits * i) start s
 
 pub count-none : (bits : List Bool) (v k : ℕ) (start : State) (ws : List ℕ) (first : ℕ) (cs : List ℕ) → Counting bits v k 0 start ws ws first cs cs start
 count-none bits v k start ws first cs = record {

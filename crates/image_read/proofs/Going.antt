@@ -9,28 +9,28 @@ use Rattle.image_laws.specs.Reading.{Parsed, got, bad, andThen, getMany}
 
 module _ {A : Type 0} where
   -- what is read after these
-  abbrev onto : List A → Parsed (List A) → Parsed (List A)
+  abbrev pub onto : List A → Parsed (List A) → Parsed (List A)
   onto p (got xs l) = got (p ++ xs) l
   onto p (bad k) = bad k
 
-  onto-none : (g : Parsed (List A)) → onto [] g ≡ g
+  pub onto-none : (g : Parsed (List A)) → onto [] g ≡ g
   onto-none (got xs l) = refl
   onto-none (bad k) = refl
 
-  onto-more : (p : List A) (x : A) (g : Parsed (List A)) → onto p (andThen g (λ xs t. got (x ∷ xs) t)) ≡ onto (p ++ (x ∷ [])) g
+  pub onto-more : (p : List A) (x : A) (g : Parsed (List A)) → onto p (andThen g (λ xs t. got (x ∷ xs) t)) ≡ onto (p ++ (x ∷ [])) g
   onto-more p x (got xs l) = ap (λ q. got q l) (sym (append-assoc p (x ∷ []) xs))
   onto-more p x (bad k) = refl
 
   -- i of k are read
-  pub record Going (f : List Bool → Parsed A) (k i : ℕ) (start l : List Bool) (read : List A) : Type 0 where
+  pub record Begun (f : List Bool → Parsed A) (k i : ℕ) (start l : List Bool) (read : List A) : Type 0 where
     pub number : length read ≡ i
     pub going : getMany f k start ≡ onto read (getMany f (k - i) l)
 
   module _ (f : List Bool → Parsed A) (k : ℕ) where
-    pub going-none : (l : List Bool) → Going f k 0 l l []
+    pub going-none : (l : List Bool) → Begun f k 0 l l []
     going-none l = record { number = refl; going = sym (onto-none (getMany f (k - 0) l) ∙ ap (λ n. getMany f n l) (omega arith)) }
 
-    module _ {i : ℕ} {start l : List Bool} {read : List A} (g : Going f k i start l read) where
+    module _ {i : ℕ} {start l : List Bool} {read : List A} (g : Begun f k i start l read) where
       opened : i < k → getMany f k start ≡ onto read (getMany f (suc (k - (i + 1))) l)
       opened more = let e : k - i ≡ suc (k - (i + 1)) = omega arith in g .going ∙ ap (λ n. onto read (getMany f n l)) e
 
@@ -38,7 +38,7 @@ module _ {A : Type 0} where
       unfolding getMany
       going-bad more e h = opened more ∙ rw h refl
 
-      pub going-next : i < k → (x : A) (r : List Bool) → f l ≡ got x r → Going f k (i + 1) start r (read ++ (x ∷ []))
+      pub going-next : i < k → (x : A) (r : List Bool) → f l ≡ got x r → Begun f k (i + 1) start r (read ++ (x ∷ []))
       unfolding getMany
       going-next more x r h = record {
         number = omega (arith, length-append read (x ∷ []), g .number);

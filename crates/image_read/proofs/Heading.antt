@@ -16,13 +16,13 @@ use Rattle.network.specs.Held.{mostVariables}
 use Rattle.image_laws.specs.Widths.{editionField, edition1, headSize}
 use Rattle.image_laws.specs.Reading.{Parsed, bad, Raw, andThen, getField, getNodes, getRaw}
 use Rattle.image_read.specs.Parts.{FieldIs, sizesOf, HeadIs}
-use Rattle.image_read.specs.declared.fields.Field.the-variants.{Is, Cut}
+use Rattle.image_read.specs.declared.fields.Field.the-variants.{Value, Cut}
 use Rattle.image_read.specs.declared.Head.{Head}
 use Rattle.image_read.proofs.Bits.{value-below}
 use Rattle.image_read.proofs.Fielding.{field-cut, field-bad, field-got}
 
 -- a field of w bits holds a number below the power
-pub field-below : (w v : ℕ) (l : List Bool) → FieldIs w l (Is v) → v < 2 ^ w
+pub field-below : (w v : ℕ) (l : List Bool) → FieldIs w l (Value v) → v < 2 ^ w
 field-below w v l h = subst (λ n. n < 2 ^ w) (sym (h .1)) (value-below w l)
 
 -- where the fields begin
@@ -50,7 +50,7 @@ module _ (bits : List Bool) where
   unfolding getRaw
   edition-cut h = rw (field-cut editionField (eqb (edition1 .number)) bits h)
 
-  module _ (e : ℕ) (h : FieldIs editionField bits (Is e)) where
+  module _ (e : ℕ) (h : FieldIs editionField bits (Value e)) where
     pub edition-bad : (e ≡ edition1 .number → ⊥) → getRaw bits ≡ bad 12
     unfolding getRaw
     edition-bad d = rw (field-bad editionField (eqb (edition1 .number)) bits e h (ne-eqb (edition1 .number) e (λ q. d (sym q))))
@@ -63,11 +63,11 @@ module _ (bits : List Bool) where
       inputs-cut : FieldIs (edition1 .inputs) (drop inputsAt bits) Cut → getRaw bits ≡ bad 11
       inputs-cut q = edition-on ∙ rw (field-cut (edition1 .inputs) (λ x. true) (drop inputsAt bits) q) refl
 
-      module _ (a : ℕ) (ha : FieldIs (edition1 .inputs) (drop inputsAt bits) (Is a)) where
+      module _ (a : ℕ) (ha : FieldIs (edition1 .inputs) (drop inputsAt bits) (Value a)) where
         inputs-on : getRaw bits ≡ afterInputs a (drop outputsAt bits)
         inputs-on = edition-on ∙ rw (field-got (edition1 .inputs) (λ x. true) bits inputsAt a ha refl) refl
 
-        module _ (b : ℕ) (hb : FieldIs (edition1 .outputs) (drop outputsAt bits) (Is b)) where
+        module _ (b : ℕ) (hb : FieldIs (edition1 .outputs) (drop outputsAt bits) (Value b)) where
           outputs-on : getRaw bits ≡ afterOutputs a b (drop divisorsAt bits)
           outputs-on = inputs-on ∙ rw (field-got (edition1 .outputs) (λ x. true) bits outputsAt b hb refl) refl
 
@@ -77,7 +77,7 @@ module _ (bits : List Bool) where
           divisors-cut : FieldIs (edition1 .divisors) (drop divisorsAt bits) Cut → getRaw bits ≡ bad 11
           divisors-cut q = outputs-on ∙ rw (field-cut (edition1 .divisors) test (drop divisorsAt bits) q) refl
 
-          module _ (k : ℕ) (hk : FieldIs (edition1 .divisors) (drop divisorsAt bits) (Is k)) where
+          module _ (k : ℕ) (hk : FieldIs (edition1 .divisors) (drop divisorsAt bits) (Value k)) where
             sizes-on : test k ≡ true → getRaw bits ≡ getNodes (suc a) (suc b) k (drop headSize bits)
             sizes-on q = outputs-on ∙ rw (field-got (edition1 .divisors) test bits divisorsAt k hk q) refl
 
@@ -107,14 +107,14 @@ module _ (bits : List Bool) where
 -- ---- fields of bytes
 
 module _ (bytes : List ℕ) (at w v : ℕ) where
-  pub field-is : at + w ≤ 8 * length bytes → v ≡ valueOf (take w (drop at (bitsIn bytes))) → FieldIs w (drop at (bitsIn bytes)) (Is v)
+  pub field-is : at + w ≤ 8 * length bytes → v ≡ valueOf (take w (drop at (bitsIn bytes))) → FieldIs w (drop at (bitsIn bytes)) (Value v)
   field-is h e = (omega (arith, left-length bytes at), e)
 
   pub field-short : 8 * length bytes < at + w → 1 ≤ w → FieldIs w (drop at (bitsIn bytes)) Cut
   field-short h k = let short : length (drop at (bitsIn bytes)) < w = omega (arith, left-length bytes at) in short
 
 -- the edition is there, and not all that follows it before the nodes
-pub front-cut : (bytes : List ℕ) (e : ℕ) → FieldIs editionField (bitsIn bytes) (Is e) → e ≡ edition1 .number → 1 ≤ length bytes
+pub front-cut : (bytes : List ℕ) (e : ℕ) → FieldIs editionField (bitsIn bytes) (Value e) → e ≡ edition1 .number → 1 ≤ length bytes
     → length bytes < bytesFor headSize → getRaw (bitsIn bytes) ≡ bad 11
 front-cut bytes e h one some few = ⊎-elim two less (decided (leb (bytesFor divisorsAt) (length bytes)))
   where

@@ -66,10 +66,6 @@ pub nodes-stand : (fs : List (List (List ℕ))) {words counts : List ℕ} {n : �
     → cut counts (cubesOf words) ≡ fs
 nodes-stand fs w c = ap₂ cut c (w .cubes) ∙ cut-flat fs _
 
-pub sum-lengths : {A : Type 0} (fs : List (List A)) → total (λ c. c) (map length fs) ≡ length (flat fs)
-sum-lengths [] = refl
-sum-lengths (f ∷ fs) = omega (arith, sum-lengths fs, length-append f (flat fs))
-
 pub total-flat : (fs : List (List (List ℕ))) → total length (flat fs) ≡ total literalsOf fs
 total-flat [] = refl
 total-flat (f ∷ fs) = omega (arith, total-append length f (flat fs), total-flat fs)

@@ -24,7 +24,8 @@ use Rattle.network.proofs.Numbering.{numbered-cubes, numbered-length}
 use Rattle.image_laws.specs.Widths.{headSize}
 use Rattle.image_laws.specs.Reading.{got, bad, Raw, rawNodes, rawNet, padding, summed, allInOrder, inTheOrder, readsEarlier, judgeRaw, getMany}
 use Rattle.image_laws.specs.Reading.{getNode, getNodes, getRaw, readImage}
-use Rattle.image_read.specs.Parts.{nodesAt, nodesIn, orderedIn, outputCounts, divisorCounts, fewIn, Judging, verdict, judgedOf, blankCounts, Half, Whole}
+use Rattle.image_read.specs.Parts.{nodesAt, nodesIn, orderedIn, outputCounts, divisorCounts, fewIn, Judging, verdict, judgedOf, blankCounts}
+use Rattle.image_read.specs.Parts.{DivisorsRead, AllRead}
 use Rattle.expression.specs.declared.Verdict.{Verdict}
 use Rattle.expression.specs.declared.Verdict.the-variants.{Accepted, Refused}
 use Rattle.network.specs.declared.Network.{Network}
@@ -34,7 +35,7 @@ use Rattle.expression.proofs.Placing.{placed-as, placed-fitting, front-places, 
 use Rattle.image_read.specs.declared.Sizes.{Sizes}
 use Rattle.image_read.specs.declared.nodes.State.{State}
 use Rattle.image_read.proofs.Testing.{all-tidy, order-asc}
-use Rattle.image_read.proofs.Standing.{cubes-stand, counts-stand, nodes-stand, sum-lengths, total-flat}
+use Rattle.image_read.proofs.Standing.{cubes-stand, counts-stand, nodes-stand, total-flat}
 
 -- ---- outcomes as answers
 
@@ -60,18 +61,6 @@ picked-yes true true false n e = let z : _≡_ {A = ℕ} 0 1 = cc in absurd (ome
 picked-yes true false u n e = let z : _≡_ {A = ℕ} 0 1 = cc in absurd (omega arith)
 picked-yes false q u n e = let z : _≡_ {A = ℕ} 0 1 = cc in absurd (omega arith)
 
-pub verdict-11 : (p q u : Bool) → p ≡ false → Refused 11 ≡ verdict p q u
-verdict-11 p q u e = rw e
-
-pub verdict-12 : (p q u : Bool) → p ≡ true → q ≡ false → Refused 12 ≡ verdict p q u
-verdict-12 p q u e f = rw (e, f)
-
-pub verdict-13 : (p q u : Bool) → p ≡ true → q ≡ true → u ≡ false → Refused 13 ≡ verdict p q u
-verdict-13 p q u e f g = rw (e, f, g)
-
-pub verdict-yes : (p q u : Bool) → p ≡ true → q ≡ true → u ≡ true → Accepted ≡ verdict p q u
-verdict-yes p q u e f g = rw (e, f, g)
-
 -- the third test matters only where the second holds
 verdict-same : (p q u u' : Bool) (n : Net) → (q ≡ true → u ≡ u') → verdict p q u ≡ answerOf (picked p q u' n)
 verdict-same true true u u' n e = ap (λ b. cond b Accepted (Refused 13)) (e refl) ∙ go u'
@@ -84,7 +73,7 @@ verdict-same false q u u' n e = refl
 
 -- ---- the whole
 
-module _ {bits : List Bool} {z : Sizes} {d : ℕ} {t : State} {apart words counts : List ℕ} (w : Whole bits z d t apart words counts) where
+module _ {bits : List Bool} {z : Sizes} {d : ℕ} {t : State} {apart words counts : List ℕ} (w : AllRead bits z d t apart words counts) where
   abbrev ds : List (List (List ℕ))
   ds = w .half .divisors .read
 
@@ -141,7 +130,6 @@ module _ {bits : List Bool} {z : Sizes} {d : ℕ} {t : State} {apart words count
     at = omega (arith, w .outputs .near .at, w .half .divisors .near .at);
     sized = w .half .sized;
     places = size;
-    sum = omega (arith, divisor-cubes, output-cubes, ap (total (λ c. c)) divisors-are ∙ sum-lengths ds, ap (total (λ c. c)) outputs-are ∙ sum-lengths os);
   }
 
   -- ---- the sums
@@ -282,7 +270,7 @@ module _ (bits : List Bool) (z : Sizes) (k : ℕ) (r : Handed) (h : Told (refuse
   unfolding getNodes judgeRaw
   divisors-refused e = rw e h
 
-  pub outputs-refused : {s : State} {apart given : List ℕ} (f : Half bits z s apart given)
+  pub outputs-refused : {s : State} {apart given : List ℕ} (f : DivisorsRead bits z s apart given)
       → getMany (getNode (z .inputs + z .divisors)) (z .outputs) (drop (s .at) bits) ≡ bad k → Told (judgeRaw (nodesAt bits z)) r
   unfolding getNodes judgeRaw
   outputs-refused f e = rw (f .divisors .is) (rw e h)

@@ -20,16 +20,16 @@ use Rattle.network_nodes.specs.Nodes.{cut}
 use Rattle.image_laws.specs.Widths.{edition1, headSize, mostNodeBits, mostBits}
 use Rattle.image_laws.specs.Reading.{Parsed, got, bad, Raw, getMany, getNode, getNodes, getRaw, padding, readsEarlier}
 use Rattle.image_read.specs.declared.fields.Field.{Field}
-use Rattle.image_read.specs.declared.fields.Field.the-variants.{Is, Cut}
+use Rattle.image_read.specs.declared.fields.Field.the-variants.{Value, Cut}
 use Rattle.image_read.specs.declared.fields.Taken.{Taken}
 use Rattle.image_read.specs.declared.fields.Turn.{Turn}
-use Rattle.image_read.specs.declared.fields.Turn.the-variants as turn
+use Rattle.image_read.specs.declared.fields.Turn.the-variants as Turn
 use Rattle.image_read.specs.declared.nodes.State.{State}
 use Rattle.image_read.specs.declared.nodes.Step.{Step}
-use Rattle.image_read.specs.declared.nodes.Step.the-variants as step
+use Rattle.image_read.specs.declared.nodes.Step.the-variants as Step
 use Rattle.image_read.specs.declared.Sizes.{Sizes}
 use Rattle.image_read.specs.declared.Head.{Head}
-use Rattle.image_read.specs.declared.Head.the-variants as head
+use Rattle.image_read.specs.declared.Head.the-variants as Head
 
 -- each part begins below one of these bounds, and leaves the next to the parts in it
 abbrev pub times : ℕ → ℕ
@@ -43,7 +43,7 @@ widest = edition1 .cubes
 
 -- the number in the first w bits; or there are fewer
 abbrev pub FieldIs : ℕ → List Bool → Field → Type 0
-FieldIs w l (Is v) = (w ≤ length l) × (v ≡ valueOf (take w l))
+FieldIs w l (Value v) = (w ≤ length l) × (v ≡ valueOf (take w l))
 FieldIs w l Cut = length l < w
 
 -- literals as a set, ascending
@@ -63,8 +63,8 @@ pub record CubeGot (most : ℕ) (bits : List Bool) (start : ℕ) (g : Parsed (Li
 
 -- or the number of the refusal
 abbrev pub CubeIs : ℕ → List Bool → ℕ → Parsed (List ℕ) → Turn → Type 0
-CubeIs most bits start g (turn.Cube r) = CubeGot most bits start g r
-CubeIs most bits start g (turn.Bad k) = g ≡ bad k
+CubeIs most bits start g (Turn.On r) = CubeGot most bits start g r
+CubeIs most bits start g (Turn.Bad k) = g ≡ bad k
 
 -- ---- nodes
 
@@ -79,7 +79,7 @@ pub record Low (bound : ℕ) (s : State) : Type 0 where
   pub literals : s .literals ≤ bound
 
 -- no number grows by more
-pub record Near (most : ℕ) (s t : State) : Type 0 where
+pub record GrowsBy (most : ℕ) (s t : State) : Type 0 where
   pub at : t .at ≤ s .at + most
   pub cubes : t .cubes ≤ s .cubes + most
   pub literals : t .literals ≤ s .literals + most
@@ -98,12 +98,12 @@ pub record CubesGot (most : ℕ) (bits : List Bool) (s : State) (g : Parsed (Lis
   pub read : List (List ℕ)
   pub is : g ≡ got read (drop (t .at) bits)
   pub put : Gathered s t old new read
-  pub near : Near most s t
+  pub near : GrowsBy most s t
 
 -- or the number of the refusal
 abbrev pub CubesAre : ℕ → List Bool → State → Parsed (List (List ℕ)) → List ℕ → List ℕ → Step → Type 0
-CubesAre most bits s g old new (step.On t) = CubesGot most bits s g old new t
-CubesAre most bits s g old new (step.Bad k) = g ≡ bad k
+CubesAre most bits s g old new (Step.On t) = CubesGot most bits s g old new t
+CubesAre most bits s g old new (Step.Bad k) = g ≡ bad k
 
 -- k nodes were read, their counts put from a place on
 pub record NodesGot (k : ℕ) (bits : List Bool) (s : State) (g : Parsed (List (List (List ℕ)))) (old new : List ℕ) (first : ℕ) (was are : List ℕ)
@@ -113,12 +113,12 @@ pub record NodesGot (k : ℕ) (bits : List Bool) (s : State) (g : Parsed (List (
   pub is : g ≡ got read (drop (t .at) bits)
   pub put : Gathered s t old new (flat read)
   pub counts : are ≡ sets was first (map length read)
-  pub near : Near (mostVariables * mostNodeBits) s t
+  pub near : GrowsBy (mostVariables * mostNodeBits) s t
 
 -- or the number of the refusal
 abbrev pub NodesAre : ℕ → List Bool → State → Parsed (List (List (List ℕ))) → List ℕ → List ℕ → ℕ → List ℕ → List ℕ → Step → Type 0
-NodesAre k bits s g old new first was are (step.On t) = NodesGot k bits s g old new first was are t
-NodesAre k bits s g old new first was are (step.Bad e) = g ≡ bad e
+NodesAre k bits s g old new first was are (Step.On t) = NodesGot k bits s g old new first was are t
+NodesAre k bits s g old new first was are (Step.Bad e) = g ≡ bad e
 
 -- ---- the whole
 
@@ -133,7 +133,7 @@ nodesAt bits z = getNodes (z .inputs) (z .outputs) (z .divisors) (drop headSize 
 
 -- 12 where there are too many variables
 abbrev pub sizesOf : ℕ → ℕ → ℕ → Head
-sizesOf a b k = cond (leb (a + 1 + k) mostVariables) (head.Of (record { inputs = a + 1; outputs = b + 1; divisors = k })) (head.Bad 12)
+sizesOf a b k = cond (leb (a + 1 + k) mostVariables) (Head.Of (record { inputs = a + 1; outputs = b + 1; divisors = k })) (Head.Bad 12)
 
 -- the first fields give these numbers, and the nodes follow
 pub record HeadGot (bits : List Bool) (z : Sizes) : Type 0 where
@@ -142,8 +142,8 @@ pub record HeadGot (bits : List Bool) (z : Sizes) : Type 0 where
 
 -- or the number of the refusal
 abbrev pub HeadIs : List Bool → Head → Type 0
-HeadIs bits (head.Of z) = HeadGot bits z
-HeadIs bits (head.Bad k) = getRaw bits ≡ bad k
+HeadIs bits (Head.Of z) = HeadGot bits z
+HeadIs bits (Head.Bad k) = getRaw bits ≡ bad k
 
 -- an expression in cube order
 abbrev pub tidy : List (List ℕ) → Bool
@@ -157,11 +157,6 @@ nodesIn counts words = cut counts (cubesOf words)
 abbrev pub orderedIn : ℕ → List (List (List ℕ)) → List (List (List ℕ)) → Bool
 orderedIn n ds os = all tidy ds && (all tidy os && readsEarlier n ds)
 
--- the cubes of the divisors, and of the outputs, are no more than a network may have
-pub record Counted (ds os : List ℕ) : Type 0 where
-  pub divisors : total (λ c. c) ds ≤ mostCubes
-  pub outputs : total (λ c. c) os ≤ mostCubes
-
 -- the counts of the outputs, and after them of the divisors
 abbrev pub outputCounts : Sizes → List ℕ → List ℕ
 outputCounts z counts = take (z .outputs) counts
@@ -169,12 +164,11 @@ outputCounts z counts = take (z .outputs) counts
 abbrev pub divisorCounts : Sizes → List ℕ → List ℕ
 divisorCounts z counts = take (z .divisors) (drop (z .outputs) counts)
 
--- what is read is not too long, and the sum of the counts is that of the cubes
+-- what is read is not too long
 pub record Judging (s : State) (z : Sizes) (counts : List ℕ) : Type 0 where
   pub at : s .at ≤ times 2
   pub sized : SizesFit z
   pub places : length counts ≡ nodeSlots
-  pub sum : s .cubes ≡ total (λ c. c) (divisorCounts z counts) + total (λ c. c) (outputCounts z counts)
 
 -- the sums of the counts are within the limits
 abbrev pub fewIn : State → Bool
@@ -205,16 +199,16 @@ abbrev pub blankCounts : List ℕ
 blankCounts = replicate nodeSlots 0
 
 -- the divisors are read
-pub record Half (bits : List Bool) (z : Sizes) (s : State) (apart counts : List ℕ) : Type 0 where
+pub record DivisorsRead (bits : List Bool) (z : Sizes) (s : State) (apart counts : List ℕ) : Type 0 where
   pub sized : SizesFit z
   pub divisors : NodesGot (z .divisors) bits first (getMany (getNode (z .inputs + z .divisors)) (z .divisors) (drop headSize bits)) blankWords apart
       (z .outputs) blankCounts counts s
 
 -- the outputs too
-pub record Whole (bits : List Bool) (z : Sizes) (divisors : ℕ) (t : State) (apart words counts : List ℕ) : Type 0 where
+pub record AllRead (bits : List Bool) (z : Sizes) (divisors : ℕ) (t : State) (apart words counts : List ℕ) : Type 0 where
   pub s : State
   pub given : List ℕ
-  pub half : Half bits z s apart given
+  pub half : DivisorsRead bits z s apart given
   pub cubes : divisors ≡ s .cubes
   pub outputs : NodesGot (z .outputs) bits (second s)
       (getMany (getNode (z .inputs + z .divisors)) (z .outputs) (drop (s .at) bits)) blankWords words 0 given counts t

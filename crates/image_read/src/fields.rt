@@ -21,7 +21,7 @@ ghost use Rattle.image_read.specs.Parts.{times, widest, FieldIs, CubeIs}
 
 // The number that a field holds; or the image ends before its last bit.
 pub enum Field {
-    Is(usize),
+    Value(usize),
     Cut,
 }
 
@@ -34,7 +34,7 @@ pub struct Taken {
 }
 
 pub enum Turn {
-    Cube(Taken),
+    On(Taken),
     Bad(u32),
 }
 
@@ -76,7 +76,7 @@ pub fn field_at(bytes: &[u8], at: usize, w: usize) -> Field
     if bytes.len() < (at + w + 7) / 8 {
         return Field::Cut;
     }
-    Field::Is(value_at(bytes, at, w))
+    Field::Value(value_at(bytes, at, w))
 }
 
 // Whether all literals of c are below l.
@@ -123,7 +123,7 @@ fn literals(bytes: &[u8], start: usize, v: usize, k: usize) -> Turn
     let mut i = 0;
     while i < k {
         let f = field_at(bytes, at, image_laws::LITERAL_WIDTH);
-        let Field::Is(x) = f else {
+        let Field::Value(x) = f else {
             return Turn::Bad(11);
         };
         let l = Literal(x as u32);
@@ -135,7 +135,7 @@ fn literals(bytes: &[u8], start: usize, v: usize, k: usize) -> Turn
         at += image_laws::LITERAL_WIDTH;
         i += 1;
     }
-    Turn::Cube(Taken {
+    Turn::On(Taken {
         cube: seen,
         literals: k,
         ascending,
@@ -149,7 +149,7 @@ pub fn cube_at(bytes: &[u8], at: usize, v: usize) -> Turn
     ensures { λ r. ⌜ CubeIs mostCubeBits (bitsIn (now (bytes .entry))) at (getCube v (drop at (bitsIn (now (bytes .entry))))) r ⌝ }
 {
     let f = field_at(bytes, at, image_laws::LITERALS_WIDTH);
-    let Field::Is(k) = f else {
+    let Field::Value(k) = f else {
         return Turn::Bad(11);
     };
     if k > v {

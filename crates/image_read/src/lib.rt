@@ -11,15 +11,14 @@ ghost use mathlib.Core.Path.{_≡_};
 ghost use mathlib.Core.Bool.{_&&_};
 ghost use Prim.Native.Nat.{_+_, _-_, _*_, _/_, _<_, _≤_};
 ghost use lib.ListN.{length, drop};
-ghost use Rattle.sets.specs.Lists.{all, total};
+ghost use Rattle.sets.specs.Lists.{all};
 ghost use Rattle.image_fields.specs.Fields.{bitsIn};
 ghost use Rattle.expression.specs.Words.{cubesOf};
 ghost use Rattle.network.specs.Handed.{Told};
-ghost use Rattle.network.specs.Held.{mostInputs, mostOutputs, mostVariables, mostCubes};
-ghost use Rattle.network_nodes.specs.Nodes.{cut};
+ghost use Rattle.network.specs.Held.{mostInputs, mostOutputs, mostVariables};
 ghost use Rattle.image_laws.specs.Reading.{padding, readsEarlier, judgeRaw, readImage};
-ghost use Rattle.image_read.specs.Parts.{times, SizesFit, nodesAt, sizesOf, HeadIs, tidy, nodesIn, orderedIn, Counted, fewIn, Judging};
-ghost use Rattle.image_read.specs.Parts.{judgedOf, Half, Whole};
+ghost use Rattle.image_read.specs.Parts.{times, SizesFit, nodesAt, sizesOf, HeadIs, tidy, nodesIn, orderedIn, fewIn, Judging};
+ghost use Rattle.image_read.specs.Parts.{judgedOf, DivisorsRead, AllRead};
 
 // Where the fields before the first node begin, and the bytes that they end in.
 const INPUTS_AT: usize = image_laws::EDITION_WIDTH;
@@ -106,17 +105,13 @@ fn is_tidy(f: &[u64]) -> bool
 
 // Whether each node is an expression in cube order.
 fn all_tidy(words: &[u64], counts: &[usize]) -> bool
-    requires { ⌜ total (λ c. c) (now counts) ≤ mostCubes ⌝ }
-    ensures { λ r. ⌜ r ≡ all tidy (cut (now (counts .entry)) (cubesOf (now (words .entry)))) ⌝ }
+    ensures { λ r. ⌜ r ≡ all tidy (nodesIn (now (counts .entry)) (now (words .entry))) ⌝ }
 {
-    let mut a = 0;
     let mut i = 0;
     while i < counts.len() {
-        let e = a + counts[i];
-        if !is_tidy(expression::part(words, a, e)) {
+        if !is_tidy(network_nodes::node(words, counts, i)) {
             return false;
         }
-        a = e;
         i += 1;
     }
     true
@@ -124,17 +119,14 @@ fn all_tidy(words: &[u64], counts: &[usize]) -> bool
 
 // Whether each divisor, numbered from n on, reads earlier variables alone.
 fn all_earlier(words: &[u64], counts: &[usize], n: usize) -> bool
-    requires { ⌜ (total (λ c. c) (now counts) ≤ mostCubes) × (n + length (now counts) ≤ mostVariables) ⌝ }
-    ensures { λ r. ⌜ r ≡ readsEarlier n (cut (now (counts .entry)) (cubesOf (now (words .entry)))) ⌝ }
+    requires { ⌜ n + length (now counts) ≤ mostVariables ⌝ }
+    ensures { λ r. ⌜ r ≡ readsEarlier n (nodesIn (now (counts .entry)) (now (words .entry))) ⌝ }
 {
-    let mut a = 0;
     let mut i = 0;
     while i < counts.len() {
-        let e = a + counts[i];
-        if !expression_survey::reaches(expression::part(words, a, e), n + i) {
+        if !expression_survey::reaches(network_nodes::node(words, counts, i), n + i) {
             return false;
         }
-        a = e;
         i += 1;
     }
     true
@@ -149,7 +141,7 @@ fn in_order(
     words: &[u64],
     outputs: &[usize],
 ) -> bool
-    requires { ⌜ Counted (now divisors) (now outputs) × (inputs + length (now divisors) ≤ mostVariables) ⌝ }
+    requires { ⌜ inputs + length (now divisors) ≤ mostVariables ⌝ }
     ensures { λ r. ⌜ r ≡ (ascending && orderedIn inputs (nodesIn (now (divisors .entry)) (now (apart .entry)))
         (nodesIn (now (outputs .entry)) (now (words .entry)))) ⌝ }
 {
@@ -218,7 +210,7 @@ fn finish(
     held: [u64; network::WORDS],
     counts: [usize; network::NODES],
 ) -> Handed
-    requires { ⌜ Whole (bitsIn (now bytes)) z divisors t (now apart) held counts ⌝ }
+    requires { ⌜ AllRead (bitsIn (now bytes)) z divisors t (now apart) held counts ⌝ }
     ensures { λ r. ⌜ Told (judgeRaw (nodesAt (bitsIn (now (bytes .entry))) z)) r ⌝ }
 {
     let mut s = t;
@@ -242,7 +234,7 @@ fn finish(
 
 // The divisors are read: now the outputs, whose counts stand before theirs.
 fn rest(bytes: &[u8], z: Sizes, s: State, apart: &[u64], given: [usize; network::NODES]) -> Handed
-    requires { ⌜ Half (bitsIn (now bytes)) z s (now apart) given ⌝ }
+    requires { ⌜ DivisorsRead (bitsIn (now bytes)) z s (now apart) given ⌝ }
     ensures { λ r. ⌜ Told (judgeRaw (nodesAt (bitsIn (now (bytes .entry))) z)) r ⌝ }
 {
     let mut counts = given;

@@ -53,7 +53,7 @@ fn cubes(bytes: &[u8], start: State, v: usize, k: usize, words: &mut [u64]) -> S
             Turn::Bad(e) => {
                 return Step::Bad(e);
             }
-            Turn::Cube(c) => {
+            Turn::On(c) => {
                 expression::put_cube(words, s.cubes, c.cube);
                 s = added(s, c);
             }
@@ -70,7 +70,7 @@ fn node(bytes: &[u8], start: State, v: usize, words: &mut [u64]) -> Step
         (now (words .entry)) (now (words .exit)) r ⌝ }
 {
     let f = fields::field_at(bytes, start.at, image_laws::CUBES_WIDTH);
-    let Field::Is(k) = f else {
+    let Field::Value(k) = f else {
         return Step::Bad(11);
     };
     if k > network::CUBES {

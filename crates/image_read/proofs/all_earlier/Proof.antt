@@ -1,71 +1,62 @@
 -- `image_read::all_earlier` meets its contract. The loop's invariant: the test of the divisors from i on is the test of all. Assumes nothing.
-use Prim.Native.Nat.{suc, _+_, _-_, _≤_, _<_}
-use mathlib.Core.Path.{_≡_, refl, sym, ap, _∙_}
+use Prim.Native.Nat.{ℕ, _+_, _-_, _≤_}
+use mathlib.Core.Path.{_≡_, sym, ap, _∙_}
+use mathlib.Core.Bool.{Bool, _&&_}
+use mathlib.Core.List.{List}
 use native.Mathlib.Omega.{arith}
-use lib.ListN.{length, getD, drop}
+use lib.ListN.{length, drop}
 use borrow.Author.Needs.{needs}
 use borrow.Author.Tests.{not-true, not-false}
-use Rattle.sets.specs.Lists.{total}
 use Rattle.expression.specs.Words.{cubesOf}
-use Rattle.network_nodes.specs.Nodes.{cut}
+use Rattle.network.specs.Held.{reach}
+use Rattle.network_nodes.proofs.Cutting.{cut-length}
 use Rattle.image_laws.specs.Reading.{readsEarlier}
-use Rattle.image_read.proofs.Testing.{sum-next, cut-done, earlier-stop, earlier-on}
+use Rattle.image_read.specs.Parts.{nodesIn}
+use Rattle.image_read.proofs.Testing.{earlier-next, earlier-done}
 use Rattle.image_read.proofs.all_earlier.Statement.{statement}
 use Rattle.image_read.proofs.all_earlier.Tie as tie
 
 abbrev Inv-loop : tie.InvT-loop
-Inv-loop words counts n a₀ i₀ a i =
-    (i ≤ length counts) × (a + total (λ c. c) (drop i counts) ≡ total (λ c. c) counts)
-    × (readsEarlier (n + i) (cut (drop i counts) (drop a (cubesOf words))) ≡ readsEarlier n (cut counts (cubesOf words)))
+Inv-loop words counts n i₀ i = (i ≤ length counts) × (readsEarlier (n + i) (drop i (nodesIn counts words)) ≡ readsEarlier n (nodesIn counts words))
 
 abbrev μ-loop : tie.MeasureT-loop
-μ-loop words counts n a₀ i₀ a i = length counts - i
+μ-loop words counts n i₀ i = length counts - i
 
--- the sum of the counts leaves room for the next
-room : (l : tie.At-loop Inv-loop μ-loop) → l .loop .i < length (l .before .before .before .args .counts .now)
-    → l .loop .a + getD (l .before .before .before .args .counts .now) (l .loop .i) 0 ≤ 1088
-room l h = omega (arith, sum-next (l .before .before .before .args .counts .now) (l .loop .i) h, l .loop .inv .1, l .before .before .before .pre .0)
+abbrev held : tie.At-loop Inv-loop μ-loop → List (List (List ℕ))
+held l = let s = l .before .before .before in nodesIn (s .args .counts .now) (s .args .words .now)
+
+many : (l : tie.At-loop Inv-loop μ-loop) → length (held l) ≡ length (l .before .before .before .args .counts .now)
+many l = let s = l .before .before .before in cut-length (s .args .counts .now) (cubesOf (s .args .words .now))
+
+-- the test of all is that of divisor i, and of those after it
+tested : (c : tie.After-reaches Inv-loop μ-loop) (b : Bool) → c .reaches .result ≡ b → let l = c .before .before .before in let n =
+    l .before .before .before .args .n in
+    readsEarlier n (held l) ≡ (b && readsEarlier (n + (l .loop .i + 1)) (drop (l .loop .i + 1) (held l)))
+tested c b e =
+    let l = c .before .before .before in
+    let n = l .before .before .before .args .n in
+    sym (l .loop .inv .1) ∙ earlier-next (held l) n (l .loop .i) (omega (arith, many l))
+    ∙ rw (ap (reach (n + l .loop .i)) (sym (c .before .node .ensures .0)) ∙ sym (c .reaches .ensures) ∙ e)
 
 loop-holds : tie.Need-loop-holds Inv-loop μ-loop
 loop-holds c =
     let s = c .before .before in
     let z : s .args .n + 0 ≡ s .args .n = omega arith in
-    (omega arith, omega arith, ap (λ x. readsEarlier x (cut (s .args .counts .now) (cubesOf (s .args .words .now)))) z)
-
-add-e : tie.Need-add-e Inv-loop μ-loop
-add-e c = let l = c .before .before in omega (arith, room l (c .before .loop-test .taken))
+    (search needs, ap (λ x. readsEarlier x (nodesIn (s .args .counts .now) (s .args .words .now))) z)
 
 returns : tie.Need-returns Inv-loop μ-loop
-returns c =
-    let p = c .before .before in
-    let l = p .before .before .before in
-    let s = l .before .before .before in
-    sym (earlier-stop (s .args .counts .now) (cubesOf (s .args .words .now)) (l .loop .i) (l .loop .a) (p .before .before .loop-test .taken) _ refl _
-    (p .part .ensures .0) (s .args .n + l .loop .i) (sym (c .before .reaches .ensures) ∙ not-true _ (c .if1 .taken))) ∙ l .loop .inv .2
+returns c = sym (tested (c .before) _ (not-true _ (c .if1 .taken)))
 
 loop-again : tie.Need-loop-again Inv-loop μ-loop
-loop-again c =
-    let p = c .before .before in
-    let l = p .before .before .before in
-    let s = l .before .before .before in
-    let n = s .args .counts .now in
-    let h = p .before .before .loop-test .taken in
-    let v : s .args .n + (l .loop .i + 1) ≡ suc (s .args .n + l .loop .i) = omega arith in (
-      omega (arith, h),
-      omega (arith, sum-next n (l .loop .i) h, l .loop .inv .1),
-      ap (λ x. readsEarlier x (cut (drop (l .loop .i + 1) n) (drop (l .loop .a + getD n (l .loop .i) 0) (cubesOf (s .args .words .now))))) v
-          ∙ sym (earlier-on n (cubesOf (s .args .words .now)) (l .loop .i) (l .loop .a) h _ refl _ (p .part .ensures .0) (s .args .n + l .loop .i)
-          (sym (c .before .reaches .ensures) ∙ not-false _ (c .if1 .left))) ∙ l .loop .inv .2,
-    )
+loop-again c = (search needs, sym (tested (c .before) _ (not-false _ (c .if1 .left))))
 
 returns-2 : tie.Need-returns-2 Inv-loop μ-loop
-unfolding readsEarlier
 returns-2 c =
-    let l = c .before in let s = l .before .before .before in
-    sym (ap (readsEarlier (s .args .n + l .loop .i))
-    (cut-done (s .args .counts .now) (drop (l .loop .a) (cubesOf (s .args .words .now))) (l .loop .i) (c .loop-test .left))) ∙ l .loop .inv .2
+    let l = c .before in
+    let n = l .before .before .before .args .n in
+    sym (earlier-done (held l) (n + l .loop .i) (l .loop .i) (omega (arith, many l))) ∙ l .loop .inv .1
 
 pub all-earlier-spec : {M : Type 1} → statement M
 all-earlier-spec =
-    tie.close (tie.spec Inv-loop μ-loop loop-holds (λ c. search needs) (λ c. search needs) add-e (λ c κs. search needs) (λ c. search needs)
-    (λ c κs. search needs) returns (λ c. search needs) (λ c. search needs) loop-again returns-2)
+    tie.close (tie.spec Inv-loop μ-loop loop-holds (λ c κs. search needs) (λ c. search needs) (λ c κs. search needs) returns (λ c. search needs)
+    (λ c. search needs) loop-again returns-2)

@@ -1,6 +1,5 @@
 -- `image_read::finish` meets its contract. The verdict on all that was read, and the network of it. Assumes nothing.
 use mathlib.Core.Path.{_≡_}
-use native.Mathlib.Omega.{arith}
 use lib.ListN.{length}
 use borrow.Author.Needs.{needs}
 use Rattle.network.specs.Handed.{nodeSlots}
@@ -9,7 +8,7 @@ use Rattle.image_read.proofs.finish.Statement.{statement}
 use Rattle.image_read.proofs.finish.Tie as tie
 
 abbrev start : tie.After-judge → tie.Start
-start j = j .before .before .before .before .before .before
+start j = let lent = j .before .before .before in lent .before .before .before
 
 judge-requires : tie.Need-judge-requires
 judge-requires c κs =

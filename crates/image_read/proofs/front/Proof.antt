@@ -7,7 +7,7 @@ use borrow.Author.Needs.{needs}
 use Rattle.image_fields.specs.Fields.{bitsIn}
 use Rattle.image_laws.specs.Widths.{editionField, edition1}
 use Rattle.image_read.specs.Parts.{FieldIs}
-use Rattle.image_read.specs.declared.fields.Field.the-variants.{Is}
+use Rattle.image_read.specs.declared.fields.Field.the-variants.{Value}
 use Rattle.image_read.proofs.Heading.{inputsAt, outputsAt, divisorsAt, field-below, field-is, field-short, edition-cut, edition-bad, front-cut}
 use Rattle.image_read.proofs.Heading.{sizes-are}
 use Rattle.image_read.proofs.front.Statement.{statement}
@@ -20,20 +20,20 @@ abbrev bits : tie.Start → List Bool
 bits s = bitsIn (s .args .bytes .now)
 
 -- the fields that were read
-edition : (v : tie.After-value-at) → FieldIs editionField (bits (start v)) (Is (v .value-at .result))
+edition : (v : tie.After-value-at) → FieldIs editionField (bits (start v)) (Value (v .value-at .result))
 edition v = field-is (start v .args .bytes .now) 0 editionField _ (omega (arith, v .before .if1 .left)) (v .value-at .ensures)
 
 abbrev first : tie.After-value-at2 → tie.After-value-at
 first v = v .before .before .before
 
-inputs : (v : tie.After-value-at2) → FieldIs (edition1 .inputs) (drop inputsAt (bits (start (first v)))) (Is (v .value-at2 .result))
+inputs : (v : tie.After-value-at2) → FieldIs (edition1 .inputs) (drop inputsAt (bits (start (first v)))) (Value (v .value-at2 .result))
 inputs v = field-is (start (first v) .args .bytes .now) inputsAt (edition1 .inputs) _ (omega (arith, v .before .if3 .left)) (v .value-at2 .ensures)
 
-outputs : (v : tie.After-value-at3) → FieldIs (edition1 .outputs) (drop outputsAt (bits (start (first (v .before))))) (Is (v .value-at3 .result))
+outputs : (v : tie.After-value-at3) → FieldIs (edition1 .outputs) (drop outputsAt (bits (start (first (v .before))))) (Value (v .value-at3 .result))
 outputs v = field-is (start (first (v .before)) .args .bytes .now) outputsAt (edition1 .outputs) _ (omega (arith, v .before .before .if3 .left))
     (v .value-at3 .ensures)
 
-divisors : (v : tie.After-value-at4) → FieldIs (edition1 .divisors) (drop divisorsAt (bits (start (first (v .before .before))))) (Is (v .value-at4 .result))
+divisors : (v : tie.After-value-at4) → FieldIs (edition1 .divisors) (drop divisorsAt (bits (start (first (v .before .before))))) (Value (v .value-at4 .result))
 divisors v = field-is (start (first (v .before .before)) .args .bytes .now) divisorsAt (edition1 .divisors) _
     (omega (arith, v .before .before .before .if3 .left)) (v .value-at4 .ensures)
 

@@ -1,31 +1,21 @@
 -- `image_read::read` meets its contract. The fields before the nodes, and then the nodes. Assumes nothing.
-use mathlib.Core.Path.{_≡_, subst}
 use borrow.Author.Needs.{needs}
-use Rattle.image_fields.specs.Fields.{bitsIn}
-use Rattle.image_read.specs.Parts.{HeadIs}
-use Rattle.image_read.specs.declared.Head.{Head}
 use Rattle.image_read.proofs.Telling.{read-refused, read-on}
 use Rattle.image_read.proofs.read.Statement.{statement}
 use Rattle.image_read.proofs.read.Tie as tie
 
--- what was read before the nodes
-told : (f : tie.After-front) (x : Head) → f .front .result ≡ x → HeadIs (bitsIn (f .before .before .args .bytes .now)) x
-told f x e = subst (HeadIs (bitsIn (f .before .before .args .bytes .now))) e (f .front .ensures)
-
 body-requires : tie.Need-body-requires
-body-requires c κs = told (c .before .before .before) _ (c .before .h2 .given .1) .sized
+body-requires c κs = (rw (c .before .h2 .given .1) at (c .before .before .before .front .ensures)) .sized
 
 returns : tie.Need-returns
 returns c =
     let h = c .before .before in
-    let f = h .before .before in
-    read-refused (f .before .before .args .bytes .now) (c .refuse .result) _ (told f _ (h .h .given .1)) (c .refuse .ensures)
+    read-refused _ (c .refuse .result) _ (rw (h .h .given .1) at (h .before .before .front .ensures)) (c .refuse .ensures)
 
 returns-2 : tie.Need-returns-2
 returns-2 c =
     let h = c .before .before in
-    let f = h .before .before in
-    read-on (f .before .before .args .bytes .now) (c .body .result) _ (told f _ (h .h2 .given .1) .is) (c .body .ensures)
+    read-on _ (c .body .result) _ ((rw (h .h2 .given .1) at (h .before .before .front .ensures)) .is) (c .body .ensures)
 
 pub read-spec : {M : Type 1} → statement M
 read-spec =

@@ -1,6 +1,6 @@
 -- `image_read::literals` meets its contract. The loop's invariant: the literals read so far and those to come are those of the definition. Assumes nothing.
-use Prim.Native.Nat.{ℕ, _+_, _-_, _*_, _^_, _≤_, _<_}
-use mathlib.Core.Path.{_≡_, refl, sym, ap, subst, _∙_}
+use Prim.Native.Nat.{ℕ, _+_, _-_, _*_, _≤_}
+use mathlib.Core.Path.{_≡_, refl, sym, ap, _∙_}
 use mathlib.Core.Bool.{Bool, _&&_}
 use mathlib.Core.List.{List}
 use native.Mathlib.Omega.{arith}
@@ -11,8 +11,7 @@ use Rattle.cube.specs.Cube.{lits}
 use Rattle.image_fields.specs.Fields.{bitsIn}
 use Rattle.image_laws.specs.Widths.{edition1}
 use Rattle.image_read.specs.Parts.{FieldIs}
-use Rattle.image_read.specs.declared.fields.Field.{Field}
-use Rattle.image_read.specs.declared.fields.Field.the-variants.{Is}
+use Rattle.image_read.specs.declared.fields.Field.the-variants.{Value}
 use Rattle.image_read.proofs.Heading.{field-below}
 use Rattle.image_read.proofs.Gathering.{Gathering, gather-none, gather-cut, gather-bad, gather-next, gather-end}
 use Rattle.image_read.proofs.fields.literals.Statement.{statement}
@@ -25,8 +24,8 @@ Inv-loop bytes start v k seen₀ ascending₀ at₀ i₀ seen ascending at i =
 abbrev μ-loop : tie.MeasureT-loop
 μ-loop bytes start v k seen₀ ascending₀ at₀ i₀ seen ascending at i = k - i
 
-abbrev head : tie.After-known-told Inv-loop μ-loop → tie.At-loop Inv-loop μ-loop
-head k = k .before .before .before .before .before
+abbrev top : tie.After-known-told Inv-loop μ-loop → tie.At-loop Inv-loop μ-loop
+top k = k .before .before .before .before .before
 
 abbrev bits-from : tie.At-loop Inv-loop μ-loop → List Bool
 bits-from l = drop (l .loop .at) (bitsIn (l .before .before .before .args .bytes .now))
@@ -35,11 +34,8 @@ bits-from l = drop (l .loop .at) (bitsIn (l .before .before .before .args .bytes
 abbrev value : tie.After-known-told Inv-loop μ-loop → ℕ
 value k = k .before .f .given .0 .0
 
-read : (k : tie.After-known-told Inv-loop μ-loop) → FieldIs (edition1 .literal) (bits-from (head k)) (Is (value k))
-read k = subst (λ (x : Field). FieldIs (edition1 .literal) (bits-from (head k)) x) (k .before .f .given .1) (k .before .before .before .field-at .ensures)
-
-value-of : (k : tie.After-known-told Inv-loop μ-loop) → value k < 2 ^ (edition1 .literal)
-value-of k = field-below (edition1 .literal) (value k) (bits-from (head k)) (read k)
+read : (k : tie.After-known-told Inv-loop μ-loop) → FieldIs (edition1 .literal) (bits-from (top k)) (Value (value k))
+read k = rw (k .before .f .given .1) at (k .before .before .before .field-at .ensures)
 
 loop-holds : tie.Need-loop-holds Inv-loop μ-loop
 loop-holds c = (omega arith, omega arith, gather-none _ _ _ _ _ (c .empty .ensures))
@@ -49,22 +45,22 @@ returns c =
     let a = c .before .before in
     let l = a .before .before in
     gather-cut (l .loop .inv .2) (a .before .loop-test .taken)
-    (subst (λ (x : Field). FieldIs (edition1 .literal) (bits-from l) x) (c .enum-told .given .1) (a .field-at .ensures))
+    (rw (c .enum-told .given .1) at (a .field-at .ensures))
 
 cast-t13 : tie.Need-cast-t13 Inv-loop μ-loop
-cast-t13 c = omega (arith, value-of c)
+cast-t13 c = omega (arith, field-below (edition1 .literal) (value c) (bits-from (top c)) (read c))
 
 returns-2 : tie.Need-returns-2 Inv-loop μ-loop
 returns-2 c =
     let k = c .before .before in
-    let l = head k in
+    let l = top k in
     gather-bad (l .loop .inv .2) (k .before .before .before .before .loop-test .taken) (value k) (read k)
     (sym (c .before .is-allowed .ensures) ∙ not-true _ (c .if1 .taken))
 
 loop-again : tie.Need-loop-again Inv-loop μ-loop
 loop-again c =
     let k = c .before .before .before .before .before in
-    let l = head k in
+    let l = top k in
     let s = l .before .before .before in
     let more = k .before .before .before .before .loop-test .taken in (
       omega (arith, more),

@@ -1,6 +1,6 @@
 -- `image_read::value_at` meets its contract. The loop's invariant: the number is that of the bits passed. Assumes nothing.
 use Prim.Native.Nat.{_+_, _-_, _*_, _/_, _%_, _≤_}
-use mathlib.Core.Path.{_≡_, refl, sym, ap, _∙_}
+use mathlib.Core.Path.{_≡_, sym, ap, _∙_}
 use mathlib.Core.Bool.{cond}
 use native.Mathlib.Omega.{arith}
 use native.Mathlib.Numerals.{add-one}

@@ -1,45 +1,28 @@
 -- `image_read::node` meets its contract. Assumes nothing.
-use mathlib.Core.Path.{subst}
-use mathlib.Core.Bool.{Bool}
-use mathlib.Core.List.{List}
-use native.Mathlib.Omega.{arith}
-use lib.ListN.{drop}
 use borrow.Author.Needs.{needs}
 use Rattle.image_fields.specs.Fields.{bitsIn}
-use Rattle.image_laws.specs.Widths.{edition1}
-use Rattle.image_read.specs.Parts.{FieldIs}
-use Rattle.image_read.specs.declared.fields.Field.{Field}
-use Rattle.image_read.specs.declared.fields.Field.the-variants.{Is}
 use Rattle.image_read.proofs.Filling.{node-cut, node-bad, node-are}
 use Rattle.image_read.proofs.nodes.node.Statement.{statement}
 use Rattle.image_read.proofs.nodes.node.Tie as tie
-
-abbrev start : tie.After-known-told → tie.Start
-start k = k .before .before .before .before .before .before
-
-abbrev bits-from : tie.Start → List Bool
-bits-from s = drop (s .args .start .at) (bitsIn (s .args .bytes .now))
-
--- the field that was read
-read : (k : tie.After-known-told) → FieldIs (edition1 .cubes) (bits-from (start k)) (Is (k .before .f .given .0 .0))
-read k = subst (λ (x : Field). FieldIs (edition1 .cubes) (bits-from (start k)) x) (k .before .f .given .1) (k .before .before .before .field-at .ensures)
 
 returns : tie.Need-returns
 returns c =
     let a = c .before .before in
     let s = a .before .before .before in
-    node-cut (bitsIn (s .args .bytes .now)) (s .args .v) (s .args .start)
-    (subst (λ (x : Field). FieldIs (edition1 .cubes) (bits-from s) x) (c .enum-told .given .1) (a .field-at .ensures))
+    node-cut (bitsIn (s .args .bytes .now)) (s .args .v) (s .args .start) (rw (c .enum-told .given .1) at (a .field-at .ensures))
 
 returns-2 : tie.Need-returns-2
 returns-2 c =
-    let s = start (c .before) in node-bad (bitsIn (s .args .bytes .now)) (s .args .v) (s .args .start) _ (read (c .before)) (c .if1 .taken)
+    let k = c .before .before in
+    let s = k .before .before .before .before .before in
+    node-bad (bitsIn (s .args .bytes .now)) (s .args .v) (s .args .start) _ (rw (k .f .given .1) at (k .before .before .field-at .ensures)) (c .if1 .taken)
 
 returns-3 : tie.Need-returns-3
 returns-3 c =
-    let k = c .before .before .before .before .before .before in
-    node-are (bitsIn (start k .args .bytes .now)) (start k .args .v) (start k .args .start) _ (read k)
-    (c .before .before .before .before .before .if1 .left) _ _ (c .before .before .cubes .result) (c .before .before .cubes .ensures)
+    let u = c .before .before in
+    let i = u .before .before .before in
+    let k = i .before .before in
+    node-are _ _ _ _ (rw (k .f .given .1) at (k .before .before .field-at .ensures)) (i .if1 .left) _ _ (u .cubes .result) (u .cubes .ensures)
 
 pub node-spec : {M : Type 1} → statement M
 node-spec =
