@@ -77,21 +77,16 @@ net-bits n =
 literal-bits-length : (c : List ℕ) → length (fieldBits (literalFields c)) ≡ edition1 .literal * length c
 unfolding fieldBits
 literal-bits-length [] = refl
-literal-bits-length (l ∷ c) =
-    length-append (literalBits l) (fieldBits (literalFields c)) ∙ omega (arith, bits-length (edition1 .literal) l, literal-bits-length c)
+literal-bits-length (l ∷ c) = simp length-append (omega (arith, bits-length (edition1 .literal) l, literal-bits-length c))
 
 pub cube-bits-length : (c : List ℕ) → length (fieldBits (cubeFields c)) ≡ edition1 .literals + edition1 .literal * length c
 unfolding fieldBits cubeFields
-cube-bits-length c =
-    length-append (literalsBits (length c)) (fieldBits (literalFields c))
-    ∙ omega (arith, bits-length (edition1 .literals) (length c), literal-bits-length c)
+cube-bits-length c = simp length-append (omega (arith, bits-length (edition1 .literals) (length c), literal-bits-length c))
 
 cubes-bits-length : (f : List (List ℕ)) → length (fieldBits (flat (map cubeFields f))) ≡ edition1 .literals * length f + edition1 .literal * literalsOf f
 unfolding fieldBits
 cubes-bits-length [] = refl
-cubes-bits-length (c ∷ f) =
-    ap length (fields-append (cubeFields c) (flat (map cubeFields f))) ∙ length-append (fieldBits (cubeFields c)) (fieldBits (flat (map cubeFields f)))
-    ∙ omega (arith, cube-bits-length c, cubes-bits-length f)
+cubes-bits-length (c ∷ f) = simp (fields-append, length-append) (omega (arith, cube-bits-length c, cubes-bits-length f))
 
 -- the bits of nodes: so many nodes, cubes and literals
 abbrev pub bitsFor : ℕ → ℕ → ℕ → ℕ
@@ -99,16 +94,12 @@ bitsFor nodes cubes literals = edition1 .cubes * nodes + (edition1 .literals * c
 
 pub node-bits-length : (f : List (List ℕ)) → length (fieldBits (nodeFields f)) ≡ bitsFor 1 (length f) (literalsOf f)
 unfolding fieldBits nodeFields
-node-bits-length f =
-    length-append (cubesBits (length f)) (fieldBits (flat (map cubeFields f)))
-    ∙ omega (arith, bits-length (edition1 .cubes) (length f), cubes-bits-length f)
+node-bits-length f = simp length-append (omega (arith, bits-length (edition1 .cubes) (length f), cubes-bits-length f))
 
 pub nodes-bits-length : (fs : List (List (List ℕ))) → length (nodeBits fs) ≡ bitsFor (length fs) (total length fs) (total literalsOf fs)
 unfolding fieldBits
 nodes-bits-length [] = refl
-nodes-bits-length (f ∷ fs) =
-    ap length (fields-append (nodeFields f) (flat (map nodeFields fs))) ∙ length-append (fieldBits (nodeFields f)) (nodeBits fs)
-    ∙ omega (arith, node-bits-length f, nodes-bits-length fs)
+nodes-bits-length (f ∷ fs) = simp (fields-append, length-append) (omega (arith, node-bits-length f, nodes-bits-length fs))
 
 head-bits-length : (n m k : ℕ) → length (fieldBits (headFields n m k)) ≡ headSize
 unfolding fieldBits headFields bitsOf
@@ -117,14 +108,9 @@ head-bits-length n m k = refl
 pub net-bits-length : (n : Net) → length (fieldBits (netFields n)) ≡ headSize + bitsFor (length (nodes n)) (cubeCount n) (literalCount n)
 net-bits-length n =
     let ds = divisorCubes n in
-    ap length (net-bits n) ∙ length-append (headBits n) (nodeBits ds ++ nodeBits (n .outputs))
-    ∙ omega (
+    rw (net-bits n) (simp (length-append, total-append) (omega (
       arith,
       head-bits-length (n .inputs) (length (n .outputs)) (length (n .divisors)),
-      length-append (nodeBits ds) (nodeBits (n .outputs)),
       nodes-bits-length ds,
       nodes-bits-length (n .outputs),
-      length-append (n .outputs) ds,
-      total-append length (n .outputs) ds,
-      total-append literalsOf (n .outputs) ds,
-    )
+    )))

@@ -29,15 +29,13 @@ set-mem z c = union-mem z c [] ∙ or-false (mem z c)
 
 -- ---- the place of a number in a list
 
+past-head : {v u : ℕ} {a : List ℕ} → eqb v u ≡ false → v ∈ (u ∷ a) → v ∈ a
+past-head {v} {u} e m = elim (List·Memᴰ·cases-cons m) [ inl q ↦ clash (eq-eqb v u q) e | inr i ↦ i ]
+
 pub index-before : (v : ℕ) (a b : List ℕ) → v ∈ a → indexOf v (a ++ b) < length a
 unfolding indexOf
 index-before v [] b m = absurd (List·Memᴰ·not-nil m)
-index-before v (u ∷ a) b m = go (eqb v u) refl (List·Memᴰ·cases-cons m) (λ i. index-before v a b i)
-  where
-    go : (t : Bool) → eqb v u ≡ t → (v ≡ u) ⊎ (v ∈ a) → (v ∈ a → indexOf v (a ++ b) < length a) → cond t 0 (suc (indexOf v (a ++ b))) < suc (length a)
-    go true e q k = omega arith
-    go false e (inl q) k = clash (eq-eqb v u q) e
-    go false e (inr i) k = omega (arith, k i)
+index-before v (u ∷ a) b m = elim (decided (eqb v u)) [ inl e ↦ rw e (omega arith) | inr e ↦ rw e (omega (arith, index-before v a b (past-head e m))) ]
 
 pub index-lt : (v : ℕ) (l : List ℕ) → v ∈ l → indexOf v l < length l
 index-lt v l m = subst (λ z. indexOf v z < length l) (append-nil l) (index-before v l [] m)
@@ -46,12 +44,7 @@ index-lt v l m = subst (λ z. indexOf v z < length l) (append-nil l) (index-befo
 pub index-at : (v : ℕ) (l : List ℕ) → v ∈ l → getD l (indexOf v l) 0 ≡ v
 unfolding indexOf
 index-at v [] m = absurd (List·Memᴰ·not-nil m)
-index-at v (u ∷ l) m = go (eqb v u) refl (List·Memᴰ·cases-cons m) (λ i. index-at v l i)
-  where
-    go : (t : Bool) → eqb v u ≡ t → (v ≡ u) ⊎ (v ∈ l) → (v ∈ l → getD l (indexOf v l) 0 ≡ v) → getD (u ∷ l) (cond t 0 (suc (indexOf v l))) 0 ≡ v
-    go true e q k = sym (eqb-true v u e)
-    go false e (inl q) k = clash (eq-eqb v u q) e
-    go false e (inr i) k = k i
+index-at v (u ∷ l) m = elim (decided (eqb v u)) [ inl e ↦ rw e (sym (eqb-true v u e)) | inr e ↦ rw e (index-at v l (past-head e m)) ]
 
 -- and first there
 pub index-new : (v : ℕ) (a b : List ℕ) → mem v a ≡ false → indexOf v (a ++ (v ∷ b)) ≡ length a

@@ -13,7 +13,7 @@ use borrow.Author.Tests.{eq-eqb, ltb-true, ltb-false, le-leb, lt-ltb}
 use Rattle.sets.specs.Lists.{all, total, from}
 use Rattle.sets.specs.Sets.{mem}
 use Rattle.sets.specs.Masks.{bit, packed}
-use Rattle.sets.proofs.Truth.{both, together, or-left, or-right, decided, clash, refuted}
+use Rattle.sets.proofs.Truth.{both, together, decided, clash, refuted}
 use Rattle.sets.proofs.Lists.{_∈_, all-in, map-in, map-out, map-cong, map-map, total-append, total-cong, total-map, total-same, pairwise-imp}
 use Rattle.sets.proofs.Sets.{from-mem}
 use Rattle.sets.proofs.Rows.{from-snoc}
@@ -176,8 +176,7 @@ module _ (n : Net) where
     listed-total : (g : List (List ℕ) → ℕ) → total (λ v. g (old v)) (listing n) ≡ total g (cubes (n .divisors))
     listed-total g =
         total-same differ (λ x y h. differ-in (λ (e : y ≡ x). differ-out {x = x} {y = y} h (sym e))) (λ x. ap not (eq-eqb x x refl))
-        (λ v. g (old v)) (listing n) numbers
-        (listing-once n)
+        (λ v. g (old v)) (listing n) numbers (listing-once n)
         (pairwise-imp ltb differ numbers (λ x y q. differ-in (λ (e : x ≡ y). omega (arith, ltb-true x y q))) ((lawful-sound n w) .distinct .ascending))
         (λ v m. let r = listing-number n v m in Memᴰ·cast (r .2) (map-in (λ (e : Node). e .number) (r .1)))
         (λ v m. let r = map-out (λ (e : Node). e .number) (n .divisors) m in Memᴰ·cast (r .2) (listing-in n (listed-whole n w) (r .0) (r .1)))
@@ -271,18 +270,13 @@ module _ (n : Net) where
         divisors = λ e m.
             let q = renumbered-divisor e m in
             let i : q .1 ∈ listing n = subst (λ (l : List ℕ). q .1 ∈ l) (sym (q .3)) (Memᴰ·append-right (q .0) (here refl)) in
-            ap becomes (q .4 ∙ sym (new-number-at n w (q .0) (q .2) (q .1) (q .3)))
-            ∙ kept (q .1) (inr i)
-            ∙ listed-value (q .1) i
-            ∙ sym (node-kept (listed-node n w (q .1) i))
-            ∙ ap (value (lit becomes)) (sym (q .5));
+            ap becomes (q .4 ∙ sym (new-number-at n w (q .0) (q .2) (q .1) (q .3))) ∙ kept (q .1) (inr i) ∙ listed-value (q .1) i
+            ∙ sym (node-kept (listed-node n w (q .1) i)) ∙ ap (value (lit becomes)) (sym (q .5));
       }
 
       becomes-answers : answers (renumbered n) becomes ≡ answers n was
       unfolding renumbered
-      becomes-answers =
-          map-map (value (lit becomes)) renewed (n .outputs)
-          ∙ map-cong (λ f. value (lit becomes) (renewed f)) (value (lit was)) (n .outputs) (λ f m. node-kept (in-output n m))
+      becomes-answers = map-map (value (lit becomes)) renewed (n .outputs) ∙ map-cong _ (value (lit was)) (n .outputs) (λ f m. node-kept (in-output n m))
 
       -- every setting gives the same outputs
       pub renumbered-evaluate : evaluate (renumbered n) s ≡ evaluate n s
@@ -304,15 +298,14 @@ module _ (n : Net) (w : Lawful n) (k : ReadsBack n) where
   -- the smallest number that is left is ready
   turn-ready : (m : ℕ) (g : Node) → g ∈ n .divisors → g .number ≡ n .inputs + m → ready (n .inputs) (from (n .inputs) m) (g .cubes) ≡ true
   unfolding ready
-  turn-ready m g i e = all-in (all seen) (g .cubes)
-      (λ c j. all-in seen c (λ x h. go (x / 2) (k g i (x / 2) (c, j, (x, h, refl))) (decided (ltb (x / 2) (n .inputs)))))
+  turn-ready m g i e = all-in (all seen) (g .cubes) (λ c j. all-in seen c (λ x h. go (x / 2) (k g i (x / 2) (c, j, (x, h, refl)))))
     where
       seen : ℕ → Bool
       seen x = ltb (x / 2) (n .inputs) || mem (x / 2) (from (n .inputs) m)
 
-      go : (v : ℕ) → v < g .number → (ltb v (n .inputs) ≡ true) ⊎ (ltb v (n .inputs) ≡ false) → (ltb v (n .inputs) || mem v (from (n .inputs) m)) ≡ true
-      go v h (inl t) = or-left (ltb v (n .inputs)) (mem v (from (n .inputs) m)) t
-      go v h (inr t) = or-right (ltb v (n .inputs)) (mem v (from (n .inputs) m)) (in-from (n .inputs) m v (ltb-false v (n .inputs) t) (omega arith))
+      go : (v : ℕ) → v < g .number → (ltb v (n .inputs) || mem v (from (n .inputs) m)) ≡ true
+      go v h = elim (decided (ltb v (n .inputs)))
+          [ inl t ↦ rw t | inr t ↦ rw (t, in-from (n .inputs) m v (ltb-false v (n .inputs) t) (omega arith)) ]
 
   -- so it comes next
   turn-next : (m : ℕ) (b : List ℕ) (v : ℕ) → m < length (n .divisors) → listing n ≡ from (n .inputs) m ++ (v ∷ b) → v ≡ n .inputs + m

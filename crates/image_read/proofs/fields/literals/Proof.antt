@@ -31,10 +31,10 @@ abbrev bits-from : tie.At-loop Inv-loop μ-loop → List Bool
 bits-from l = drop (l .loop .at) (bitsIn (l .before .before .before .args .bytes .now))
 
 -- the field that was read
-abbrev value : tie.After-known-told Inv-loop μ-loop → ℕ
-value k = k .before .f .given .0 .0
+abbrev literal : tie.After-known-told Inv-loop μ-loop → ℕ
+literal k = k .before .f .given .0 .0
 
-read : (k : tie.After-known-told Inv-loop μ-loop) → FieldIs (edition1 .literal) (bits-from (top k)) (Value (value k))
+read : (k : tie.After-known-told Inv-loop μ-loop) → FieldIs (edition1 .literal) (bits-from (top k)) (Value (literal k))
 read k = rw (k .before .f .given .1) at (k .before .before .before .field-at .ensures)
 
 loop-holds : tie.Need-loop-holds Inv-loop μ-loop
@@ -48,13 +48,13 @@ returns c =
     (rw (c .enum-told .given .1) at (a .field-at .ensures))
 
 cast-t13 : tie.Need-cast-t13 Inv-loop μ-loop
-cast-t13 c = omega (arith, field-below (edition1 .literal) (value c) (bits-from (top c)) (read c))
+cast-t13 c = omega (arith, field-below (edition1 .literal) (literal c) (bits-from (top c)) (read c))
 
 returns-2 : tie.Need-returns-2 Inv-loop μ-loop
 returns-2 c =
     let k = c .before .before in
     let l = top k in
-    gather-bad (l .loop .inv .2) (k .before .before .before .before .loop-test .taken) (value k) (read k)
+    gather-bad (l .loop .inv .2) (k .before .before .before .before .loop-test .taken) (literal k) (read k)
     (sym (c .before .is-allowed .ensures) ∙ not-true _ (c .if1 .taken))
 
 loop-again : tie.Need-loop-again Inv-loop μ-loop
@@ -65,7 +65,7 @@ loop-again c =
     let more = k .before .before .before .before .loop-test .taken in (
       omega (arith, more),
       omega (arith, l .loop .inv .1),
-      gather-next (l .loop .inv .2) more (value k) (read k) (s .pre .1)
+      gather-next (l .loop .inv .2) more (literal k) (read k) (s .pre .1)
           (sym (c .before .before .before .before .is-allowed .ensures) ∙ not-false _ (c .before .before .before .if1 .left)) _ (c .with .ensures) _
           (c .before .both .ensures ∙ ap (l .loop .ascending &&_) (c .before .before .is-below .ensures)),
     )
