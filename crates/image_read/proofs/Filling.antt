@@ -7,6 +7,7 @@ use native.Mathlib.Omega.{arith}
 use lib.Dec.{leb}
 use lib.ListN.{length, drop, set, length-append, length-map, length-set}
 use lib.Seq.{sets}
+use borrow.Author.Needs.{needs}
 use borrow.Author.Tests.{le-leb, lt-leb}
 use Rattle.sets.specs.Lists.{all}
 use Rattle.sets.specs.Sets.{asc, proper}
@@ -68,9 +69,6 @@ added-one h s old new p = record {
   proper = and-true (proper (h .read)) ∙ h .proper;
 }
 
-near-same : (s : State) → GrowsBy 0 s s
-near-same s = record { at = omega arith; cubes = omega arith; literals = omega arith }
-
 -- ---- cubes
 
 -- i of k cubes are read and put
@@ -85,13 +83,10 @@ fill-none bits v k start ws = record {
   read = [];
   going = going-none (getCube v) k (drop (start .at) bits);
   put = added-none start ws;
-  near = near-same start;
+  near = search needs;
 }
 
 module _ {bits : List Bool} {v k i : ℕ} {start : State} {old new : List ℕ} {s : State} (h : Filling bits v k i start old new s) where
-  pub fill-bad : i < k → (e : ℕ) → getCube v (drop (s .at) bits) ≡ bad e → getMany (getCube v) k (drop (start .at) bits) ≡ bad e
-  fill-bad more e q = going-bad (getCube v) k (h .going) more e q
-
   pub fill-next : i < k → (c : Taken) → CubeGot mostCubeBits bits (s .at) (getCube v (drop (s .at) bits)) c → (new' : List ℕ)
       → Put new new' (s .cubes) (lits (c .cube))
       → (t : State) → t ≡ added s c → Filling bits v k (i + 1) start old new' t
@@ -99,11 +94,7 @@ module _ {bits : List Bool} {v k i : ℕ} {start : State} {old new : List ℕ} {
     read = h .read ++ (q .read ∷ []);
     going = going-next (getCube v) k (h .going) more (q .read) (drop (c .at) bits) (q .is);
     put = added-then (h .put) (added-one q s new new' p);
-    near = record {
-      at = omega (arith, h .near .at, q .near);
-      cubes = omega (arith, h .near .cubes);
-      literals = omega (arith, h .near .literals, q .literals, q .few);
-    };
+    near = search needs;
   })
 
   pub fill-end : k ≤ i → i ≤ mostCubes → CubesGot mostCubesBits bits start (getMany (getCube v) k (drop (start .at) bits)) old new s
@@ -111,7 +102,7 @@ module _ {bits : List Bool} {v k i : ℕ} {start : State} {old new : List ℕ} {
     read = h .read;
     is = going-end (getCube v) k (h .going) done;
     put = h .put;
-    near = record { at = omega (arith, h .near .at); cubes = omega (arith, h .near .cubes); literals = omega (arith, h .near .literals) };
+    near = search needs;
   }
 
 -- ---- a node
@@ -150,7 +141,7 @@ module _ (bits : List Bool) (v : ℕ) (s : State) where
         ascending = p .ascending;
         proper = p .proper;
       };
-      near = record { at = omega (arith, c .near .at); cubes = omega (arith, c .near .cubes); literals = omega (arith, c .near .literals) };
+      near = search needs;
     }
 
 -- ---- nodes
@@ -169,14 +160,11 @@ count-none bits v k start ws first cs = record {
   going = going-none (getNode v) k (drop (start .at) bits);
   put = added-none start ws;
   counts = refl;
-  near = near-same start;
+  near = search needs;
 }
 
 module _ {bits : List Bool} {v k i : ℕ} {start : State} {old new : List ℕ} {first : ℕ} {was are : List ℕ} {s : State}
     (h : Counting bits v k i start old new first was are s) where
-  pub count-bad : i < k → (e : ℕ) → getNode v (drop (s .at) bits) ≡ bad e → getMany (getNode v) k (drop (start .at) bits) ≡ bad e
-  count-bad more e q = going-bad (getNode v) k (h .going) more e q
-
   pub count-next : i < k → (new' : List ℕ) (t : State) → CubesGot mostNodeBits bits s (getNode v (drop (s .at) bits)) new new' t
       → Counting bits v k (i + 1) start old new' first was (set are (first + i) (t .cubes - s .cubes)) t
   count-next more new' t c = record {
@@ -188,12 +176,7 @@ module _ {bits : List Bool} {v k i : ℕ} {start : State} {old new : List ℕ} {
         let b : t .cubes - s .cubes ≡ length (c .read) = omega (arith, c .put .cubes) in
         ap₂ (λ n x. set are n x) a b ∙ ap (λ l. set l (first + length (map length (h .read))) (length (c .read))) (h .counts)
         ∙ sym (sets-append was first (map length (h .read)) (length (c .read) ∷ [])) ∙ ap (sets was first) (sym (map-append length (h .read) (c .read ∷ [])));
-    near = record {
-      at = omega (arith, h .near .at, c .near .at);
-      cubes = omega (arith, h .near .cubes, c .near .cubes);
-      literals =
-          omega (arith, h .near .literals, c .near .literals);
-    };
+    near = search needs;
   }
 
   pub count-end : i ≡ k → i ≤ mostVariables → NodesGot k bits start (getMany (getNode v) k (drop (start .at) bits)) old new first was are s
@@ -203,5 +186,5 @@ module _ {bits : List Bool} {v k i : ℕ} {start : State} {old new : List ℕ} {
     is = going-end (getNode v) k (h .going) (omega arith);
     put = h .put;
     counts = h .counts;
-    near = record { at = omega (arith, h .near .at); cubes = omega (arith, h .near .cubes); literals = omega (arith, h .near .literals) };
+    near = search needs;
   }

@@ -35,16 +35,6 @@ outputsAt = inputsAt + edition1 .inputs
 abbrev pub divisorsAt : ℕ
 divisorsAt = outputsAt + edition1 .outputs
 
--- what follows the edition, the inputs, the outputs
-abbrev afterOutputs : ℕ → ℕ → List Bool → Parsed Raw
-afterOutputs a b l = andThen (getField (edition1 .divisors) (λ k. leb (suc a + k) mostVariables) l) (λ k r. getNodes (suc a) (suc b) k r)
-
-abbrev afterInputs : ℕ → List Bool → Parsed Raw
-afterInputs a l = andThen (getField (edition1 .outputs) (λ x. true) l) (λ b r. afterOutputs a b r)
-
-abbrev afterEdition : List Bool → Parsed Raw
-afterEdition l = andThen (getField (edition1 .inputs) (λ x. true) l) (λ a r. afterInputs a r)
-
 module _ (bits : List Bool) where
   pub edition-cut : FieldIs editionField bits Cut → getRaw bits ≡ bad 11
   unfolding getRaw
@@ -56,53 +46,51 @@ module _ (bits : List Bool) where
     edition-bad d = rw (field-bad editionField (eqb (edition1 .number)) bits e h (ne-eqb (edition1 .number) e (λ q. d (sym q))))
 
     module _ (one : e ≡ edition1 .number) where
-      edition-on : getRaw bits ≡ afterEdition (drop inputsAt bits)
-      unfolding getRaw
-      edition-on = rw (field-got editionField (eqb (edition1 .number)) bits 0 e h (eq-eqb (edition1 .number) e (sym one)))
+      yes : eqb (edition1 .number) e ≡ true
+      yes = eq-eqb (edition1 .number) e (sym one)
 
       inputs-cut : FieldIs (edition1 .inputs) (drop inputsAt bits) Cut → getRaw bits ≡ bad 11
-      inputs-cut q = edition-on ∙ rw (field-cut (edition1 .inputs) (λ x. true) (drop inputsAt bits) q) refl
+      unfolding getRaw
+      inputs-cut q = rw (field-got editionField (eqb (edition1 .number)) bits 0 e h yes, field-cut (edition1 .inputs) (λ x. true) (drop inputsAt bits) q)
 
-      module _ (a : ℕ) (ha : FieldIs (edition1 .inputs) (drop inputsAt bits) (Value a)) where
-        inputs-on : getRaw bits ≡ afterInputs a (drop outputsAt bits)
-        inputs-on = edition-on ∙ rw (field-got (edition1 .inputs) (λ x. true) bits inputsAt a ha refl) refl
+      module _ (a : ℕ) (ha : FieldIs (edition1 .inputs) (drop inputsAt bits) (Value a)) (b : ℕ)
+          (hb : FieldIs (edition1 .outputs) (drop outputsAt bits) (Value b)) where
+        abbrev test : ℕ → Bool
+        test k = leb (suc a + k) mostVariables
 
-        module _ (b : ℕ) (hb : FieldIs (edition1 .outputs) (drop outputsAt bits) (Value b)) where
-          outputs-on : getRaw bits ≡ afterOutputs a b (drop divisorsAt bits)
-          outputs-on = inputs-on ∙ rw (field-got (edition1 .outputs) (λ x. true) bits outputsAt b hb refl) refl
+        outputs-on : getRaw bits ≡ andThen (getField (edition1 .divisors) test (drop divisorsAt bits)) (λ k r. getNodes (suc a) (suc b) k r)
+        unfolding getRaw
+        outputs-on = rw (
+          field-got editionField (eqb (edition1 .number)) bits 0 e h yes,
+          field-got (edition1 .inputs) (λ x. true) bits inputsAt a ha refl,
+          field-got (edition1 .outputs) (λ x. true) bits outputsAt b hb refl,
+        )
 
-          abbrev test : ℕ → Bool
-          test k = leb (suc a + k) mostVariables
+        divisors-cut : FieldIs (edition1 .divisors) (drop divisorsAt bits) Cut → getRaw bits ≡ bad 11
+        divisors-cut q = outputs-on ∙ rw (field-cut (edition1 .divisors) test (drop divisorsAt bits) q) refl
 
-          divisors-cut : FieldIs (edition1 .divisors) (drop divisorsAt bits) Cut → getRaw bits ≡ bad 11
-          divisors-cut q = outputs-on ∙ rw (field-cut (edition1 .divisors) test (drop divisorsAt bits) q) refl
+        module _ (k : ℕ) (hk : FieldIs (edition1 .divisors) (drop divisorsAt bits) (Value k)) where
+          sizes-on : test k ≡ true → getRaw bits ≡ getNodes (suc a) (suc b) k (drop headSize bits)
+          sizes-on q = outputs-on ∙ rw (field-got (edition1 .divisors) test bits divisorsAt k hk q) refl
 
-          module _ (k : ℕ) (hk : FieldIs (edition1 .divisors) (drop divisorsAt bits) (Value k)) where
-            sizes-on : test k ≡ true → getRaw bits ≡ getNodes (suc a) (suc b) k (drop headSize bits)
-            sizes-on q = outputs-on ∙ rw (field-got (edition1 .divisors) test bits divisorsAt k hk q) refl
+          sizes-off : test k ≡ false → getRaw bits ≡ bad 12
+          sizes-off q = outputs-on ∙ rw (field-bad (edition1 .divisors) test (drop divisorsAt bits) k hk q) refl
 
-            sizes-off : test k ≡ false → getRaw bits ≡ bad 12
-            sizes-off q = outputs-on ∙ rw (field-bad (edition1 .divisors) test (drop divisorsAt bits) k hk q) refl
+          -- all fields are there
+          pub sizes-are : (r : Head) → r ≡ sizesOf a b k → HeadIs bits r
+          sizes-are r e' = subst (HeadIs bits) (sym e') (⊎-elim few many (decided (leb (a + 1 + k) mostVariables)))
+            where
+              same : leb (a + 1 + k) mostVariables ≡ test k
+              same = ap (λ n. leb (n + k) mostVariables) (add-one a)
 
-            -- all fields are there
-            pub sizes-are : (r : Head) → r ≡ sizesOf a b k → HeadIs bits r
-            sizes-are r e' = subst (HeadIs bits) (sym e') (⊎-elim few many (decided (leb (a + 1 + k) mostVariables)))
-              where
-                same : leb (a + 1 + k) mostVariables ≡ test k
-                same = ap (λ n. leb (n + k) mostVariables) (add-one a)
+              few : leb (a + 1 + k) mostVariables ≡ true → HeadIs bits (sizesOf a b k)
+              few q = rw q (record {
+                is = sizes-on (sym same ∙ q) ∙ rw (add-one, add-one) refl;
+                sized = record { outputs = omega (arith, field-below (edition1 .outputs) b (drop outputsAt bits) hb); variables = leb-true _ mostVariables q };
+              })
 
-                few : leb (a + 1 + k) mostVariables ≡ true → HeadIs bits (sizesOf a b k)
-                few q = rw q (record {
-                  is = sizes-on (sym same ∙ q) ∙ rw (add-one, add-one) refl;
-                  sized = record {
-                    outputs = omega (arith, field-below (edition1 .outputs) b (drop outputsAt bits) hb);
-                    variables =
-                        leb-true (a + 1 + k) mostVariables q;
-                  };
-                })
-
-                many : leb (a + 1 + k) mostVariables ≡ false → HeadIs bits (sizesOf a b k)
-                many q = rw q (sizes-off (sym same ∙ q))
+              many : leb (a + 1 + k) mostVariables ≡ false → HeadIs bits (sizesOf a b k)
+              many q = rw q (sizes-off (sym same ∙ q))
 
 -- ---- fields of bytes
 

@@ -63,11 +63,8 @@ picked-yes false q u n e = let z : _≡_ {A = ℕ} 0 1 = cc in absurd (omega ari
 
 -- the third test matters only where the second holds
 verdict-same : (p q u u' : Bool) (n : Net) → (q ≡ true → u ≡ u') → verdict p q u ≡ answerOf (picked p q u' n)
-verdict-same true true u u' n e = ap (λ b. cond b Accepted (Refused 13)) (e refl) ∙ go u'
-  where
-    go : (b : Bool) → cond b Accepted (Refused 13) ≡ answerOf (cond b (gives n) (refuses 13))
-    go true = refl
-    go false = refl
+verdict-same true true u true n e = rw (e refl)
+verdict-same true true u false n e = rw (e refl)
 verdict-same true false u u' n e = refl
 verdict-same false q u u' n e = refl
 

@@ -6,7 +6,8 @@ use native.Mathlib.Omega.{arith}
 use lib.ListN.{length}
 use borrow.Author.Needs.{needs}
 use Rattle.image_fields.specs.Fields.{bitsIn}
-use Rattle.image_read.proofs.Filling.{Filling, fill-none, fill-bad, fill-next, fill-end}
+use Rattle.image_read.proofs.Filling.{Filling, fill-none, fill-next, fill-end}
+use Rattle.image_read.proofs.Going.{going-bad}
 use Rattle.image_read.proofs.nodes.cubes.Statement.{statement}
 use Rattle.image_read.proofs.nodes.cubes.Tie as tie
 
@@ -23,7 +24,7 @@ loop-holds c = (omega arith, refl, fill-none _ _ _ _ _)
 returns : tie.Need-returns Inv-loop μ-loop
 returns c =
     let a = c .before .before .before in
-    fill-bad (a .before .before .loop .inv .2) (a .before .loop-test .taken) _ (rw (c .before .t .given .1) at (a .cube-at .ensures))
+    going-bad _ _ (a .before .before .loop .inv .2 .going) (a .before .loop-test .taken) _ (rw (c .before .t .given .1) at (a .cube-at .ensures))
 
 added-requires : tie.Need-added-requires Inv-loop μ-loop
 added-requires c κs =

@@ -6,7 +6,8 @@ use native.Mathlib.Omega.{arith}
 use lib.ListN.{length, length-set}
 use borrow.Author.Needs.{needs}
 use Rattle.image_fields.specs.Fields.{bitsIn}
-use Rattle.image_read.proofs.Filling.{Counting, count-none, count-bad, count-next, count-end}
+use Rattle.image_read.proofs.Filling.{Counting, count-none, count-next, count-end}
+use Rattle.image_read.proofs.Going.{going-bad}
 use Rattle.image_read.proofs.nodes.nodes.Statement.{statement}
 use Rattle.image_read.proofs.nodes.nodes.Tie as tie
 
@@ -24,7 +25,7 @@ returns : tie.Need-returns Inv-loop μ-loop
 returns c =
     let a = c .before .before .before .before in
     rw (c .enum-told .given .1)
-    (count-bad (a .before .before .before .loop .inv .3) (a .before .before .loop-test .taken) _ (rw (c .enum-told .given .1) at (a .node .ensures)))
+    (going-bad _ _ (a .before .before .before .loop .inv .3 .going) (a .before .before .loop-test .taken) _ (rw (c .enum-told .given .1) at (a .node .ensures)))
 
 sub-counts : tie.Need-sub-counts Inv-loop μ-loop
 sub-counts c =
