@@ -28,7 +28,7 @@ use Rattle.image_read.specs.declared.nodes.State.{State}
 use Rattle.image_read.specs.declared.nodes.Step.{Step}
 use Rattle.image_read.specs.declared.nodes.Step.the-variants.{On, Bad}
 use Rattle.image_read.proofs.Fielding.{field-cut, field-bad, field-got}
-use Rattle.image_read.proofs.Going.{Begun, going-none, going-bad, going-next, going-end}
+use Rattle.image_read.proofs.Going.{Begun, going-none, going-next, going-end}
 
 -- ---- what was put
 

@@ -14,7 +14,7 @@ use Rattle.image_fields.specs.Fields.{bytesFor, valueOf, bitsIn}
 use Rattle.image_fields.proofs.Bytes.{left-length}
 use Rattle.network.specs.Held.{mostVariables}
 use Rattle.image_laws.specs.Widths.{editionField, edition1, headSize}
-use Rattle.image_laws.specs.Reading.{Parsed, bad, Raw, andThen, getField, getNodes, getRaw}
+use Rattle.image_laws.specs.Reading.{bad, andThen, getField, getNodes, getRaw}
 use Rattle.image_read.specs.Parts.{FieldIs, sizesOf, HeadIs}
 use Rattle.image_read.specs.declared.fields.Field.the-variants.{Value, Cut}
 use Rattle.image_read.specs.declared.Head.{Head}

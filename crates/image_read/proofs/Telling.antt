@@ -3,7 +3,7 @@ use Prim.Native.Nat.{ℕ, _+_, _-_, _≤_}
 use mathlib.Core.Path.{_≡_, refl, sym, ap, ap₂, subst, _∙_}
 use mathlib.Core.Bool.{Bool, true, false, cond, _&&_, and-assoc}
 use mathlib.Core.List.{List, [], _++_, map, append-assoc, map-append}
-use mathlib.Core.Logic.{⊎-elim}
+use mathlib.Core.Logic.{inl, inr}
 use native.Mathlib.Omega.{arith}
 use lib.Dec.{leb}
 use lib.ListN.{length, take, drop, replicate, length-append, length-map}
@@ -46,10 +46,6 @@ answerOf (refuses k) = Refused k
 answer-refused : (o : Return) (k : ℕ) → answerOf o ≡ Refused k → o ≡ refuses k
 answer-refused (gives n) k e = let z : _≡_ {A = ℕ} 0 1 = cc in absurd (omega arith)
 answer-refused (refuses j) k e = let q : j ≡ k = cc in ap refuses q
-
--- a refusal
-pub told-refused : (o : Return) (k : ℕ) (r : Handed) → o ≡ refuses k → Told (refuses k) r → Told o r
-told-refused o k r e h = subst (λ (x : Return). Told x r) (sym e) h
 
 -- the outcome of three tests
 abbrev picked : Bool → Bool → Bool → Net → Return
@@ -141,10 +137,16 @@ module _ {bits : List Bool} {z : Sizes} {d : ℕ} {t : State} {apart words count
   unfolding summed
   summed-are = ap₂ (λ a b. leb a mostCubes && leb b mostLiterals) cubes-sum literals-sum
 
+  few-cubes : summed raw ≡ true → sums .cubes ≤ mostCubes
+  few-cubes q = leb-true (sums .cubes) mostCubes (both (leb (sums .cubes) mostCubes) (leb (sums .literals) mostLiterals) (summed-are ∙ q) .0)
+
   asc-sum : sums .ascending ≡ (all asc (flat ds) && all asc (flat os))
   asc-sum = w .outputs .put .ascending ∙ ap (_&& all asc (flat os)) (w .half .divisors .put .ascending)
 
   -- ---- the order
+
+  abbrev test : Bool
+  test = orderedIn (z .inputs) (nodesIn (divisorCounts z counts) apart) (nodesIn (outputCounts z counts) words)
 
   module _ (few : sums .cubes ≤ mostCubes) (up : sums .ascending ≡ true) where
     parts : (all asc (flat ds) ≡ true) × (all asc (flat os) ≡ true)
@@ -156,16 +158,10 @@ module _ {bits : List Bool} {z : Sizes} {d : ℕ} {t : State} {apart words count
     words-stand : Front words mostCubes (flat os)
     words-stand = cubes-stand (flat os) (w .outputs .put) refl (parts .1) (omega (arith, output-cubes))
 
-    divisors-in : nodesIn (divisorCounts z counts) apart ≡ ds
-    divisors-in = nodes-stand ds apart-stand divisors-are
-
-    outputs-in : nodesIn (outputCounts z counts) words ≡ os
-    outputs-in = nodes-stand os words-stand outputs-are
-
-    up-order : orderedIn (z .inputs) (nodesIn (divisorCounts z counts) apart) (nodesIn (outputCounts z counts) words) ≡ allInOrder raw
+    up-order : test ≡ allInOrder raw
     unfolding allInOrder
     up-order =
-        ap₂ (orderedIn (z .inputs)) divisors-in outputs-in
+        ap₂ (orderedIn (z .inputs)) (nodes-stand ds apart-stand divisors-are) (nodes-stand os words-stand outputs-are)
         ∙ ap₂ (λ a b. a && (b && readsEarlier (z .inputs) ds)) (all-tidy ds (parts .0) (w .half .divisors .put .proper))
         (all-tidy os (parts .1) (w .outputs .put .proper))
         ∙ sym (and-assoc (all inTheOrder ds) (all inTheOrder os) (readsEarlier (z .inputs) ds))
@@ -173,22 +169,13 @@ module _ {bits : List Bool} {z : Sizes} {d : ℕ} {t : State} {apart words count
 
   down-order : sums .ascending ≡ false → allInOrder raw ≡ false
   unfolding allInOrder
-  down-order e = refuted (λ h. clash (go h) (sym asc-sum ∙ e))
-    where
-      go : (all inTheOrder (ds ++ os) && readsEarlier (z .inputs) ds) ≡ true → (all asc (flat ds) && all asc (flat os)) ≡ true
-      go h =
-          let a = both (all inTheOrder (ds ++ os)) (readsEarlier (z .inputs) ds) h in
-          let b = both (all inTheOrder ds) (all inTheOrder os) (sym (all-append inTheOrder ds os) ∙ a .0) in
-          together (all asc (flat ds)) (all asc (flat os)) (order-asc ds (b .0)) (order-asc os (b .1))
+  down-order e = refuted (λ h.
+      let a = both (all inTheOrder (ds ++ os)) (readsEarlier (z .inputs) ds) h in
+      let b = both (all inTheOrder ds) (all inTheOrder os) (sym (all-append inTheOrder ds os) ∙ a .0) in
+      clash (together (all asc (flat ds)) (all asc (flat os)) (order-asc ds (b .0)) (order-asc os (b .1))) (sym asc-sum ∙ e))
 
-  abbrev found : Bool
-  found = sums .ascending && orderedIn (z .inputs) (nodesIn (divisorCounts z counts) apart) (nodesIn (outputCounts z counts) words)
-
-  order-are : sums .cubes ≤ mostCubes → found ≡ allInOrder raw
-  order-are few = ⊎-elim (λ u. ap (_&& test) u ∙ up-order few u) (λ u. ap (_&& test) u ∙ sym (down-order u)) (decided (sums .ascending))
-    where
-      test : Bool
-      test = orderedIn (z .inputs) (nodesIn (divisorCounts z counts) apart) (nodesIn (outputCounts z counts) words)
+  order-are : sums .cubes ≤ mostCubes → (sums .ascending && test) ≡ allInOrder raw
+  order-are few = elim (decided (sums .ascending)) [ inl u ↦ ap (_&& test) u ∙ up-order few u | inr u ↦ ap (_&& test) u ∙ sym (down-order u) ]
 
   -- ---- the verdict
 
@@ -201,22 +188,19 @@ module _ {bits : List Bool} {z : Sizes} {d : ℕ} {t : State} {apart words count
 
   judged-is : judgedOf bits sums z apart words counts ≡ answerOf outcome
   judged-is =
-      ap (λ q. verdict (padding (drop (t .at) bits)) q found) summed-are
-      ∙ verdict-same (padding (drop (t .at) bits)) (summed raw) found (allInOrder raw) (rawNet raw) (λ q. order-are (few q))
-    where
-      few : summed raw ≡ true → sums .cubes ≤ mostCubes
-      few q = leb-true (sums .cubes) mostCubes (both (leb (sums .cubes) mostCubes) (leb (sums .literals) mostLiterals) (summed-are ∙ q) .0)
+      ap (λ q. verdict (padding (drop (t .at) bits)) q (sums .ascending && test)) summed-are
+      ∙ verdict-same (padding (drop (t .at) bits)) (summed raw) (sums .ascending && test) (allInOrder raw) (rawNet raw) (λ q. order-are (few-cubes q))
 
   pub whole-refused : (a : Verdict) (k : ℕ) (r : Handed) → a ≡ judgedOf bits sums z apart words counts → a ≡ Refused k → Told (refuses k) r
       → Told (judgeRaw (nodesAt bits z)) r
-  whole-refused a k r j e h = told-refused (judgeRaw (nodesAt bits z)) k r (outcome-is ∙ answer-refused outcome k (sym judged-is ∙ sym j ∙ e)) h
+  whole-refused a k r j e h = rw (outcome-is ∙ answer-refused outcome k (sym judged-is ∙ sym j ∙ e)) h
 
   module _ (a : Verdict) (judged : a ≡ judgedOf bits sums z apart words counts) (yes : a ≡ Accepted) where
     passed : (summed raw ≡ true) × (allInOrder raw ≡ true) × (outcome ≡ gives (rawNet raw))
     passed = picked-yes (padding (drop (t .at) bits)) (summed raw) (allInOrder raw) (rawNet raw) (sym judged-is ∙ sym judged ∙ yes)
 
     whole-few : d + t .cubes ≤ mostCubes
-    whole-few = leb-true (sums .cubes) mostCubes (both (leb (sums .cubes) mostCubes) (leb (sums .literals) mostLiterals) (summed-are ∙ passed .0) .0)
+    whole-few = few-cubes (passed .0)
 
     whole-up : sums .ascending ≡ true
     whole-up = both (sums .ascending) _ (order-are whole-few ∙ passed .1) .0
