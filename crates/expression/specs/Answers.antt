@@ -1,11 +1,12 @@
 -- What the answers of this crate mean, with the paper's numbers.
-use Prim.Native.Nat.{ℕ, _*_}
+use Prim.Native.Nat.{ℕ, suc, _*_}
 use mathlib.Core.Bool.{cond, _&&_}
 use mathlib.Core.List.{List}
 use mathlib.Core.Option.{Option, none, some}
 use lib.Dec.{ltb}
 use lib.ListN.{length}
 use Rattle.sets.specs.Lists.{isNil}
+use Rattle.sets.specs.Word.{largest}
 use Rattle.expression.specs.Words.{cubeWords, cubesOf, spareOf}
 use Rattle.expression.specs.Expression.{expression}
 use Rattle.expression.specs.declared.Verdict.{Verdict}
@@ -33,4 +34,4 @@ placeOf Nothing = none
 
 -- a count as 64 bits hold it: the largest number where it would pass
 abbrev pub capped : ℕ → ℕ
-capped n = cond (ltb n 18446744073709551616) n 18446744073709551615
+capped n = cond (ltb n (suc largest)) n largest

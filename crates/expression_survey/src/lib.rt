@@ -13,15 +13,14 @@ ghost use Rattle.expression_survey.specs.Search.{findIn};
 pub fn literals(s: &[u64]) -> u64
     ensures { λ r. ⌜ r ≡ capped (literalsOf (cubesOf (now (s .entry)))) ⌝ }
 {
-    let most: u64 = 18446744073709551615;
     let mut sum: u64 = 0;
     let mut i = 0;
     while i < expression::number(s) {
         let n = cube_sets::count(expression::cube_at(s, i)) as u64;
-        if n <= most - sum {
+        if n <= sets::WORD_MOST - sum {
             sum += n;
         } else {
-            sum = most;
+            sum = sets::WORD_MOST;
         }
         i += 1;
     }

@@ -7,7 +7,7 @@ ghost use Rattle.letters.specs.Letters.{decimal, nameText};
 ghost use Rattle.letters.specs.Laid.{counted, Laid};
 
 // Counting stops here: no room has a byte at this place.
-const LARGEST: usize = 18446744073709551615;
+const FARTHEST: usize = sets::WORD_MOST as usize;
 
 // What writing into a lent room answers: how many bytes, or the number of the refusal.
 pub enum Wrote {
@@ -19,10 +19,10 @@ pub enum Wrote {
 fn next(at: usize) -> usize
     ensures { λ r. ⌜ r ≡ counted (at + 1) ⌝ }
 {
-    if at < LARGEST {
+    if at < FARTHEST {
         return at + 1;
     }
-    LARGEST
+    FARTHEST
 }
 
 // One byte, where there is room for it; the next place.

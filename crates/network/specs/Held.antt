@@ -26,10 +26,6 @@ numberAt inputs i = inputs + i
 abbrev pub placeAt : ℕ → ℕ → ℕ → ℕ
 placeAt inputs outputs v = outputs + (v - inputs)
 
--- the largest number that is held
-abbrev pub largest : ℕ
-largest = 18446744073709551615
-
 -- the counts in use: outputs first, then divisors
 abbrev pub used : Network → List ℕ
 used n = take (n .outputs + n .divisors) (n .counts)

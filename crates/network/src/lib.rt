@@ -3,7 +3,8 @@ use expression::Verdict;
 ghost use mathlib.Core.Path.{_≡_};
 ghost use Rattle.network.specs.Handed.{Blank, Told, refuses, Carries};
 ghost use Prim.Native.Nat.{_+_, min};
-ghost use Rattle.network.specs.Held.{upTo, sized, numberAt, placeAt, largest};
+ghost use Rattle.sets.specs.Word.{largest};
+ghost use Rattle.network.specs.Held.{upTo, sized, numberAt, placeAt};
 
 // The limits: inputs, outputs, inputs plus divisors, cubes, and literals counted over all of them.
 pub const INPUTS: usize = 32;
@@ -48,14 +49,14 @@ pub struct Listed {
     pub order: [u32; VARIABLES],
 }
 
-const LARGEST: usize = 18446744073709551615;
+const WORD_MOST: usize = sets::WORD_MOST as usize;
 
 // The sum, or the largest number where it is past that.
 fn sum(a: usize, b: usize) -> usize
     ensures { λ r. ⌜ r ≡ min (a + b) largest ⌝ }
 {
-    if a > LARGEST - b {
-        return LARGEST;
+    if a > WORD_MOST - b {
+        return WORD_MOST;
     }
     a + b
 }

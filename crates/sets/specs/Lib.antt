@@ -2,3 +2,4 @@ pub mod Lists
 pub mod Literal
 pub mod Sets
 pub mod Masks
+pub mod Word

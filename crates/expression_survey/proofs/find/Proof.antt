@@ -18,23 +18,8 @@ Inv-loop s c low₀ high₀ low high = Left (lits c) (cubesOf s) low high × (hi
 abbrev μ-loop : tie.MeasureT-loop
 μ-loop s c low₀ high₀ low high = high - low
 
-number-requires : tie.Need-number-requires Inv-loop μ-loop
-number-requires c κs = search needs
-
 loop-holds : tie.Need-loop-holds Inv-loop μ-loop
 loop-holds c = rw (c .number .ensures) (left-start _ _, omega arith)
-
-sub-m : tie.Need-sub-m Inv-loop μ-loop
-sub-m c = search needs
-
-add-m : tie.Need-add-m Inv-loop μ-loop
-add-m c = search needs
-
-cube-at-requires : tie.Need-cube-at-requires Inv-loop μ-loop
-cube-at-requires c κs = search needs
-
-compare-requires : tie.Need-compare-requires Inv-loop μ-loop
-compare-requires c κs = search needs
 
 -- the loop's head, the words and the cube sought, as the comparison finds them
 abbrev head : tie.After-compare Inv-loop μ-loop → tie.At-loop Inv-loop μ-loop
@@ -49,15 +34,6 @@ sought c = lits (head c .before .before .before .args .c)
 heard : (c : tie.After-compare Inv-loop μ-loop) → Told (middle (held c) (head c .loop .low) (head c .loop .high)) (sought c) (c .compare .result)
 heard c = told-of (c .compare .result) _ _ _ _ (c .compare .ensures) (c .before .cube-at .ensures) refl
 
-enum-told : tie.Need-enum-told Inv-loop μ-loop
-enum-told c = search needs
-
-add-low : tie.Need-add-low Inv-loop μ-loop
-add-low c = search needs
-
-loop-less : tie.Need-loop-less Inv-loop μ-loop
-loop-less c = search needs
-
 loop-again : tie.Need-loop-again Inv-loop μ-loop
 loop-again c =
     let h = head (c .before .before) in (
@@ -66,19 +42,10 @@ loop-again c =
       h .loop .inv .1,
     )
 
-enum-told-2 : tie.Need-enum-told-2 Inv-loop μ-loop
-enum-told-2 c = search needs
-
 returns : tie.Need-returns Inv-loop μ-loop
 returns c =
     let h = head (c .before .before) in
     stop-at _ _ _ _ (h .loop .inv .0) (c .before .before .before .before .loop-test .taken) (heard (c .before .before) .alike (c .enum-told2 .given .1))
-
-enum-told-3 : tie.Need-enum-told-3 Inv-loop μ-loop
-enum-told-3 c = search needs
-
-loop-less-2 : tie.Need-loop-less-2 Inv-loop μ-loop
-loop-less-2 c = search needs
 
 loop-again-2 : tie.Need-loop-again-2 Inv-loop μ-loop
 loop-again-2 c =
@@ -93,23 +60,5 @@ returns-2 c = stop-none _ _ _ _ (c .before .loop .inv .0) (c .loop-test .left)
 
 pub find-spec : {M : Type 1} → statement M
 find-spec =
-    tie.close
-    (tie.spec
-    Inv-loop
-    μ-loop
-    number-requires
-    loop-holds
-    sub-m
-    add-m
-    cube-at-requires
-    compare-requires
-    enum-told
-    add-low
-    loop-less
-    loop-again
-    enum-told-2
-    returns
-    enum-told-3
-    loop-less-2
-    loop-again-2
-    returns-2)
+    tie.close (tie.spec Inv-loop μ-loop (search needs) loop-holds (search needs) (search needs) (search needs) (search needs) (search needs) (search needs)
+    (search needs) loop-again (search needs) returns (search needs) (search needs) loop-again-2 returns-2)

@@ -25,24 +25,6 @@ cubes l = cubesOf (l .before .before .args .f .now)
 loop-holds : tie.Need-loop-holds Inv-loop μ-loop
 loop-holds c = (omega arith, λ k h. absurd (omega arith))
 
-number-requires : tie.Need-number-requires Inv-loop μ-loop
-number-requires c κs = search needs
-
-sub-cube-at : tie.Need-sub-cube-at Inv-loop μ-loop
-sub-cube-at c = search needs
-
-cube-at-requires : tie.Need-cube-at-requires Inv-loop μ-loop
-cube-at-requires c κs = search needs
-
-cube-at-requires-2 : tie.Need-cube-at-requires-2 Inv-loop μ-loop
-cube-at-requires-2 c κs = search needs
-
-compare-requires : tie.Need-compare-requires Inv-loop μ-loop
-compare-requires c κs = search needs
-
-enum-told : tie.Need-enum-told Inv-loop μ-loop
-enum-told c = search needs
-
 returns : tie.Need-returns Inv-loop μ-loop
 returns c =
     let t = c .before in
@@ -51,12 +33,6 @@ returns c =
     let g = t .before .cube-at2 .ensures in
     let n = refuted (λ b. elim (rw (t .compare .ensures ∙ sym (is-before _ _ b)) at (c .match .keys2)) [ inl w ↦ omega arith | inr w ↦ omega arith ]) in
     sym (climbs-not (cubes l) (l .loop .i) (omega arith) (omega arith) (rw (← e, ← g) n))
-
-add-i : tie.Need-add-i Inv-loop μ-loop
-add-i c = search needs
-
-loop-less : tie.Need-loop-less Inv-loop μ-loop
-loop-less c = search needs
 
 loop-again : tie.Need-loop-again Inv-loop μ-loop
 loop-again c =
@@ -74,19 +50,5 @@ returns-2 c =
 
 pub is-ordered-spec : {M : Type 1} → statement M
 is-ordered-spec =
-    tie.close
-    (tie.spec
-    Inv-loop
-    μ-loop
-    loop-holds
-    number-requires
-    sub-cube-at
-    cube-at-requires
-    cube-at-requires-2
-    compare-requires
-    enum-told
-    returns
-    add-i
-    loop-less
-    loop-again
-    returns-2)
+    tie.close (tie.spec Inv-loop μ-loop loop-holds (search needs) (search needs) (search needs) (search needs) (search needs) (search needs) returns
+    (search needs) (search needs) loop-again returns-2)

@@ -10,44 +10,17 @@ use lib.Seq.{take-all}
 use Rattle.expression.specs.Words.{cubesOf}
 use Rattle.expression.specs.Expression.{literalsOf}
 use Rattle.expression.specs.Answers.{capped}
+use Rattle.sets.specs.Word.{largest}
 use Rattle.sets.proofs.Places.{total-next}
 use Rattle.expression_survey.proofs.Counting.{capped-more, capped-full}
 use Rattle.expression_survey.proofs.literals.Statement.{statement}
 use Rattle.expression_survey.proofs.literals.Tie as tie
 
 abbrev Inv-loop : tie.InvT-loop
-Inv-loop s most sum₀ i₀ sum i =
-    (i ≤ length (cubesOf s)) × (sum ≡ capped (literalsOf (take i (cubesOf s)))) × (sum ≤ 18446744073709551615)
+Inv-loop s sum₀ i₀ sum i = (i ≤ length (cubesOf s)) × (sum ≡ capped (literalsOf (take i (cubesOf s)))) × (sum ≤ largest)
 
 abbrev μ-loop : tie.MeasureT-loop
-μ-loop s most sum₀ i₀ sum i = length (cubesOf s) - i
-
-loop-holds : tie.Need-loop-holds Inv-loop μ-loop
-loop-holds c = search needs
-
-number-requires : tie.Need-number-requires Inv-loop μ-loop
-number-requires c κs = search needs
-
-cube-at-requires : tie.Need-cube-at-requires Inv-loop μ-loop
-cube-at-requires c κs = search needs
-
-count-requires : tie.Need-count-requires Inv-loop μ-loop
-count-requires c κs = search needs
-
-cast-n : tie.Need-cast-n Inv-loop μ-loop
-cast-n c = search needs
-
-sub-if2 : tie.Need-sub-if2 Inv-loop μ-loop
-sub-if2 c = search needs
-
-add-sum : tie.Need-add-sum Inv-loop μ-loop
-add-sum c = search needs
-
-add-i : tie.Need-add-i Inv-loop μ-loop
-add-i c = search needs
-
-loop-less : tie.Need-loop-less Inv-loop μ-loop
-loop-less c = search needs
+μ-loop s sum₀ i₀ sum i = length (cubesOf s) - i
 
 loop-again : tie.Need-loop-again Inv-loop μ-loop
 loop-again c =
@@ -69,18 +42,5 @@ returns c =
 
 pub literals-spec : {M : Type 1} → statement M
 literals-spec =
-    tie.close
-    (tie.spec
-    Inv-loop
-    μ-loop
-    loop-holds
-    number-requires
-    cube-at-requires
-    count-requires
-    cast-n
-    sub-if2
-    add-sum
-    add-i
-    loop-less
-    loop-again
-    returns)
+    tie.close (tie.spec Inv-loop μ-loop (search needs) (search needs) (search needs) (search needs) (search needs) (search needs) (search needs)
+    (search needs) (search needs) loop-again returns)

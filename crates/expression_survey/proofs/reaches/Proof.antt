@@ -30,28 +30,10 @@ tested : (c : tie.After-is-below Inv-loop μ-loop) → let l = c .before .before
     readsBelow (start l .args .v) (getD (cubes l) (l .loop .i) []) ≡ c .is-below .result
 tested c = let l = c .before .before .before .before in ap (readsBelow (start l .args .v)) (sym (c .before .cube-at .ensures)) ∙ sym (c .is-below .ensures)
 
-loop-holds : tie.Need-loop-holds Inv-loop μ-loop
-loop-holds c = search needs
-
-number-requires : tie.Need-number-requires Inv-loop μ-loop
-number-requires c κs = search needs
-
-cube-at-requires : tie.Need-cube-at-requires Inv-loop μ-loop
-cube-at-requires c κs = search needs
-
-is-below-requires : tie.Need-is-below-requires Inv-loop μ-loop
-is-below-requires c κs = search needs
-
 returns : tie.Need-returns Inv-loop μ-loop
 returns c =
     let l = c .before .before .before .before .before in
     sym (all-stop (cubes l) (l .loop .i) [] (omega arith) (readsBelow (start l .args .v)) (tested (c .before) ∙ not-true _ (c .if2 .taken))) ∙ l .loop .inv .1
-
-add-i : tie.Need-add-i Inv-loop μ-loop
-add-i c = search needs
-
-loop-less : tie.Need-loop-less Inv-loop μ-loop
-loop-less c = search needs
 
 loop-again : tie.Need-loop-again Inv-loop μ-loop
 loop-again c =
@@ -68,16 +50,5 @@ returns-2 c =
 
 pub reaches-spec : {M : Type 1} → statement M
 reaches-spec =
-    tie.close
-    (tie.spec
-    Inv-loop
-    μ-loop
-    loop-holds
-    number-requires
-    cube-at-requires
-    is-below-requires
-    returns
-    add-i
-    loop-less
-    loop-again
+    tie.close (tie.spec Inv-loop μ-loop (search needs) (search needs) (search needs) (search needs) returns (search needs) (search needs) loop-again
     returns-2)

@@ -29,18 +29,6 @@ abbrev known : ℕ → lts.Claims
 known t = (put-reads.Asked, put-reads.Learnt, below t, reads.Post)
 
 module _ (t : ℕ) where
-  add-put : lts.Need-add-put (known t) (at t) reads.Post
-  add-put c = omega arith
-
-  cast-put : lts.Need-cast-put (known t) (at t) reads.Post
-  cast-put c = omega arith
-
-  put-requires : lts.Need-put-requires (known t) (at t) reads.Post
-  put-requires c κs = search needs
-
-  same-length : lts.Need-same-length (known t) (at t) reads.Post
-  same-length c = search needs
-
   returns : lts.Need-returns (known t) (at t) reads.Post
   returns c = due-last (due-all _ _ (omega arith) (omega arith) (decimal-one _ (c .before .before .before .before .if1 .taken)))
       (c .before .before .put .ensures)
@@ -50,30 +38,15 @@ module _ (t : ℕ) where
       Due (s .o .now) (s .at) (decimal (s .n)) (s .o .now) (s .at) (decimal (s .n / 10) ++ ((48 + s .n % 10) ∷ []))
   digits c = due-all _ _ (omega arith) (omega arith) (decimal-more _ (c .if1 .left))
 
-  put-number-requires : lts.Need-put-number-requires (known t) (at t) reads.Post
-  put-number-requires c κs = omega arith
-
-  add-put-2 : lts.Need-add-put-2 (known t) (at t) reads.Post
-  add-put-2 c = omega arith
-
-  cast-put-2 : lts.Need-cast-put-2 (known t) (at t) reads.Post
-  cast-put-2 c = omega arith
-
   last : (c : lts.After-put-number (known t) (at t) reads.Post) → let s = c .before .before .before .before .args in
       Due (s .o .now) (s .at) (decimal (s .n)) (c .put-number .last .0) (c .put-number .result) ((48 + s .n % 10) ∷ [])
   last c = due-next (digits (c .before .before)) (c .put-number .ensures)
 
-  put-requires-2 : lts.Need-put-requires-2 (known t) (at t) reads.Post
-  put-requires-2 c κs = search needs
-
-  same-length-2 : lts.Need-same-length-2 (known t) (at t) reads.Post
-  same-length-2 c = search needs
-
   returns-2 : lts.Need-returns-2 (known t) (at t) reads.Post
-  returns-2 c = due-last (last (c .before .before .before .before .before .before)) (c .before .before .put2 .ensures)
+  returns-2 c = let p = c .before .before in due-last (last (p .before .before .before .before)) (p .put2 .ensures)
 
 pub +put-number-spec : {M : Type 1} → statement M
 +put-number-spec =
     close μ
-    (λ t. lts.spec (known t) (at t) reads.Post (add-put t) (cast-put t) (put-requires t) (same-length t) (returns t) (put-number-requires t)
-    (add-put-2 t) (cast-put-2 t) (put-requires-2 t) (same-length-2 t) (returns-2 t))
+    (λ t. lts.spec (known t) (at t) reads.Post (λ c. omega arith) (λ c. omega arith) (search needs) (search needs) (returns t) (λ c κs. omega arith)
+    (λ c. omega arith) (λ c. omega arith) (search needs) (search needs) (returns-2 t))

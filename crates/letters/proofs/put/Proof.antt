@@ -7,12 +7,6 @@ use borrow.Author.Needs.{needs}
 use Rattle.letters.proofs.put.Statement.{statement}
 use Rattle.letters.proofs.put.Tie as tie
 
-slice-write-o : tie.Need-slice-write-o
-slice-write-o c = search needs
-
-next-requires : tie.Need-next-requires
-next-requires c κs = search needs
-
 same-length : tie.Need-same-length
 same-length c = ⊎-elim (λ w. ap length (w .1) ∙ simp length-set) (λ w. ap length (w .1)) (c .before .if1 .came)
 
@@ -20,4 +14,4 @@ returns : tie.Need-returns
 returns c = record { place = c .next .ensures; bytes = ⊎-elim (λ w. w .1) (λ w. w .1 ∙ sym (set-out _ _ _ (w .0 .left))) (c .before .if1 .came) }
 
 pub put-spec : {M : Type 1} → statement M
-put-spec = tie.close (tie.spec slice-write-o next-requires same-length returns)
+put-spec = tie.close (tie.spec (search needs) (search needs) same-length returns)

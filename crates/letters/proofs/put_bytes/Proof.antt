@@ -20,9 +20,6 @@ abbrev μ-loop : tie.MeasureT-loop
 loop-holds : tie.Need-loop-holds Inv-loop μ-loop
 loop-holds c = (omega arith, due-all _ _ (omega arith) (omega arith) refl, refl)
 
-shared-slice-read-put : tie.Need-shared-slice-read-put Inv-loop μ-loop
-shared-slice-read-put c = omega arith
-
 module _ (c : tie.In-loop Inv-loop μ-loop) where
   abbrev start : tie.Start Inv-loop μ-loop
   start = c .before .before .before .before
@@ -32,15 +29,6 @@ module _ (c : tie.In-loop Inv-loop μ-loop) where
       Due (s .o .now) (s .at) (s .s .now) (c .before .loop .o) (c .before .loop .p)
       (getD (s .s .now) (c .before .loop .i) 0 ∷ drop (c .before .loop .i + 1) (s .s .now))
   next = due-as (c .before .loop .inv .1) (drop-next (start .args .s .now) (c .before .loop .i) 0 (c .loop-test .taken))
-
-put-requires : tie.Need-put-requires Inv-loop μ-loop
-put-requires c κs = search needs
-
-add-i : tie.Need-add-i Inv-loop μ-loop
-add-i c = omega arith
-
-loop-less : tie.Need-loop-less Inv-loop μ-loop
-loop-less c = omega arith
 
 loop-again : tie.Need-loop-again Inv-loop μ-loop
 loop-again c =
@@ -58,15 +46,4 @@ returns c =
 
 pub put-bytes-spec : {M : Type 1} → statement M
 put-bytes-spec =
-    tie.close
-    (tie.spec
-    Inv-loop
-    μ-loop
-    loop-holds
-    shared-slice-read-put
-    put-requires
-    add-i
-    loop-less
-    loop-again
-    same-length
-    returns)
+    tie.close (tie.spec Inv-loop μ-loop loop-holds (λ c. omega arith) (search needs) (λ c. omega arith) (λ c. omega arith) loop-again same-length returns)
