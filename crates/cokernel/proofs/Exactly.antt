@@ -2,18 +2,16 @@
 -- that; none of fewer than two cubes; each step of the walk stands for one. Assumes nothing.
 use Prim.Native.Nat.{ℕ, suc, _+_, _*_, _<_, _≤_}
 use mathlib.Core.Path.{_≡_, refl, sym, _∙_, ap, subst}
-use mathlib.Core.Logic.{_⊎_, inl, inr, _↔_}
-use mathlib.Core.Bool.{Bool, true, false, cond}
-use mathlib.Core.List.{List, [], _∷_, _++_, List·Memᴰ·head as here, List·Memᴰ·tail as there, List·Memᴰ·append-cases, List·Memᴰ·eq-of-singleton}
-use mathlib.Core.List.{Memᴰ·append-left, Memᴰ·append-right}
+use mathlib.Core.Logic.{inl, inr, _↔_}
+use mathlib.Core.Bool.{true, false}
+use mathlib.Core.List.{List, [], _∷_, List·Memᴰ·head as here, List·Memᴰ·tail as there}
 use native.Mathlib.Omega.{arith}
 use lib.Dec.{ltb}
 use lib.ListN.{length}
 use borrow.Author.Tests.{ltb-true, ltb-false}
-use Rattle.sets.specs.Lists.{isSome, pairwise}
-use Rattle.sets.specs.Sets.{mem, sub, asc, insert, firstFrom, before}
+use Rattle.sets.specs.Sets.{mem, sub, asc, insert, before}
 use Rattle.sets.proofs.Truth.{clash, decided}
-use Rattle.sets.proofs.Lists.{_∈_, all-in, all-out, keep-all, keep-length, pairwise-append}
+use Rattle.sets.proofs.Lists.{_∈_, all-in, all-out, keep-all, keep-length}
 use Rattle.sets.proofs.Orders.{before-order, ext-in}
 use Rattle.sets.proofs.Sets.{sub-in, sub-out, ext}
 use Rattle.cube.specs.Cube.{width}
@@ -22,8 +20,8 @@ use Rattle.expression.specs.Expression.{ordered}
 use Rattle.expression.proofs.Words.{cubes-asc, cubes-inside}
 use Rattle.cokernel.specs.Cokernels.{above, common, isCokernel, opens, beyond, cokernels}
 use Rattle.cokernel.proofs.Closing.{Cubes, Held, above-asc, common-more, common-above, cokernel-out, cokernel-iff, common-cokernel}
-use Rattle.cokernel.proofs.Walking.{Prefix, prefix-none, prefix-with, Alike, branch, cond-out, cond-in, mem-there, prefix-past, up-to}
-use Rattle.cokernel.proofs.Walking.{alike-end, alike-before, opens-out, beyond-out, beyond-in, beyond-ordered}
+use Rattle.cokernel.proofs.Walking.{Prefix, prefix-none, prefix-with, SameBelow, branchCubes, mem-there, prefix-past, up-to}
+use Rattle.cokernel.proofs.Walking.{opens-out, beyond-out, beyond-in, beyond-ordered, branch-out, branch-in, branch-ordered}
 
 -- what words hold
 pub held-words : (ws : List ℕ) → Held (2 * width) (cubesOf ws)
@@ -45,21 +43,13 @@ module _ (f : Cubes) where
 
   pub cokernels-out : (c : List ℕ) → c ∈ cokernels f → (asc c ≡ true) × (isCokernel f c ≡ true)
   unfolding cokernels
-  cokernels-out c m = elim (List·Memᴰ·append-cases (cond (isCokernel f []) ([] ∷ []) []) m) [
-    | inl i ↦ let q = cond-out (isCokernel f []) _ i in rw (List·Memᴰ·eq-of-singleton (q .1)) (refl, q .0)
-    | inr i ↦ let b = beyond-out (2 * width) f [] 0 prefix-none c i in (b .rising, b .closed)
-  ]
+  cokernels-out c m =
+      let (r, e, _) = branch-out (2 * width) f [] 0 prefix-none c (beyond-out (2 * width) f [] 0 prefix-none c) m in (r, e)
 
   -- each once, in cube order
   pub cokernels-ordered : ordered (cokernels f) ≡ true
   unfolding cokernels
-  cokernels-ordered = pairwise-append before _ _ (one (isCokernel f [])) (beyond-ordered (2 * width) f [] 0 prefix-none) (λ x y m i.
-      let b = beyond-out (2 * width) f [] 0 prefix-none y i in
-      rw (List·Memᴰ·eq-of-singleton ((cond-out (isCokernel f []) ([] ∷ []) m) .1)) (alike-before 0 y [] (b .rising) prefix-none (b .alike) (b .on)))
-    where
-      one : (b : Bool) → pairwise before (cond b ([] ∷ []) []) ≡ true
-      one true = refl
-      one false = refl
+  cokernels-ordered = branch-ordered (2 * width) f [] 0 prefix-none (beyond-ordered (2 * width) f [] 0 prefix-none)
 
   pub cokernels-few : length f < 2 → cokernels f ≡ []
   cokernels-few h = no-member (cokernels f) (λ c m.
@@ -71,17 +61,8 @@ module _ (f : Cubes) where
   module _ (g : Held (2 * width) f) where
     pub cokernels-in : (c : List ℕ) → asc c ≡ true → isCokernel f c ≡ true → c ∈ cokernels f
     unfolding cokernels
-    cokernels-in c a e = go (decided (isSome (firstFrom 0 c)))
-      where
-        alike : Alike 0 c []
-        alike l s = absurd (omega arith)
-
-        go : (isSome (firstFrom 0 c) ≡ true) ⊎ (isSome (firstFrom 0 c) ≡ false) → c ∈ (cond (isCokernel f []) ([] ∷ []) [] ++ beyond (2 * width) f [] 0)
-        go (inl s) = Memᴰ·append-right (cond (isCokernel f []) ([] ∷ []) [])
-            (beyond-in (2 * width) (2 * width) f [] 0 (omega arith) g prefix-none c (record { rising = a; closed = e; alike = alike; on = s }))
-        go (inr s) =
-            let t = alike-end 0 c [] a prefix-none alike s in
-            Memᴰ·append-left (beyond (2 * width) f [] 0) (cond-in (isCokernel f []) (subst (λ z. isCokernel f z ≡ true) t e) (here t))
+    cokernels-in c a e = branch-in (2 * width) f [] 0 prefix-none c a e (λ l s. absurd (omega arith))
+        (beyond-in (2 * width) (2 * width) f [] 0 (omega arith) g prefix-none c)
 
     -- at least two cubes contain c, and the literals common to all those are exactly c
     pub cokernels-iff : (c : List ℕ) → asc c ≡ true
@@ -99,7 +80,7 @@ module _ (f : Cubes) where
 -- the walk stands at j with p for a co-kernel: what the cubes above p have in common is one, and is alike with p below j
 pub record Alive (f : Cubes) (p : List ℕ) (j : ℕ) : Type 0 where
   pub two : 2 ≤ length (above f p)
-  pub alike : Alike j (common (above f p)) p
+  pub alike : SameBelow j (common (above f p)) p
 
 pub alive-cokernel : (f : Cubes) (p : List ℕ) (j : ℕ) → Alive f p j → isCokernel f (common (above f p)) ≡ true
 alive-cokernel f p j a = common-cokernel f p (a .two)
@@ -133,27 +114,12 @@ alive-apart f p q j h k a b e = ext p q (h .rising) (k .rising) (λ l. elim (dec
 
 -- an open branch lists at least one co-kernel
 pub opened-some : (k n : ℕ) (f : Cubes) (p : List ℕ) (j : ℕ) → n ≡ k + suc j → Held n f → Prefix p j → opens f j (insert j p) ≡ true
-    → 0 < length (branch k f (insert j p) (suc j))
-opened-some k n f p j e g h t = some-member (go (decided (isSome (firstFrom (suc j) c))))
-  where
-    c : List ℕ
-    c = common (above f (insert j p))
-
-    a : Alive f (insert j p) (suc j)
-    a = alive-with f p j t
-
-    closed : isCokernel f c ≡ true
-    closed = alive-cokernel f (insert j p) (suc j) a
-
-    rising : asc c ≡ true
-    rising = above-asc f n (insert j p) g
-
-    go : (isSome (firstFrom (suc j) c) ≡ true) ⊎ (isSome (firstFrom (suc j) c) ≡ false) → c ∈ branch k f (insert j p) (suc j)
-    go (inl s) = Memᴰ·append-right (cond (isCokernel f (insert j p)) (insert j p ∷ []) [])
-        (beyond-in k n f (insert j p) (suc j) e g (prefix-with p j h) c (record { rising = rising; closed = closed; alike = a .alike; on = s }))
-    go (inr s) =
-        let u = alike-end (suc j) c (insert j p) rising (prefix-with p j h) (a .alike) s in
-        Memᴰ·append-left (beyond k f (insert j p) (suc j)) (cond-in (isCokernel f (insert j p)) (subst (λ z. isCokernel f z ≡ true) u closed) (here u))
+    → 0 < length (branchCubes k f (insert j p) (suc j))
+opened-some k n f p j e g h t =
+    let a = alive-with f p j t in
+    let w = prefix-with p j h in
+    some-member (branch-in k f (insert j p) (suc j) w _ (above-asc f n (insert j p) g) (alive-cokernel f (insert j p) (suc j) a) (a .alike)
+    (beyond-in k n f (insert j p) (suc j) e g w _))
 
 -- what the cubes above p have in common is in each co-kernel beyond p: none is, where that has a literal below j that p lacks
 pub beyond-none : (k : ℕ) (f : Cubes) (p : List ℕ) (j l : ℕ) → Prefix p j → l < j → mem l p ≡ false → mem l (common (above f p)) ≡ true → beyond k f p j ≡ []

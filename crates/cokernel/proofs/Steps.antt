@@ -1,6 +1,6 @@
 -- The steps of the search: closing a cube in one pass, opening a branch, going on to the next literal. Assumes nothing.
 use Prim.Native.Nat.{ℕ, suc, zero-le, _+_, _-_, _*_, _<_, _≤_, min}
-use mathlib.Core.Path.{_≡_, refl, sym, _∙_, ap, subst}
+use mathlib.Core.Path.{_≡_, refl, sym, _∙_, subst}
 use mathlib.Core.Logic.{inl, inr}
 use mathlib.Core.Bool.{Bool, true, false, cond, not, _&&_}
 use mathlib.Core.List.{List, [], _∷_, _++_, append-nil}
@@ -17,10 +17,13 @@ use Rattle.sets.proofs.First.{none-first, some-first, IsFirst}
 use Rattle.sets.proofs.Places.{drop-next}
 use Rattle.sets.proofs.Sets.{without-mem, all-mem, mem-all, sub-out}
 use Rattle.cube.specs.Cube.{width, joined}
+use Rattle.sets.proofs.Rows.{nil-of}
+use Rattle.expression.specs.Words.{Placed}
+use Rattle.expression.proofs.Placing.{placed-none, placed-then, placed-length}
 use Rattle.cokernel.specs.Cokernels.{above, common, isCokernel, opens, beyond}
-use Rattle.cokernel.specs.Parts.{only, Shared, Branched, Walks}
+use Rattle.cokernel.specs.Parts.{only, Shared, Branched, Walks, Walked}
 use Rattle.cokernel.proofs.Closing.{Cubes, Held, above-asc, common-above}
-use Rattle.cokernel.proofs.Walking.{Prefix, prefix-on, prefix-with, prefix-past, Alike, opens-out, opens-in}
+use Rattle.cokernel.proofs.Walking.{Prefix, prefix-on, prefix-with, prefix-past, SameBelow, opens-out, opens-in}
 use Rattle.cokernel.proofs.Exactly.{beyond-none}
 
 -- ---- closing a cube, from the last cube to the first
@@ -71,7 +74,7 @@ module _ (n : ℕ) (f : Cubes) (g : Held n f) (j : ℕ) (q : List ℕ) (a : asc 
       (λ h. let w = opens-out f j q h in together _ _ (le-leb _ _ (w .0))
       (all-mem (leb j) (without m q) (λ l i. from-j (w .1) l (both (mem l m) (not (mem l q)) (sym (without-mem l m q) ∙ i)))))
     where
-      alike : 2 ≤ length (above f q) → all (leb j) (without m q) ≡ true → Alike j m q
+      alike : 2 ≤ length (above f q) → all (leb j) (without m q) ≡ true → SameBelow j m q
       alike two h l s = iff
           (λ i. elim (decided (mem l q)) [
             | inl t ↦ t
@@ -80,7 +83,7 @@ module _ (n : ℕ) (f : Cubes) (g : Held n f) (j : ℕ) (q : List ℕ) (a : asc 
           ])
           (λ i. sub-out q m l (common-above f q (omega arith)) i)
 
-      from-j : Alike j m q → (l : ℕ) → (mem l m ≡ true) × (not (mem l q) ≡ true) → leb j l ≡ true
+      from-j : SameBelow j m q → (l : ℕ) → (mem l m ≡ true) × (not (mem l q) ≡ true) → leb j l ≡ true
       from-j k l (i, t) = elim (decided (ltb l j)) [
         | inl u ↦ clash (sym (k l (ltb-true l j u)) ∙ i) (not-true (mem l q) t)
         | inr u ↦ omega (arith, ltb-false l j u, le-leb)
@@ -125,25 +128,18 @@ module _ (f : Cubes) (p : List ℕ) (j : ℕ) where
       let k : 2 * width - j ≡ suc (2 * width - (j + 1)) = omega arith in
       rw (k, b .closed, b .opened, b .cube, add-one j)
 
-  module _ (h : j < 2 * width) (q m : List ℕ) (o e : Bool) (b : Branched f p j q m o e) where
-    pub beyond-length : length (beyond (2 * width - j) f p j) ≡ length (withIt f j q o e) + length (beyond (2 * width - (j + 1)) f p (j + 1))
-    beyond-length = ap length (beyond-next h q m o e b) ∙ length-append (withIt f j q o e) (beyond (2 * width - (j + 1)) f p (j + 1))
-
-    pub with-length : o ≡ true → length (withIt f j q o e) ≡ length (only e q) + length (beyond (2 * width - (j + 1)) f q (j + 1))
-    with-length t = rw t (length-append (only e q) (beyond (2 * width - (j + 1)) f q (j + 1)))
-
 module _ (f : Cubes) (p m : List ℕ) (j : ℕ) (w : Walks f p m j) where
   pub walks-on : j < 2 * width → Walks f p m (j + 1)
   walks-on h = record { inside = omega arith; low = λ l i. omega (arith, w .low l i); common = w .common }
 
   module _ (a : asc p ≡ true) where
-    prefix : Prefix p j
-    prefix = record { rising = a; low = w .low }
+    walks-prefix : Prefix p j
+    walks-prefix = record { rising = a; low = w .low }
 
     pub walks-with : (q r : List ℕ) (o e : Bool) → j < 2 * width → Branched f p j q r o e → Walks f q r (j + 1)
     walks-with q r o e h b = record {
       inside = omega arith;
-      low = λ l i. omega (arith, (prefix-with p j prefix) .low l (subst (λ z. mem l z ≡ true) (b .cube) i));
+      low = λ l i. omega (arith, (prefix-with p j walks-prefix) .low l (subst (λ z. mem l z ≡ true) (b .cube) i));
       common = b .common;
     }
 
@@ -152,20 +148,33 @@ module _ (f : Cubes) (p m : List ℕ) (j : ℕ) (w : Walks f p m j) where
     beyond-last q r o e h b i = beyond-next f p j h q r o e b ∙ rw (none, append-nil)
       where
         none : beyond (2 * width - (j + 1)) f p (j + 1) ≡ []
-        none = rw (add-one j) (beyond-none (2 * width - suc j) f p (suc j) j (prefix-on p j prefix) (omega arith) (prefix-past p j prefix j (omega arith))
+        none = rw (add-one j) (beyond-none (2 * width - suc j) f p (suc j) j (prefix-on p j walks-prefix) (omega arith)
+            (prefix-past p j walks-prefix j (omega arith))
             (subst (λ z. mem j z ≡ true) (w .common) i))
 
--- ---- counting, up to a most
+-- ---- counted, and put where there are places
 
-module _ (most : ℕ) where
-  -- one cube or none, and then those beyond it
-  pub count-open : (b : Bool) (q : List ℕ) (l : Cubes) (here n : ℕ) → 0 < most → here ≡ cond b 1 0 → n ≡ min (most - here) (length l)
-      → here + n ≡ min most (length (only b q ++ l))
-  count-open true q l here n h e k = omega arith
-  count-open false q l here n h e k = omega arith
+-- nothing is to come, or all that is counted is
+pub walked-still : (ws : List ℕ) (most i : ℕ) (g : Cubes) → i ≡ min most (i + length g) → Walked ws ws most i g i
+walked-still ws most i g e = record { next = e; placed = λ h k. rw (nil-of g (omega arith)) (placed-none ws i) }
 
-  pub count-next : (f : Cubes) (p : List ℕ) (j : ℕ) (q r : List ℕ) (o e : Bool) (n k : ℕ) → j < 2 * width → Branched f p j q r o e
-      → n ≡ min most (length (withIt f j q o e))
-      → k ≡ min (most - n) (length (beyond (2 * width - (j + 1)) f p (j + 1))) → n + k ≡ min most (length (beyond (2 * width - j) f p j))
-  count-next f p j q r o e n k h b t u = rw (beyond-next f p j h q r o e b)
-      (omega (arith, length-append (withIt f j q o e) (beyond (2 * width - (j + 1)) f p (j + 1))))
+pub walked-then : {old mid new : List ℕ} {most i r s : ℕ} {g k : Cubes} → Walked old mid most i g r → Walked mid new most r k s
+    → Walked old new most i (g ++ k) s
+walked-then {mid = mid} {new} {i = i} {r} {g = g} {k} p q = record {
+  next = omega (arith, length-append g k, p .next, q .next);
+  placed = λ h t.
+      let l = length-append g k in
+      let first = p .placed (omega arith) (omega arith) in
+      let e : r ≡ i + length g = omega (arith, p .next) in
+      placed-then first (omega arith) (subst (λ n. Placed mid new n k) e
+      (q .placed (omega arith) (omega (arith, placed-length first (omega arith)))));
+}
+
+-- one cube or none, before counting stops
+pub walked-only : {old new : List ℕ} {i r : ℕ} (most : ℕ) (b : Bool) (c : List ℕ) → i < most → Walked old new (i + 1) i (only b c) r
+    → Walked old new most i (only b c) r
+walked-only {i = i} most b c h p = record { next = omega (arith, few b, p .next); placed = λ s t. p .placed (few b) t }
+  where
+    few : (b : Bool) → i + length (only b c) ≤ i + 1
+    few true = omega arith
+    few false = omega arith

@@ -1,27 +1,25 @@
 -- The whole answer: the empty cube, then those beyond it; and what is told of it. Assumes nothing.
-use Prim.Native.Nat.{ℕ, zero-le, _+_, _-_, _*_, _<_, _≤_, min}
+use Prim.Native.Nat.{ℕ, zero-le, _+_, _-_, _*_, _<_, _≤_}
 use mathlib.Core.Path.{_≡_, refl, sym, _∙_, ap}
-use mathlib.Core.Bool.{Bool, true, cond, _&&_}
+use mathlib.Core.Bool.{Bool, true, _&&_}
 use mathlib.Core.List.{List, [], _++_}
 use mathlib.Core.Option.{Option, none, some}
 use lib.Dec.{leb}
-use native.Mathlib.Omega.{arith}
-use lib.ListN.{length, length-append}
+use lib.ListN.{length}
 use borrow.Author.Tests.{lt-ltb, le-ltb}
 use Rattle.sets.specs.Sets.{same}
 use Rattle.cube.specs.Cube.{width}
-use Rattle.expression.specs.Words.{cubesOf, Written, Appends}
+use Rattle.expression.specs.Words.{cubesOf, Written}
 use Rattle.expression.specs.Answers.{refusal}
 use Rattle.expression.proofs.Words.{fit, written-one}
-use Rattle.expression.proofs.Placing.{placed-as, appends-then}
 use Rattle.cokernel.specs.Cokernels.{beyond, cokernels}
 use Rattle.cokernel.specs.Answers.{refusedBy, Told}
-use Rattle.cokernel.specs.Parts.{only, Shared, Walks}
+use Rattle.cokernel.specs.Parts.{only, Shared, Walks, Walked}
 use Rattle.cokernel.specs.declared.Listed.{Listed}
 use Rattle.cokernel.specs.declared.Listed.the-variants.{All, Refused}
 use Rattle.cokernel.proofs.Closing.{Cubes}
 use Rattle.cokernel.proofs.Walking.{prefix-none}
-use Rattle.cokernel.proofs.Steps.{cokernel-test, count-open}
+use Rattle.cokernel.proofs.Steps.{cokernel-test, walked-then, walked-only}
 
 module _ (f : Cubes) (p : List ℕ) (e : p ≡ []) (n : ℕ) (m : List ℕ) (c : Shared f p n m) where
   pub walks-first : Walks f p m 0
@@ -32,16 +30,9 @@ module _ (f : Cubes) (p : List ℕ) (e : p ≡ []) (n : ℕ) (m : List ℕ) (c :
     unfolding cokernels
     whole = rw (h, c .number, c .common, cokernel-test f p, e)
 
-    pub whole-length : length (only b p) + length (beyond (2 * width) f p 0) ≡ length (cokernels f)
-    whole-length = sym (length-append (only b p) (beyond (2 * width) f p 0)) ∙ ap length whole
-
-    pub whole-count : (most here k : ℕ) → 0 < most → here ≡ cond b 1 0 → k ≡ min (most - here) (length (beyond (2 * width) f p 0))
-        → here + k ≡ min most (length (cokernels f))
-    whole-count most here k t u v = count-open most b p (beyond (2 * width) f p 0) here k t u v ∙ ap (λ l. min most (length l)) whole
-
-    pub whole-written : {old new mid : List ℕ} {i j : ℕ} → length (cokernels f) ≤ length (cubesOf old)
-        → Appends old mid 0 (only b p) i → Appends mid new i (beyond (2 * width) f p 0) j → Written old new (cokernels f)
-    whole-written t u v = placed-as whole (appends-then u (omega (arith, u .next, whole-length)) v .placed)
+    pub whole-walked : {old mid new : List ℕ} {i r : ℕ} (most : ℕ) → 0 < most → Walked old mid 1 0 (only b p) i
+        → Walked mid new most i (beyond (2 * width) f p 0) r → Walked old new most 0 (cokernels f) r
+    whole-walked most s u v = rw (← whole) (walked-then (walked-only most b p s u) v)
 
 -- ---- what is told
 

@@ -69,14 +69,14 @@ mem-with p j l h = insert-mem l j p ∙ rw (ne-eqb l j (λ (e : l ≡ j). omega 
 pub mem-there : (p : List ℕ) (j : ℕ) → mem j (insert j p) ≡ true
 mem-there p j = insert-mem j j p ∙ rw (eq-eqb j j refl)
 
-abbrev pub Alike : ℕ → List ℕ → List ℕ → Type 0
-Alike j a b = (l : ℕ) → l < j → mem l a ≡ mem l b
+abbrev pub SameBelow : ℕ → List ℕ → List ℕ → Type 0
+SameBelow j a b = (l : ℕ) → l < j → mem l a ≡ mem l b
 
-pub up-to : (j : ℕ) (a b : List ℕ) → Alike j a b → mem j a ≡ mem j b → Alike (suc j) a b
+pub up-to : (j : ℕ) (a b : List ℕ) → SameBelow j a b → mem j a ≡ mem j b → SameBelow (suc j) a b
 up-to j a b h e l k = elim (stand l j) [ lower s _ _ ↦ h l s | equal s _ _ ↦ rw s e | upper s _ _ ↦ absurd (omega arith) ]
 
 -- a cube that is alike and does not go on is the prefix
-pub alike-end : (j : ℕ) (c p : List ℕ) → asc c ≡ true → Prefix p j → Alike j c p → isSome (firstFrom j c) ≡ false → c ≡ p
+pub alike-end : (j : ℕ) (c p : List ℕ) → asc c ≡ true → Prefix p j → SameBelow j c p → isSome (firstFrom j c) ≡ false → c ≡ p
 alike-end j c p a h k e = ext c p a (h .rising) (λ l. elim (stand l j) [
   | lower s _ _ ↦ k l s
   | equal s _ _ ↦ past l (omega arith)
@@ -87,7 +87,7 @@ alike-end j c p a h k e = ext c p a (h .rising) (λ l. elim (stand l j) [
     past l s = on-none j c e l s ∙ sym (prefix-past p j h l s)
 
 -- one that is alike and goes on comes after the prefix
-pub alike-before : (j : ℕ) (c p : List ℕ) → asc c ≡ true → Prefix p j → Alike j c p → isSome (firstFrom j c) ≡ true → before p c ≡ true
+pub alike-before : (j : ℕ) (c p : List ℕ) → asc c ≡ true → Prefix p j → SameBelow j c p → isSome (firstFrom j c) ≡ true → before p c ≡ true
 alike-before j c p a h k s = go (on-out j c a s)
   where
     go : ((l : ℕ) × (j ≤ l) × (mem l c ≡ true) × ((i : ℕ) → j ≤ i → i < l → mem i c ≡ false)) → before p c ≡ true
@@ -113,14 +113,14 @@ below-past : (j : ℕ) (c : List ℕ) (l : ℕ) → j ≤ l → mem l (below j c
 below-past j c l h = refuted (λ m. let q = both (mem l c) (ltb l j) (sym (keep-mem (λ x. ltb x j) l c) ∙ m) in omega (arith, ltb-true l j (q .1)))
 
 module _ (f : Cubes) (j : ℕ) (c : List ℕ) where
-  pub opens-out : opens f j c ≡ true → (2 ≤ length (above f c)) × Alike j (common (above f c)) c
+  pub opens-out : opens f j c ≡ true → (2 ≤ length (above f c)) × SameBelow j (common (above f c)) c
   unfolding opens
   opens-out h =
       let q = both (leb 2 (length (above f c))) (same (below j (common (above f c))) (below j c)) h in
       let e = same-eq (below j (common (above f c))) (below j c) (q .1) in
       (leb-true _ _ (q .0), λ l k. sym (below-mem j (common (above f c)) l k) ∙ ap (mem l) e ∙ below-mem j c l k)
 
-  pub opens-in : asc (common (above f c)) ≡ true → asc c ≡ true → 2 ≤ length (above f c) → Alike j (common (above f c)) c → opens f j c ≡ true
+  pub opens-in : asc (common (above f c)) ≡ true → asc c ≡ true → 2 ≤ length (above f c) → SameBelow j (common (above f c)) c → opens f j c ≡ true
   unfolding opens
   opens-in a b h k = together _ _ (le-leb _ _ h) (eq-same _ _
       (ext (below j (common (above f c))) (below j c) (pairwise-keep ltb (λ x. ltb x j) (common (above f c)) a) (pairwise-keep ltb (λ x. ltb x j) c b)
@@ -135,10 +135,10 @@ module _ (f : Cubes) (j : ℕ) (c : List ℕ) where
 -- ---- what the walk lists
 
 -- c is a co-kernel that is alike with p below j and goes on from there
-pub record Beyond (f : Cubes) (p : List ℕ) (j : ℕ) (c : List ℕ) : Type 0 where
+pub record GoesOn (f : Cubes) (p : List ℕ) (j : ℕ) (c : List ℕ) : Type 0 where
   pub rising : asc c ≡ true
   pub closed : isCokernel f c ≡ true
-  pub alike : Alike j c p
+  pub alike : SameBelow j c p
   pub on : isSome (firstFrom j c) ≡ true
 
 pub cond-out : {x : List ℕ} (b : Bool) (l : Cubes) → x ∈ cond b l [] → (b ≡ true) × (x ∈ l)
@@ -150,37 +150,42 @@ cond-in true h m = m
 cond-in false h m = clash h refl
 
 -- what an open branch lists: its own cube, if that is a co-kernel, and those beyond it
-abbrev pub branch : ℕ → Cubes → List ℕ → ℕ → Cubes
-branch k f q j = cond (isCokernel f q) (q ∷ []) [] ++ beyond k f q j
+abbrev pub branchCubes : ℕ → Cubes → List ℕ → ℕ → Cubes
+branchCubes k f q j = cond (isCokernel f q) (q ∷ []) [] ++ beyond k f q j
 
-pub beyond-out : (k : ℕ) (f : Cubes) (p : List ℕ) (j : ℕ) → Prefix p j → (c : List ℕ) → c ∈ beyond k f p j → Beyond f p j c
+module _ (k : ℕ) (f : Cubes) (q : List ℕ) (j : ℕ) (h : Prefix q j) (c : List ℕ) where
+  pub branch-out : (c ∈ beyond k f q j → GoesOn f q j c) → c ∈ branchCubes k f q j → (asc c ≡ true) × (isCokernel f c ≡ true) × SameBelow j c q
+  branch-out w m = elim (List·Memᴰ·append-cases (cond (isCokernel f q) (q ∷ []) []) m) [
+    | inl i ↦ let o = cond-out (isCokernel f q) _ i in rw (List·Memᴰ·eq-of-singleton (o .1)) (h .rising, o .0, λ l s. refl)
+    | inr i ↦ let b = w i in (b .rising, b .closed, b .alike)
+  ]
+
+  pub branch-in : asc c ≡ true → isCokernel f c ≡ true → SameBelow j c q → (GoesOn f q j c → c ∈ beyond k f q j) → c ∈ branchCubes k f q j
+  branch-in r e a w = elim (decided (isSome (firstFrom j c))) [
+    | inl s ↦ Memᴰ·append-right (cond (isCokernel f q) (q ∷ []) []) (w (record { rising = r; closed = e; alike = a; on = s }))
+    | inr s ↦
+        let t = alike-end j c q r h a s in
+        Memᴰ·append-left (beyond k f q j) (cond-in (isCokernel f q) (subst (λ z. isCokernel f z ≡ true) t e) (here t))
+  ]
+
+pub beyond-out : (k : ℕ) (f : Cubes) (p : List ℕ) (j : ℕ) → Prefix p j → (c : List ℕ) → c ∈ beyond k f p j → GoesOn f p j c
 unfolding beyond
 beyond-out zero f p j h c m = absurd (List·Memᴰ·not-nil m)
 beyond-out (suc k) f p j h c m =
     go (beyond-out k f (insert j p) (suc j) (prefix-with p j h) c) (beyond-out k f p (suc j) (prefix-on p j h) c)
-    (List·Memᴰ·append-cases (cond (opens f j (insert j p)) (branch k f (insert j p) (suc j)) []) m)
+    (List·Memᴰ·append-cases (cond (opens f j (insert j p)) (branchCubes k f (insert j p) (suc j)) []) m)
   where
-    with-it : mem j c ≡ true → Alike (suc j) c (insert j p) → isCokernel f c ≡ true → asc c ≡ true → Beyond f p j c
-    with-it i a e r = record { rising = r; closed = e; alike = λ l s. a l (omega arith) ∙ mem-with p j l s; on = on-in j c j (omega arith) i }
-
-    inner : (c ∈ beyond k f (insert j p) (suc j) → Beyond f (insert j p) (suc j) c)
-        → (c ∈ cond (isCokernel f (insert j p)) (insert j p ∷ []) []) ⊎ (c ∈ beyond k f (insert j p) (suc j)) → Beyond f p j c
-    inner w (inl i) =
-        let q = cond-out (isCokernel f (insert j p)) (insert j p ∷ []) i in
-        let e = List·Memᴰ·eq-of-singleton (q .1) in
-        rw e (record {
-          rising = insert-asc j p (h .rising);
-          closed = q .0;
-          alike = λ l s. mem-with p j l s;
-          on = on-in j (insert j p) j (omega arith)
-              (mem-there p j);
-        })
-    inner w (inr i) = let r = w i in with-it (r .alike j (omega arith) ∙ mem-there p j) (r .alike) (r .closed) (r .rising)
-
-    go : (c ∈ beyond k f (insert j p) (suc j) → Beyond f (insert j p) (suc j) c) → (c ∈ beyond k f p (suc j) → Beyond f p (suc j) c)
-        → (c ∈ cond (opens f j (insert j p)) (branch k f (insert j p) (suc j)) []) ⊎ (c ∈ beyond k f p (suc j))
-        → Beyond f p j c
-    go w v (inl i) = inner w (List·Memᴰ·append-cases (cond (isCokernel f (insert j p)) (insert j p ∷ []) []) ((cond-out (opens f j (insert j p)) _ i) .1))
+    go : (c ∈ beyond k f (insert j p) (suc j) → GoesOn f (insert j p) (suc j) c) → (c ∈ beyond k f p (suc j) → GoesOn f p (suc j) c)
+        → (c ∈ cond (opens f j (insert j p)) (branchCubes k f (insert j p) (suc j)) []) ⊎ (c ∈ beyond k f p (suc j))
+        → GoesOn f p j c
+    go w v (inl i) =
+        let (r, e, a) = branch-out k f (insert j p) (suc j) (prefix-with p j h) c w ((cond-out (opens f j (insert j p)) _ i) .1) in
+        record {
+          rising = r;
+          closed = e;
+          alike = λ l s. a l (omega arith) ∙ mem-with p j l s;
+          on = on-in j c j (omega arith) (a j (omega arith) ∙ mem-there p j);
+        }
     go w v (inr i) =
         let r = v i in let s = on-out (suc j) c (r .rising) (r .on) in
         record { rising = r .rising; closed = r .closed; alike = λ l u. r .alike l (omega arith); on = on-in j c (s .0) (omega (arith, s .1)) (s .2) }
@@ -188,7 +193,7 @@ beyond-out (suc k) f p j h c m =
 -- the literals that p and j are among have the cubes of c above them
 module _ (n : ℕ) (f : Cubes) (p : List ℕ) (j : ℕ) (g : Held n f) (h : Prefix p j) where
   -- where c has j besides, the branch with j is open
-  branch-open : (c : List ℕ) → isCokernel f c ≡ true → Alike j c p → mem j c ≡ true → opens f j (insert j p) ≡ true
+  branch-open : (c : List ℕ) → isCokernel f c ≡ true → SameBelow j c p → mem j c ≡ true → opens f j (insert j p) ≡ true
   branch-open c e a m = opens-in f j (insert j p) (above-asc f n (insert j p) g) (insert-asc j p (h .rising))
       (omega (arith, above-fewer f (insert j p) c inside, two))
       (λ l s. elim (decided (mem l (insert j p))) [
@@ -205,7 +210,7 @@ module _ (n : ℕ) (f : Cubes) (p : List ℕ) (j : ℕ) (g : Held n f) (h : Pref
           [ inl t ↦ rw (eqb-true l j t) m | inr t ↦ a l (h .low l t) ∙ t ])
 
 -- where the literals of the cubes are all below j + k
-pub beyond-in : (k n : ℕ) (f : Cubes) (p : List ℕ) (j : ℕ) → n ≡ k + j → Held n f → Prefix p j → (c : List ℕ) → Beyond f p j c → c ∈ beyond k f p j
+pub beyond-in : (k n : ℕ) (f : Cubes) (p : List ℕ) (j : ℕ) → n ≡ k + j → Held n f → Prefix p j → (c : List ℕ) → GoesOn f p j c → c ∈ beyond k f p j
 unfolding beyond
 beyond-in zero n f p j e g h c b =
     let s = on-out j c (b .rising) (b .on) in let q = cokernel-out f c (b .closed) in
@@ -223,25 +228,16 @@ beyond-in (suc k) n f p j e g h c b =
     go (decided (mem j c)) (beyond-in k n f (insert j p) (suc j) (omega arith) g (prefix-with p j h) c)
     (beyond-in k n f p (suc j) (omega arith) g (prefix-on p j h) c)
   where
-    go : (mem j c ≡ true) ⊎ (mem j c ≡ false) → (Beyond f (insert j p) (suc j) c → c ∈ beyond k f (insert j p) (suc j))
-        → (Beyond f p (suc j) c → c ∈ beyond k f p (suc j))
-        → c ∈ (cond (opens f j (insert j p)) (branch k f (insert j p) (suc j)) [] ++ beyond k f p (suc j))
+    go : (mem j c ≡ true) ⊎ (mem j c ≡ false) → (GoesOn f (insert j p) (suc j) c → c ∈ beyond k f (insert j p) (suc j))
+        → (GoesOn f p (suc j) c → c ∈ beyond k f p (suc j))
+        → c ∈ (cond (opens f j (insert j p)) (branchCubes k f (insert j p) (suc j)) [] ++ beyond k f p (suc j))
     go (inl m) w v = Memᴰ·append-left (beyond k f p (suc j))
-        (cond-in (opens f j (insert j p)) (branch-open n f p j g h c (b .closed) (b .alike) m) (inner (decided (isSome (firstFrom (suc j) c)))))
-      where
-        alike : Alike (suc j) c (insert j p)
-        alike = up-to j c (insert j p) (λ l s. b .alike l s ∙ sym (mem-with p j l s)) (m ∙ sym (mem-there p j))
-
-        inner : (isSome (firstFrom (suc j) c) ≡ true) ⊎ (isSome (firstFrom (suc j) c) ≡ false)
-            → c ∈ (branch k f (insert j p) (suc j))
-        inner (inl s) = Memᴰ·append-right (cond (isCokernel f (insert j p)) (insert j p ∷ []) [])
-            (w (record { rising = b .rising; closed = b .closed; alike = alike; on = s }))
-        inner (inr s) =
-            let t = alike-end (suc j) c (insert j p) (b .rising) (prefix-with p j h) alike s in
-            Memᴰ·append-left (beyond k f (insert j p) (suc j)) (cond-in (isCokernel f (insert j p)) (subst (λ z. isCokernel f z ≡ true) t (b .closed)) (here t))
+        (cond-in (opens f j (insert j p)) (branch-open n f p j g h c (b .closed) (b .alike) m)
+        (branch-in k f (insert j p) (suc j) (prefix-with p j h) c (b .rising) (b .closed)
+        (up-to j c (insert j p) (λ l s. b .alike l s ∙ sym (mem-with p j l s)) (m ∙ sym (mem-there p j))) w))
     go (inr m) w v =
         let s = on-out j c (b .rising) (b .on) in
-        Memᴰ·append-right (cond (opens f j (insert j p)) (branch k f (insert j p) (suc j)) []) (v (record {
+        Memᴰ·append-right (cond (opens f j (insert j p)) (branchCubes k f (insert j p) (suc j)) []) (v (record {
           rising = b .rising;
           closed = b .closed;
           alike = up-to j c p (b .alike) (m ∙ sym (prefix-past p j h j (omega arith)));
@@ -258,37 +254,35 @@ beyond-in (suc k) n f p j e g h c b =
 
 -- ---- in cube order
 
+pub branch-ordered : (k : ℕ) (f : Cubes) (q : List ℕ) (j : ℕ) → Prefix q j → pairwise before (beyond k f q j) ≡ true
+    → pairwise before (branchCubes k f q j) ≡ true
+branch-ordered k f q j h r = pairwise-append before _ _ (one (isCokernel f q)) r (λ x y m i.
+    let b = beyond-out k f q j h y i in
+    let e : x ≡ q = List·Memᴰ·eq-of-singleton ((cond-out (isCokernel f q) (q ∷ []) m) .1) in
+    rw e (alike-before j y q (b .rising) h (b .alike) (b .on)))
+  where
+    one : (b : Bool) → pairwise before (cond b (q ∷ []) []) ≡ true
+    one true = refl
+    one false = refl
+
 pub beyond-ordered : (k : ℕ) (f : Cubes) (p : List ℕ) (j : ℕ) → Prefix p j → pairwise before (beyond k f p j) ≡ true
 unfolding beyond
 beyond-ordered zero f p j h = refl
 beyond-ordered (suc k) f p j h = pairwise-append before _ _ (first (opens f j (insert j p)) (beyond-ordered k f (insert j p) (suc j) (prefix-with p j h)))
     (beyond-ordered k f p (suc j) (prefix-on p j h)) across
   where
-    one : (b : Bool) → pairwise before (cond b (insert j p ∷ []) []) ≡ true
-    one true = refl
-    one false = refl
-
-    first : (b : Bool) → pairwise before (beyond k f (insert j p) (suc j)) ≡ true → pairwise before (cond b (branch k f (insert j p) (suc j)) []) ≡ true
-    first true r = pairwise-append before _ _ (one (isCokernel f (insert j p))) r (λ x y m i.
-        let b = beyond-out k f (insert j p) (suc j) (prefix-with p j h) y i in
-        let e = List·Memᴰ·eq-of-singleton ((cond-out (isCokernel f (insert j p)) _ m) .1) in
-        rw e (alike-before (suc j) y (insert j p) (b .rising) (prefix-with p j h) (b .alike) (b .on)))
+    first : (b : Bool) → pairwise before (beyond k f (insert j p) (suc j)) ≡ true → pairwise before (cond b (branchCubes k f (insert j p) (suc j)) []) ≡ true
+    first true r = branch-ordered k f (insert j p) (suc j) (prefix-with p j h) r
     first false r = refl
 
     -- those with j, and those without it
-    has-j : (x : List ℕ) → x ∈ cond (opens f j (insert j p)) (branch k f (insert j p) (suc j)) []
-        → (asc x ≡ true) × Alike (suc j) x (insert j p)
-    has-j x m = elim (List·Memᴰ·append-cases (cond (isCokernel f (insert j p)) (insert j p ∷ []) []) ((cond-out (opens f j (insert j p)) _ m) .1)) [
-      | inl i ↦ let e = List·Memᴰ·eq-of-singleton ((cond-out (isCokernel f (insert j p)) _ i) .1) in rw e (insert-asc j p (h .rising), λ l s. refl)
-      | inr i ↦ let b = beyond-out k f (insert j p) (suc j) (prefix-with p j h) x i in (b .rising, b .alike)
-    ]
-
-    across : (x y : List ℕ) → x ∈ cond (opens f j (insert j p)) (branch k f (insert j p) (suc j)) []
+    across : (x y : List ℕ) → x ∈ cond (opens f j (insert j p)) (branchCubes k f (insert j p) (suc j)) []
         → y ∈ beyond k f p (suc j) → before x y ≡ true
     across x y m i =
-        let a = has-j x m in
+        let w = prefix-with p j h in
+        let (r, _, a) = branch-out k f (insert j p) (suc j) w x (beyond-out k f (insert j p) (suc j) w x) ((cond-out (opens f j (insert j p)) _ m) .1) in
         let b = beyond-out k f p (suc j) (prefix-on p j h) y i in
         let s = on-out (suc j) y (b .rising) (b .on) in
-        before-first x y j (a .0) (b .rising) (λ l u. a .1 l (omega arith) ∙ mem-with p j l u ∙ sym (b .alike l (omega arith)))
-        (a .1 j (omega arith) ∙ mem-there p j) (b .alike j (omega arith) ∙ prefix-past p j h j (omega arith))
+        before-first x y j r (b .rising) (λ l u. a l (omega arith) ∙ mem-with p j l u ∙ sym (b .alike l (omega arith)))
+        (a j (omega arith) ∙ mem-there p j) (b .alike j (omega arith) ∙ prefix-past p j h j (omega arith))
         ∙ on-in j y (s .0) (omega (arith, s .1)) (s .2)

@@ -5,16 +5,16 @@ use cube::Literal;
 use expression::Verdict;
 ghost use mathlib.Core.Path.{_≡_};
 ghost use mathlib.Core.Bool.{cond, _&&_};
-ghost use Prim.Native.Nat.{_+_, _-_, _*_, _<_, _≤_, min};
+ghost use Prim.Native.Nat.{_+_, _-_, _*_, _<_, _≤_};
 ghost use lib.Dec.{leb, eqb};
-ghost use lib.ListN.{length};
+ghost use Rattle.sets.specs.Word.{largest};
 ghost use Rattle.sets.specs.Lists.{all};
 ghost use Rattle.sets.specs.Sets.{without, meet, same};
 ghost use Rattle.cube.specs.Cube.{width, lits};
-ghost use Rattle.expression.specs.Words.{cubesOf, Written, Appends};
+ghost use Rattle.expression.specs.Words.{cubesOf};
 ghost use Rattle.cokernel.specs.Cokernels.{beyond, cokernels};
 ghost use Rattle.cokernel.specs.Answers.{refusedBy, Told};
-ghost use Rattle.cokernel.specs.Parts.{only, Shared, Branched, Walks};
+ghost use Rattle.cokernel.specs.Parts.{only, Shared, Branched, Walks, Walked};
 
 // The fewest cubes that contain a co-kernel.
 const FEWEST: usize = 2;
@@ -120,44 +120,10 @@ fn branch_at(f: &[u64], p: Cube, j: u32) -> Branch
     }
 }
 
-// The number of cubes that a test adds.
-fn one_if(b: bool) -> usize
-    ensures { λ r. ⌜ (r ≡ cond b 1 0) × (r ≤ 1) ⌝ }
-{
-    if b { 1 } else { 0 }
-}
-
-// How many co-kernels have p's literals below j and go on from there; no more than most are made. m is what the cubes above p have in
-// common, and where it has j, so has each of these. So every call stands for a co-kernel, m, and two at one literal for different ones
-// (`alive-apart`): one answer costs at most a pass over the cubes for each literal.
-fn count_beyond(f: &[u64], p: Cube, m: Cube, j: u32, most: usize) -> usize
-    requires { ⌜ Walks (cubesOf (now f)) (lits p) (lits m) j ⌝ }
-    ensures { λ r. ⌜ r ≡ min most (length (beyond (2 * width - j) (cubesOf (now (f .entry))) (lits p) j)) ⌝ }
-{
-    if j == cube::LITERALS {
-        return 0;
-    }
-    if most == 0 {
-        return 0;
-    }
-    let b = branch_at(f, p, j);
-    let mut n = 0;
-    if b.opened {
-        let q = b.cube;
-        let common = b.common;
-        let here = one_if(b.closed);
-        n = here + count_beyond(f, q, common, j + 1, most - here);
-    }
-    if cube::has(m, Literal(j)) {
-        return n;
-    }
-    n + count_beyond(f, p, m, j + 1, most - n)
-}
-
-// The cube c at place i, if it is wanted; the place after it.
+// The cube c at place i, if it is wanted and there is such a place; the place after it.
 fn put_if(o: &mut [u64], i: usize, c: Cube, wanted: bool) -> usize
-    requires { ⌜ i + length (only wanted (lits c)) ≤ length (cubesOf (now o)) ⌝ }
-    ensures { λ r. ⌜ Appends (now (o .entry)) (now (o .exit)) i (only wanted (lits c)) r ⌝ }
+    requires { ⌜ i < largest ⌝ }
+    ensures { λ r. ⌜ Walked (now (o .entry)) (now (o .exit)) (i + 1) i (only wanted (lits c)) r ⌝ }
 {
     if !wanted {
         return i;
@@ -166,13 +132,18 @@ fn put_if(o: &mut [u64], i: usize, c: Cube, wanted: bool) -> usize
     i + 1
 }
 
-// The same walk puts them into o, from place i on, and answers the place after them.
-fn write_beyond(f: &[u64], p: Cube, m: Cube, j: u32, o: &mut [u64], i: usize) -> usize
+// The co-kernels that have p's literals below j and go on from there, into o from place i on: the place after them, where counting stops
+// at most. m is what the cubes above p have in common, and where it has j, so has each of these. So every call stands for a co-kernel, m,
+// and two at one literal for different ones (`alive-apart`): one answer costs at most a pass over the cubes for each literal.
+fn list_beyond(f: &[u64], p: Cube, m: Cube, j: u32, o: &mut [u64], i: usize, most: usize) -> usize
     requires walks { ⌜ Walks (cubesOf (now f)) (lits p) (lits m) j ⌝ }
-    requires room { ⌜ i + length (beyond (2 * width - j) (cubesOf (now f)) (lits p) j) ≤ length (cubesOf (now o)) ⌝ }
-    ensures { λ r. ⌜ Appends (now (o .entry)) (now (o .exit)) i (beyond (2 * width - j) (cubesOf (now (f .entry))) (lits p) j) r ⌝ }
+    requires few { ⌜ i ≤ most ⌝ }
+    ensures { λ r. ⌜ Walked (now (o .entry)) (now (o .exit)) most i (beyond (2 * width - j) (cubesOf (now (f .entry))) (lits p) j) r ⌝ }
 {
     if j == cube::LITERALS {
+        return i;
+    }
+    if i == most {
         return i;
     }
     let b = branch_at(f, p, j);
@@ -181,41 +152,28 @@ fn write_beyond(f: &[u64], p: Cube, m: Cube, j: u32, o: &mut [u64], i: usize) ->
         let q = b.cube;
         let common = b.common;
         let next = put_if(o, i, q, b.closed);
-        at = write_beyond(f, q, common, j + 1, o, next);
+        at = list_beyond(f, q, common, j + 1, o, next, most);
     }
     if cube::has(m, Literal(j)) {
         return at;
     }
-    write_beyond(f, p, m, j + 1, o, at)
+    list_beyond(f, p, m, j + 1, o, at, most)
 }
 
-// How many co-kernels there are: the empty cube first, if it is one; no more than most are made.
-fn count_all(f: &[u64], most: usize) -> usize
+// All of them into o, the empty cube first, if it is one: their number, where counting stops at most.
+fn list_all(f: &[u64], o: &mut [u64], most: usize) -> usize
     requires { ⌜ 0 < most ⌝ }
-    ensures { λ r. ⌜ r ≡ min most (length (cokernels (cubesOf (now (f .entry))))) ⌝ }
-{
-    let none = cube::empty();
-    let s = close(f, none);
-    let m = s.common;
-    let closed = is_closed(s, none);
-    let here = one_if(closed);
-    here + count_beyond(f, none, m, 0, most - here)
-}
-
-// The same into o.
-fn write_all(f: &[u64], o: &mut [u64])
-    requires { ⌜ length (cokernels (cubesOf (now f))) ≤ length (cubesOf (now o)) ⌝ }
-    ensures { λ _. ⌜ Written (now (o .entry)) (now (o .exit)) (cokernels (cubesOf (now (f .entry)))) ⌝ }
+    ensures { λ r. ⌜ Walked (now (o .entry)) (now (o .exit)) most 0 (cokernels (cubesOf (now (f .entry)))) r ⌝ }
 {
     let none = cube::empty();
     let s = close(f, none);
     let m = s.common;
     let closed = is_closed(s, none);
     let next = put_if(o, 0, none, closed);
-    write_beyond(f, none, m, 0, o, next);
+    list_beyond(f, none, m, 0, o, next, most)
 }
 
-// Every co-kernel of f, in cube order, into the room o, and their number.
+// Every co-kernel of f, in cube order, into the room o, and their number; they are counted with no room first.
 pub fn cokernels(f: &[u64], o: &mut [u64]) -> Listed
     ensures { λ a. ⌜ Told (refusedBy (now (f .entry)) (now (o .entry))) (now (f .entry)) (now (o .entry)) (now (o .exit)) a ⌝ }
 {
@@ -224,10 +182,12 @@ pub fn cokernels(f: &[u64], o: &mut [u64]) -> Listed
         return Listed::Refused(k);
     }
     let room = expression::number(o);
-    let n = count_all(f, room + 1);
+    let most = room + 1;
+    let nowhere = 0;
+    let n = list_all(f, &mut o[..nowhere], most);
     if room < n {
         return Listed::Refused(9);
     }
-    write_all(f, o);
+    list_all(f, o, most);
     Listed::All(n)
 }

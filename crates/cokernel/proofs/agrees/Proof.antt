@@ -9,18 +9,6 @@ use Rattle.cokernel.proofs.Steps.{none-low, first-low}
 use Rattle.cokernel.proofs.agrees.Statement.{statement}
 use Rattle.cokernel.proofs.agrees.Tie as tie
 
-without-requires : tie.Need-without-requires
-without-requires c κs = search needs
-
-first-from-requires : tie.Need-first-from-requires
-first-from-requires c κs = search needs
-
-enum-known-x : tie.Need-enum-known-x
-enum-known-x c = search needs
-
-enum-told : tie.Need-enum-told
-enum-told c = search needs
-
 returns : tie.Need-returns
 returns c =
     let w = c .before .before .before .before .before in
@@ -34,6 +22,4 @@ returns-2 c = none-low _ _ (ap answer (sym (c .enum-told .given .1)) ∙ c .befo
     ∙ ap (firstFrom 0) (c .before .before .before .without .ensures))
 
 pub agrees-spec : {M : Type 1} → statement M
-agrees-spec =
-    tie.close
-    (tie.spec without-requires first-from-requires enum-known-x enum-told returns returns-2)
+agrees-spec = tie.close (tie.spec (search needs) (search needs) (search needs) (search needs) returns returns-2)

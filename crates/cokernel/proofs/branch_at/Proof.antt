@@ -7,18 +7,6 @@ use Rattle.cokernel.proofs.Steps.{joined-inside, branched}
 use Rattle.cokernel.proofs.branch_at.Statement.{statement}
 use Rattle.cokernel.proofs.branch_at.Tie as tie
 
-with-requires : tie.Need-with-requires
-with-requires c κs = search needs
-
-close-requires : tie.Need-close-requires
-close-requires c κs = search needs
-
-is-open-requires : tie.Need-is-open-requires
-is-open-requires c κs = search needs
-
-is-closed-requires : tie.Need-is-closed-requires
-is-closed-requires c κs = search needs
-
 returns : tie.Need-returns
 returns c =
     let w = c .before .before .before .before in
@@ -26,5 +14,4 @@ returns c =
     (lits-asc (w .with .result)) _ _ (c .before .is-open .ensures) (c .is-closed .ensures)
 
 pub branch-at-spec : {M : Type 1} → statement M
-branch-at-spec =
-    tie.close (tie.spec with-requires close-requires is-open-requires is-closed-requires returns)
+branch-at-spec = tie.close (tie.spec (search needs) (search needs) (search needs) (search needs) returns)

@@ -18,32 +18,8 @@ Inv-loop f c number₀ m₀ i₀ number m i =
 abbrev μ-loop : tie.MeasureT-loop
 μ-loop f c number₀ m₀ i₀ number m i = i
 
-empty-requires : tie.Need-empty-requires Inv-loop μ-loop
-empty-requires c κs = search needs
-
-number-requires : tie.Need-number-requires Inv-loop μ-loop
-number-requires c κs = search needs
-
 loop-holds : tie.Need-loop-holds Inv-loop μ-loop
 loop-holds c = (omega arith, closed-none _ _ _ _ (c .number .ensures) (c .before .empty .ensures))
-
-sub-i : tie.Need-sub-i Inv-loop μ-loop
-sub-i c = search needs
-
-cube-at-requires : tie.Need-cube-at-requires Inv-loop μ-loop
-cube-at-requires c κs = search needs
-
-contains-requires : tie.Need-contains-requires Inv-loop μ-loop
-contains-requires c κs = search needs
-
-narrowed-requires : tie.Need-narrowed-requires Inv-loop μ-loop
-narrowed-requires c κs = search needs
-
-add-number : tie.Need-add-number Inv-loop μ-loop
-add-number c = search needs
-
-loop-less : tie.Need-loop-less Inv-loop μ-loop
-loop-less c = search needs
 
 loop-again : tie.Need-loop-again Inv-loop μ-loop
 loop-again c =
@@ -56,9 +32,6 @@ loop-again c =
       closed-more f _ (h .loop .i - 1) _ _ (omega arith) k _ (c .before .before .before .cube-at .ensures)
           (sym (c .before .before .contains .ensures) ∙ c .before .if1 .taken) _ (c .narrowed .ensures),
     )
-
-loop-less-2 : tie.Need-loop-less-2 Inv-loop μ-loop
-loop-less-2 c = search needs
 
 loop-again-2 : tie.Need-loop-again-2 Inv-loop μ-loop
 loop-again-2 c =
@@ -80,20 +53,5 @@ returns c =
 
 pub close-spec : {M : Type 1} → statement M
 close-spec =
-    tie.close
-    (tie.spec
-    Inv-loop
-    μ-loop
-    empty-requires
-    number-requires
-    loop-holds
-    sub-i
-    cube-at-requires
-    contains-requires
-    narrowed-requires
-    add-number
-    loop-less
-    loop-again
-    loop-less-2
-    loop-again-2
-    returns)
+    tie.close (tie.spec Inv-loop μ-loop (search needs) (search needs) loop-holds (search needs) (search needs) (search needs) (search needs) (search needs)
+    (search needs) loop-again (search needs) loop-again-2 returns)

@@ -8,11 +8,8 @@ use Rattle.cokernel.proofs.is_closed.Tie as tie
 returns : tie.Need-returns
 returns c = rw (lt-leb 2 (c .before .before .args .s .number) (omega arith))
 
-same-requires : tie.Need-same-requires
-same-requires c κs = search needs
-
 returns-2 : tie.Need-returns-2
 returns-2 c = rw (le-leb 2 (c .before .before .before .before .args .s .number) (omega arith)) (c .same .ensures)
 
 pub is-closed-spec : {M : Type 1} → statement M
-is-closed-spec = tie.close (tie.spec returns same-requires returns-2)
+is-closed-spec = tie.close (tie.spec returns (search needs) returns-2)

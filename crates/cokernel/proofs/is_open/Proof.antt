@@ -8,11 +8,8 @@ use Rattle.cokernel.proofs.is_open.Tie as tie
 returns : tie.Need-returns
 returns c = rw (lt-leb 2 (c .before .before .args .s .number) (omega arith))
 
-agrees-requires : tie.Need-agrees-requires
-agrees-requires c κs = search needs
-
 returns-2 : tie.Need-returns-2
 returns-2 c = rw (le-leb 2 (c .before .before .before .before .args .s .number) (omega arith)) (c .agrees .ensures)
 
 pub is-open-spec : {M : Type 1} → statement M
-is-open-spec = tie.close (tie.spec returns agrees-requires returns-2)
+is-open-spec = tie.close (tie.spec returns (search needs) returns-2)

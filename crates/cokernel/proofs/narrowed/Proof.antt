@@ -7,11 +7,8 @@ use Rattle.cokernel.proofs.narrowed.Tie as tie
 returns : tie.Need-returns
 returns c = rw (c .if1 .taken)
 
-common-requires : tie.Need-common-requires
-common-requires c κs = search needs
-
 returns-2 : tie.Need-returns-2
 returns-2 c = rw (ne-eqb _ 0 (c .before .if1 .left)) (c .common .ensures)
 
 pub narrowed-spec : {M : Type 1} → statement M
-narrowed-spec = tie.close (tie.spec returns common-requires returns-2)
+narrowed-spec = tie.close (tie.spec returns (search needs) returns-2)
