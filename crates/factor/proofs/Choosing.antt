@@ -3,7 +3,7 @@ use Prim.Native.Nat.{ℕ, zero, suc, _+_, _-_, _*_, _<_, _≤_}
 use mathlib.Core.Path.{_≡_, refl, _∙_, ap, ap₂, subst}
 use mathlib.Core.Bool.{Bool, true, false, cond}
 use mathlib.Core.List.{List, _∷_}
-use mathlib.Core.Logic.{_⊎_, inl, inr}
+use mathlib.Core.Logic.{inl, inr}
 use native.Mathlib.Omega.{arith}
 use native.Mathlib.Nat.{eq-or-lt-of-le}
 use lib.Dec.{ltb}
@@ -12,9 +12,7 @@ use Rattle.sets.specs.Sets.{mem}
 use Rattle.sets.proofs.Truth.{decided}
 use Rattle.cube.specs.Cube.{width}
 use Rattle.factor.specs.Form.{usedIn, most, mostUsed}
-
-abbrev Cubes : Type 0
-Cubes = List (List ℕ)
+use Rattle.factor.proofs.Falling.{Cubes}
 
 -- ---- one literal at a time
 
@@ -57,21 +55,20 @@ best-one : (f : Cubes) → Best f 1 0
 best-one f = record { inside = omega arith; most = λ m h. let e : m ≡ 0 = omega arith in rw e (omega arith); first = λ m h. absurd (omega arith) }
 
 best-next : (f : Cubes) (l b : ℕ) → Best f l b → Best f (suc l) (cond (ltb (usedIn b f) (usedIn l f)) l b)
-best-next f l b h = go (decided (ltb (usedIn b f) (usedIn l f)))
+best-next f l b h = elim (decided (ltb (usedIn b f) (usedIn l f))) [
+  | inl t ↦
+      let s : usedIn b f < usedIn l f = ltb-true _ _ t in
+      rw t (record { inside = omega arith; most = below (usedIn l f) (omega arith) (omega arith); first = λ m i. omega (arith, h .most m i) })
+  | inr t ↦
+      let s : usedIn l f ≤ usedIn b f = ltb-false _ _ t in
+      rw t (record { inside = omega (arith, h .inside); most = below (usedIn b f) s (omega arith); first = h .first })
+]
   where
     below : (u : ℕ) → usedIn l f ≤ u → usedIn b f ≤ u → (m : ℕ) → m < suc l → usedIn m f ≤ u
     below u p q m i = elim (eq-or-lt-of-le i) [
       | inl e ↦ let r : m ≡ l = omega arith in rw r p
       | inr k ↦ omega (arith, h .most m (omega arith))
     ]
-
-    go : (ltb (usedIn b f) (usedIn l f) ≡ true) ⊎ (ltb (usedIn b f) (usedIn l f) ≡ false) → Best f (suc l) (cond (ltb (usedIn b f) (usedIn l f)) l b)
-    go (inl t) =
-        let s : usedIn b f < usedIn l f = ltb-true _ _ t in
-        rw t (record { inside = omega arith; most = below (usedIn l f) (omega arith) (omega arith); first = λ m i. omega (arith, h .most m i) })
-    go (inr t) =
-        let s : usedIn l f ≤ usedIn b f = ltb-false _ _ t in
-        rw t (record { inside = omega (arith, h .inside); most = below (usedIn b f) s (omega arith); first = h .first })
 
 best-most : (k : ℕ) (f : Cubes) (l b : ℕ) → Best f l b → Best f (l + k) (most k f l b)
 unfolding most
@@ -81,7 +78,7 @@ best-most (suc k) f l b h =
     subst (λ n. Best f n (most (suc k) f l b)) e (best-most k f (suc l) _ (best-next f l b h))
 
 best-used : (f : Cubes) → Best f (2 * width) (mostUsed f)
-best-used f = best-most 127 f 1 0 (best-one f)
+best-used f = best-most (2 * width - 1) f 1 0 (best-one f)
 
 pub mostUsed-inside : (f : Cubes) → mostUsed f < 2 * width
 mostUsed-inside f = best-used f .inside

@@ -3,7 +3,7 @@ use Prim.Native.Nat.{ℕ, zero, suc, _<_, _≤_}
 use mathlib.Core.Path.{_≡_, refl, sym, _∙_, ap, subst, fun-ext}
 use mathlib.Core.Bool.{true, false, not, and-true}
 use mathlib.Core.List.{List, [], _∷_, map}
-use mathlib.Core.Logic.{_⊎_, inl, inr}
+use mathlib.Core.Logic.{inl, inr}
 use native.Mathlib.Omega.{arith}
 use lib.Dec.{ltb}
 use lib.ListN.{length}
@@ -23,10 +23,7 @@ use Rattle.division.proofs.Quotients.{cube-asc}
 use Rattle.division.proofs.Dividing.{quotient-expression, remainder-expression, quotient-cube, remainder-cube}
 use Rattle.factor.specs.Form.{usedIn, mostUsed, over, rest, Form, formBy, formOf}
 use Rattle.factor.specs.Meaning.{alone, Divisible, Picked, Divided}
-use Rattle.factor.proofs.Falling.{literals-fall, over-less, rest-less, form-plain, form-times, form-plus}
-
-abbrev Cubes : Type 0
-Cubes = List (List ℕ)
+use Rattle.factor.proofs.Falling.{Cubes, literals-fall, over-less, rest-less, form-plain, form-times, form-plus}
 
 alone-expression : (l : ℕ) → expression (alone l) ≡ true
 unfolding proper mem
@@ -86,18 +83,18 @@ module _ (f : Cubes) (d : Divisible f) (k : ℕ) where
     left : isNil (remainder f (alone l)) ≡ isNil (rest l f)
     left = ap isNil (sym (rest-remainder l f (d .whole) (d .inOrder)))
 
-    picked : Picked l f
-    picked = record { most = refl; many = many }
+    choice : Picked l f
+    choice = record { most = refl; many = many }
 
     -- no cube without it
     alike : isNil (rest l f) ≡ true → Divided f (formBy (suc k) f)
-    alike n = subst (λ (y : Form). Divided f y) (sym (form-times f k many n)) (d, picked, x′, left ∙ n)
+    alike n = subst (λ (y : Form). Divided f y) (sym (form-times f k many n)) (d, choice, x′, left ∙ n)
 
     -- and some
     mixed : isNil (rest l f) ≡ false → Divided (rest l f) (formBy k (rest l f)) → Divided f (formBy (suc k) f)
     mixed n y =
         let y′ = subst (λ (g : Cubes). Divided g (formBy k (rest l f))) (rest-remainder l f (d .whole) (d .inOrder)) y in
-        subst (λ (z : Form). Divided f z) (sym (form-plus f k many n)) (d, picked, x′, left ∙ n, y′)
+        subst (λ (z : Form). Divided f z) (sym (form-plus f k many n)) (d, choice, x′, left ∙ n, y′)
 
 -- with as many turns as there are literals
 pub form-divided : (k : ℕ) (f : Cubes) → literalsOf f ≤ k → Divisible f → Divided f (formBy k f)
@@ -106,23 +103,14 @@ form-divided (suc k) f h d =
     let l = mostUsed f in
     let e = d .whole in
     let o = d .inOrder in
-    go (decided (ltb (usedIn l f) 2)) (decided (isNil (rest l f)))
-    (λ i. form-divided k (over l f) i (record { whole = over-expression l f e o; inOrder = over-ordered l f e o }))
-    (λ i. form-divided k (rest l f) i (record { whole = rest-expression l f e o; inOrder = rest-ordered l f e o }))
-  where
-    go : (ltb (usedIn (mostUsed f) f) 2 ≡ true) ⊎ (ltb (usedIn (mostUsed f) f) 2 ≡ false)
-        → (isNil (rest (mostUsed f) f) ≡ true) ⊎ (isNil (rest (mostUsed f) f) ≡ false)
-        → (literalsOf (over (mostUsed f) f) ≤ k → Divided (over (mostUsed f) f) (formBy k (over (mostUsed f) f)))
-        → (literalsOf (rest (mostUsed f) f) ≤ k → Divided (rest (mostUsed f) f) (formBy k (rest (mostUsed f) f)))
-        → Divided f (formBy (suc k) f)
-    go (inl t) n x y = flat f d (suc k) (ltb-true _ _ t)
-    go (inr t) n x y =
-        let many : 2 ≤ usedIn (mostUsed f) f = ltb-false _ _ t in
-        let x′ = x (omega (arith, over-less (mostUsed f) f many)) in
-        elim n [
-          | inl z ↦ alike f d k many x′ z
-          | inr z ↦ mixed f d k many x′ z (y (omega (arith, rest-less (mostUsed f) f many)))
-        ]
+    elim (decided (ltb (usedIn l f) 2)) [
+      | inl t ↦ flat f d (suc k) (ltb-true _ _ t)
+      | inr t ↦
+          let many : 2 ≤ usedIn l f = ltb-false _ _ t in
+          let x = form-divided k (over l f) (omega (arith, over-less l f many)) (record { whole = over-expression l f e o; inOrder = over-ordered l f e o }) in
+          let y = form-divided k (rest l f) (omega (arith, rest-less l f many)) (record { whole = rest-expression l f e o; inOrder = rest-ordered l f e o }) in
+          elim (decided (isNil (rest l f))) [ inl z ↦ alike f d k many x z | inr z ↦ mixed f d k many x z y ]
+    ]
 
 pub factored-divided : (f : Cubes) → expression f ≡ true → Divided (sort f) (formOf f)
 factored-divided f e =

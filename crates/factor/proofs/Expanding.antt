@@ -3,7 +3,7 @@ use Prim.Native.Nat.{ℕ, zero, suc}
 use mathlib.Core.Path.{_≡_, refl, sym, _∙_, ap, ap₂, subst}
 use mathlib.Core.Bool.{Bool, true, false, cond, not, _&&_, _||_, and-true, and-false, and-or-distrib-left}
 use mathlib.Core.List.{List, [], _∷_, _++_, map, append-nil, List·Memᴰ·head as here, List·Memᴰ·tail as there}
-use mathlib.Core.Logic.{_⊎_, inl, inr, _↔_}
+use mathlib.Core.Logic.{inl, inr, _↔_}
 use lib.Dec.{ltb}
 use lib.ListN.{length}
 use borrow.Author.Tests.{ltb-true, ltb-false}
@@ -16,10 +16,7 @@ use Rattle.expression.specs.Expression.{isCube, loose, expression, ordered, pla
 use Rattle.expression.proofs.Sorting.{sort-in, sort-out, sort-length, sort-sort, sort-middle, sort-append-comm, all-sort, value-sort, expression-sort}
 use Rattle.expression.proofs.Values.{append-value}
 use Rattle.factor.specs.Form.{usedIn, mostUsed, over, rest, Form, sum, times, plus, formBy, formOf, expanded, formValue}
-use Rattle.factor.proofs.Falling.{form-plain, form-times, form-plus}
-
-abbrev Cubes : Type 0
-Cubes = List (List ℕ)
+use Rattle.factor.proofs.Falling.{Cubes, form-plain, form-times, form-plus}
 
 -- ---- lists with the same cubes, each as often: their sorts are one
 
@@ -92,25 +89,18 @@ pub expanded-sort : (k : ℕ) (f : Cubes) → all asc f ≡ true → sort (expan
 unfolding formBy expanded
 expanded-sort zero f h = refl
 expanded-sort (suc k) f h =
-    go (decided (ltb (usedIn (mostUsed f) f) 2)) (decided (isNil (rest (mostUsed f) f)))
-    (expanded-sort k (over (mostUsed f) f) (over-asc (mostUsed f) f h)) (expanded-sort k (rest (mostUsed f) f) (rest-asc (mostUsed f) f h))
-  where
-    first : sort (expanded (formBy k (over (mostUsed f) f))) ≡ sort (over (mostUsed f) f)
-        → sort (map (insert (mostUsed f)) (expanded (formBy k (over (mostUsed f) f)))) ≡ sort (keep (mem (mostUsed f)) f)
-    first q = sort-map (insert (mostUsed f)) _ _ q ∙ ap sort (over-multiplied (mostUsed f) f h)
-
-    go : (ltb (usedIn (mostUsed f) f) 2 ≡ true) ⊎ (ltb (usedIn (mostUsed f) f) 2 ≡ false) → (isNil (rest (mostUsed f) f) ≡ true)
-        ⊎ (isNil (rest (mostUsed f) f) ≡ false)
-        → sort (expanded (formBy k (over (mostUsed f) f))) ≡ sort (over (mostUsed f) f)
-        → sort (expanded (formBy k (rest (mostUsed f) f))) ≡ sort (rest (mostUsed f) f)
-        → sort (expanded (formBy (suc k) f)) ≡ sort f
-    go (inl t) n q r = ap (λ x. sort (expanded x)) (form-plain f (suc k) (ltb-true _ _ t))
-    go (inr t) (inl n) q r =
-        ap (λ x. sort (expanded x)) (form-times f k (ltb-false _ _ t) n) ∙ first q
-        ∙ ap sort (sym (append-nil _) ∙ ap (keep (mem (mostUsed f)) f ++_) (sym (nil-is _ n)))
-        ∙ sort-keep (mem (mostUsed f)) f
-    go (inr t) (inr n) q r =
-        ap (λ x. sort (expanded x)) (form-plus f k (ltb-false _ _ t) n) ∙ sort-append _ _ _ _ (first q) r ∙ sort-keep (mem (mostUsed f)) f
+    let l = mostUsed f in
+    let first = sort-map (insert l) (expanded (formBy k (over l f))) (over l f) (expanded-sort k (over l f) (over-asc l f h))
+    ∙ ap sort (over-multiplied l f h) in
+    let second = expanded-sort k (rest l f) (rest-asc l f h) in
+    elim (decided (ltb (usedIn l f) 2)) [
+      | inl t ↦ ap (λ x. sort (expanded x)) (form-plain f (suc k) (ltb-true _ _ t))
+      | inr t ↦ elim (decided (isNil (rest l f))) [
+        | inl n ↦ ap (λ x. sort (expanded x)) (form-times f k (ltb-false _ _ t) n) ∙ first
+            ∙ ap sort (sym (append-nil _) ∙ ap (keep (mem l) f ++_) (sym (nil-is _ n))) ∙ sort-keep (mem l) f
+        | inr n ↦ ap (λ x. sort (expanded x)) (form-plus f k (ltb-false _ _ t) n) ∙ sort-append _ _ _ _ first second ∙ sort-keep (mem l) f
+      ]
+    ]
 
 module _ (f : Cubes) (h : all asc f ≡ true) where
   -- the cubes of F, each as often

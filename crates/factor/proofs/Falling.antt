@@ -3,7 +3,7 @@ use Prim.Native.Nat.{ℕ, zero, suc, _+_, _<_, _≤_}
 use mathlib.Core.Path.{_≡_, refl, sym, _∙_, ap, ap₂}
 use mathlib.Core.Bool.{Bool, true, false, cond, not}
 use mathlib.Core.List.{List, [], _∷_, map}
-use mathlib.Core.Logic.{_⊎_, inl, inr}
+use mathlib.Core.Logic.{inl, inr}
 use native.Mathlib.Omega.{arith}
 use lib.Dec.{ltb}
 use lib.ListN.{length}
@@ -16,7 +16,7 @@ use Rattle.sets.proofs.Sets.{of-mem, mem-head}
 use Rattle.expression.specs.Expression.{literalsOf}
 use Rattle.factor.specs.Form.{usedIn, mostUsed, over, rest, Form, sum, times, plus, formBy}
 
-abbrev Cubes : Type 0
+abbrev pub Cubes : Type 0
 Cubes = List (List ℕ)
 
 without-shorter : (l : ℕ) (c : List ℕ) → mem l c ≡ true → length (without c (l ∷ [])) < length c
@@ -76,17 +76,16 @@ pub form-enough : (k j : ℕ) (f : Cubes) → literalsOf f ≤ k → literalsOf 
 form-enough zero j f a b = let few : usedIn (mostUsed f) f < 2 = omega (arith, literals-fall (mostUsed f) f) in form-plain f 0 few ∙ sym (form-plain f j few)
 form-enough (suc k) zero f a b = let few : usedIn (mostUsed f) f < 2 = omega (arith, literals-fall (mostUsed f) f) in form-plain f (suc k) few
     ∙ sym (form-plain f 0 few)
-form-enough (suc k) (suc j) f a b = go (decided (ltb (usedIn (mostUsed f) f) 2)) (form-enough k j (over (mostUsed f) f)) (form-enough k j (rest (mostUsed f) f))
-  where
-    go : (ltb (usedIn (mostUsed f) f) 2 ≡ true) ⊎ (ltb (usedIn (mostUsed f) f) 2 ≡ false)
-        → (literalsOf (over (mostUsed f) f) ≤ k → literalsOf (over (mostUsed f) f) ≤ j → formBy k (over (mostUsed f) f) ≡ formBy j (over (mostUsed f) f))
-        → (literalsOf (rest (mostUsed f) f) ≤ k → literalsOf (rest (mostUsed f) f) ≤ j → formBy k (rest (mostUsed f) f) ≡ formBy j (rest (mostUsed f) f))
-        → formBy (suc k) f ≡ formBy (suc j) f
-    go (inl t) q r = let few : usedIn (mostUsed f) f < 2 = ltb-true _ _ t in form-plain f (suc k) few ∙ sym (form-plain f (suc j) few)
-    go (inr t) q r =
-        let many : 2 ≤ usedIn (mostUsed f) f = ltb-false _ _ t in
-        let o : literalsOf (over (mostUsed f) f) < literalsOf f = over-less (mostUsed f) f many in
-        let s : literalsOf (rest (mostUsed f) f) < literalsOf f = rest-less (mostUsed f) f many in
-        form-suc f k
-        ∙ ap₂ (turn f (ltb (usedIn (mostUsed f) f) 2) (isNil (rest (mostUsed f) f))) (q (omega arith) (omega arith)) (r (omega arith) (omega arith))
-        ∙ sym (form-suc f j)
+form-enough (suc k) (suc j) f a b =
+    let l = mostUsed f in
+    elim (decided (ltb (usedIn l f) 2)) [
+      | inl t ↦ let few : usedIn l f < 2 = ltb-true _ _ t in form-plain f (suc k) few ∙ sym (form-plain f (suc j) few)
+      | inr t ↦
+          let many : 2 ≤ usedIn l f = ltb-false _ _ t in
+          let o = over-less l f many in
+          let s = rest-less l f many in
+          form-suc f k
+          ∙ ap₂ (turn f (ltb (usedIn l f) 2) (isNil (rest l f))) (form-enough k j (over l f) (omega arith) (omega arith))
+          (form-enough k j (rest l f) (omega arith) (omega arith))
+          ∙ sym (form-suc f j)
+    ]

@@ -125,10 +125,10 @@ module _ {A : Type 0} where
       ap (λ n. drop n f) (sym k) ∙ sym (drop-drop (e - d) d f) ∙ ap (drop (e - d)) s ∙ drop-drop (e - d) d g ∙ ap (λ n. drop n g) k
 
 -- gathered, and the rest copied back: the part is parted
-pub parted : {old mid new spare : List ℕ} {a m e l : ℕ} → Gathered old mid spare a m e l
+pub copied-back : {old mid new spare : List ℕ} {a m e l : ℕ} → Gathered old mid spare a m e l
     → Placed mid new m (fitting mid m (take (e - m - 0) (drop 0 (cubesOf spare))))
     → a ≤ length (cubesOf old) → e ≤ length (cubesOf mid) → e ≤ length (cubesOf spare) → Parted old new a m e l
-parted {old} {mid} {new} {spare} {a} {m} {e} {l} p q h k n =
+copied-back {old} {mid} {new} {spare} {a} {m} {e} {l} p q h k n =
     let f = cubesOf old in
     let g = cubesOf new in
     let others = rest l (cubesFrom a e old) in

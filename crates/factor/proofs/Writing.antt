@@ -3,7 +3,7 @@ use Prim.Native.Nat.{ℕ, suc, _-_, _<_, _≤_}
 use mathlib.Core.Path.{_≡_, refl, sym, _∙_, ap, ap₂}
 use mathlib.Core.Bool.{true, false, true≢false, false≢true}
 use mathlib.Core.List.{List, [], _∷_, _++_, append-assoc, append-nil}
-use mathlib.Core.Logic.{_⊎_, inl, inr}
+use mathlib.Core.Logic.{inl, inr}
 use native.Mathlib.Omega.{arith}
 use Rattle.sets.specs.Lists.{isNil}
 use Rattle.sets.proofs.Truth.{decided}
@@ -12,10 +12,7 @@ use Rattle.expression.specs.Expression.{literalsOf}
 use Rattle.factor.specs.Form.{usedIn, mostUsed, over, rest, formBy}
 use Rattle.factor.specs.Text.{sumText, formText}
 use Rattle.factor.specs.Parts.{writtenSum, productOf}
-use Rattle.factor.proofs.Falling.{literals-fall, over-less, rest-less, form-plain, form-times, form-plus, form-enough}
-
-abbrev Cubes : Type 0
-Cubes = List (List ℕ)
+use Rattle.factor.proofs.Falling.{Cubes, literals-fall, over-less, rest-less, form-plain, form-times, form-plus, form-enough}
 
 -- ---- the text of a sum, case by case
 
@@ -73,12 +70,10 @@ after-some (c ∷ f) h = refl
 
 -- l chosen and the cubes parted by it
 pub sum-parted : (f : Cubes) (l : ℕ) (q r : Cubes) → l ≡ mostUsed f → 2 ≤ usedIn l f → q ≡ over l f → r ≡ rest l f → writtenSum f ≡ productOf l q ++ after r
-sum-parted f l q r h many a b = rw (a, b, h) (go (decided (isNil (rest (mostUsed f) f))))
-  where
-    go : (isNil (rest (mostUsed f) f) ≡ true) ⊎ (isNil (rest (mostUsed f) f) ≡ false)
-        → writtenSum f ≡ productOf (mostUsed f) (over (mostUsed f) f) ++ after (rest (mostUsed f) f)
-    go (inl n) = sum-times f (rw h at many) n ∙ sym (append-nil _) ∙ ap (productOf (mostUsed f) (over (mostUsed f) f) ++_) (sym (after-none _ n))
-    go (inr n) = sum-plus f (rw h at many) n ∙ ap (productOf (mostUsed f) (over (mostUsed f) f) ++_) (sym (after-some _ n))
+sum-parted f l q r h many a b = rw (a, b, h) (elim (decided (isNil (rest (mostUsed f) f))) [
+  | inl n ↦ sum-times f (rw h at many) n ∙ sym (append-nil _) ∙ ap (productOf (mostUsed f) (over (mostUsed f) f) ++_) (sym (after-none _ n))
+  | inr n ↦ sum-plus f (rw h at many) n ∙ ap (productOf (mostUsed f) (over (mostUsed f) f) ++_) (sym (after-some _ n))
+])
 
 pub product-start : (l : ℕ) (f : Cubes) → productOf l f ≡ literalText l ++ (42 ∷ 40 ∷ (writtenSum f ++ (41 ∷ [])))
 unfolding productOf

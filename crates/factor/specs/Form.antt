@@ -41,9 +41,9 @@ unfoldable pub formBy : ℕ → List (List ℕ) → Form
 formBy zero f = sum f
 formBy (suc k) f =
     let l = mostUsed f in
-    let some = times l (formBy k (over l f)) in
-    let both = plus l (formBy k (over l f)) (formBy k (rest l f)) in
-    cond (ltb (usedIn l f) 2) (sum f) (cond (isNil (rest l f)) some both)
+    let lone = times l (formBy k (over l f)) in
+    let joint = plus l (formBy k (over l f)) (formBy k (rest l f)) in
+    cond (ltb (usedIn l f) 2) (sum f) (cond (isNil (rest l f)) lone joint)
 
 -- the cubes are taken in cube order
 abbrev pub formOf : List (List ℕ) → Form

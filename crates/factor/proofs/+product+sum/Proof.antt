@@ -19,7 +19,7 @@ use Rattle.factor.proofs.Choosing.{mostUsed-inside}
 use Rattle.factor.proofs.Parting.{part-after, part-some, slice-none, outside-none, outside-join}
 use Rattle.factor.proofs.Falling.{literals-fall}
 use Rattle.factor.proofs.Writing.{after, after-none, after-some, sum-plain, sum-parted, product-start}
-use borrow.Fn.Kinds.{In}
+use borrow.Fn.Kinds.{In, Out}
 use borrow.Fn.PlainCycle.{Measures, is, falls, and}
 use Rattle.factor.proofs.product.Reads as product
 use Rattle.factor.proofs.product.Kinds as product-kinds
@@ -62,82 +62,55 @@ module _ (t : ℕ) where
   abbrev product-known : product-lts.Claims
   product-known = (put-literal-reads.Asked, put-literal-reads.Learnt, put-reads.Asked, put-reads.Learnt, sum-below t, sum.Post)
 
-  -- the states of the walk: at the start, after the literal, after `*`, after `(`, after the sum
-  abbrev Begun : Type 0
-  Begun = product-lts.Start product-known (product-at t) product.Post
+  -- its states and its needs
+  abbrev of-product : (product-lts.Claims → In 3 product-kinds.ps → Out 3 product-kinds.ps product-kinds.r → Type 0) → Type 0
+  of-product S = S product-known (product-at t) product.Post
 
-  abbrev Lettered : Type 0
-  Lettered = product-lts.After-put-literal product-known (product-at t) product.Post
-
-  abbrev Starred : Type 0
-  Starred = product-lts.After-put product-known (product-at t) product.Post
-
-  abbrev Opened : Type 0
-  Opened = product-lts.After-put2 product-known (product-at t) product.Post
-
-  abbrev Summed : Type 0
-  Summed = product-lts.After-sum product-known (product-at t) product.Post
-
-  abbrev begun : Lettered → Begun
+  -- the states of the walk: at the start, after the literal, after `*`, after `(`
+  abbrev begun : of-product product-lts.After-put-literal → of-product product-lts.Start
   begun c = c .before .before .before .before .before
 
-  abbrev lettered : Starred → Lettered
+  abbrev lettered : of-product product-lts.After-put → of-product product-lts.After-put-literal
   lettered c = c .before .before .before .before
 
-  abbrev starred : Opened → Starred
+  abbrev starred : of-product product-lts.After-put2 → of-product product-lts.After-put
   starred c = c .before .before .before .before
 
-  abbrev opened : Summed → Opened
-  opened c = c .before .before .before .before .before .before
+  abbrev opened : of-product product-lts.After-sum → of-product product-lts.After-put2
+  opened c = let lent = c .before .before .before in lent .before .before .before
 
   -- the cubes of the part, and what is due of the product's text
-  abbrev factors : Begun → List (List ℕ)
+  abbrev factors : of-product product-lts.Start → List (List ℕ)
   factors s = cubesFrom (s .args .a) (s .args .e) (s .args .w .now)
 
-  abbrev Owed : Begun → List ℕ → ℕ → List ℕ → Type 0
+  abbrev Owed : of-product product-lts.Start → List ℕ → ℕ → List ℕ → Type 0
   Owed s o at u = Due (s .args .o .now) (s .args .at) (productOf (s .args .l .0) (factors s)) o at u
 
   -- after the literal `*` is due, then `(`, the sum and `)`
-  star-due : (c : Lettered) → Owed (begun c) (c .put-literal .last .0) (c .put-literal .result) (42 ∷ 40 ∷ (writtenSum (factors (begun c)) ++ (41 ∷ [])))
+  star-due : (c : of-product product-lts.After-put-literal)
+      → Owed (begun c) (c .put-literal .last .0) (c .put-literal .result) (42 ∷ 40 ∷ (writtenSum (factors (begun c)) ++ (41 ∷ [])))
   star-due c = due-next (due-all _ _ (omega arith) (omega arith) (product-start (begun c .args .l .0) _)) (c .put-literal .ensures)
 
-  open-due : (c : Starred) → Owed (begun (lettered c)) (c .put .last .0) (c .put .result) (40 ∷ (writtenSum (factors (begun (lettered c))) ++ (41 ∷ [])))
+  open-due : (c : of-product product-lts.After-put)
+      → Owed (begun (lettered c)) (c .put .last .0) (c .put .result) (40 ∷ (writtenSum (factors (begun (lettered c))) ++ (41 ∷ [])))
   open-due c = due-next (star-due (lettered c)) (c .put .ensures)
 
-  inner-due : (c : Opened) → let s = begun (lettered (starred c)) in Owed s (c .put2 .last .0) (c .put2 .result) (writtenSum (factors s) ++ (41 ∷ []))
+  inner-due : (c : of-product product-lts.After-put2) → let s = begun (lettered (starred c)) in
+      Owed s (c .put2 .last .0) (c .put2 .result) (writtenSum (factors s) ++ (41 ∷ []))
   inner-due c = due-next (open-due (starred c)) (c .put2 .ensures)
 
-  close-due : (c : Summed) → Owed (begun (lettered (starred (opened c)))) (c .sum .last .1 .1 .1 .1 .0) (c .sum .result) (41 ∷ [])
+  close-due : (c : of-product product-lts.After-sum) → Owed (begun (lettered (starred (opened c)))) (c .sum .last .1 .1 .1 .1 .0) (c .sum .result) (41 ∷ [])
   close-due c = due-next (inner-due (opened c)) (c .sum .ensures .laid)
 
-  product-put-literal-requires : product-lts.Need-put-literal-requires product-known (product-at t) product.Post
-  product-put-literal-requires c κs = search needs
-
-  product-put-requires : product-lts.Need-put-requires product-known (product-at t) product.Post
-  product-put-requires c κs = search needs
-
-  product-put-requires-2 : product-lts.Need-put-requires-2 product-known (product-at t) product.Post
-  product-put-requires-2 c κs = search needs
-
-  product-sum-requires : product-lts.Need-sum-requires product-known (product-at t) product.Post
+  product-sum-requires : of-product product-lts.Need-sum-requires
   product-sum-requires c κs = let s = begun (lettered (starred (c .before .before .before .before .before))) in (omega (arith, s .pre .0), s .pre .1)
 
-  product-put-requires-3 : product-lts.Need-put-requires-3 product-known (product-at t) product.Post
-  product-put-requires-3 c κs = search needs
-
-  product-same-length : product-lts.Need-same-length product-known (product-at t) product.Post
-  product-same-length c = search needs
-
-  product-same-length-2 : product-lts.Need-same-length-2 product-known (product-at t) product.Post
-  product-same-length-2 c = search needs
-
-  product-same-length-3 : product-lts.Need-same-length-3 product-known (product-at t) product.Post
-  product-same-length-3 c = search needs
-
-  product-returns : product-lts.Need-returns product-known (product-at t) product.Post
+  product-returns : of-product product-lts.Need-returns
   product-returns c =
-      let s : Summed = c .before .before .before .before .before .before .before .before .before .before in
-      record { laid = due-last (close-due s) (c .before .before .put3 .ensures); outside = s .sum .ensures .outside }
+      let p = c .before .before in
+      let back = p .before .before .before .before in
+      let s = back .before .before .before .before in
+      record { laid = due-last (close-due s) (p .put3 .ensures); outside = s .sum .ensures .outside }
 
 -- ---- the sum
 
@@ -160,148 +133,121 @@ module _ (t : ℕ) where
     sum.Post,
   )
 
+  -- its states and its needs
+  abbrev of-sum : (sum-lts.Claims → In 3 sum-kinds.ps → Out 3 sum-kinds.ps sum-kinds.r → Type 0) → Type 0
+  of-sum S = S sum-known (sum-at t) sum.Post
+
   -- the states of the walk: at the start, after the literal is chosen, after its cubes are counted, after the cubes are parted, after the product
-  abbrev Entered : Type 0
-  Entered = sum-lts.Start sum-known (sum-at t) sum.Post
-
-  abbrev Chosen : Type 0
-  Chosen = sum-lts.After-most-used sum-known (sum-at t) sum.Post
-
-  abbrev Used : Type 0
-  Used = sum-lts.After-uses sum-known (sum-at t) sum.Post
-
-  abbrev Split : Type 0
-  Split = sum-lts.After-split sum-known (sum-at t) sum.Post
-
-  abbrev Multiplied : Type 0
-  Multiplied = sum-lts.After-product sum-known (sum-at t) sum.Post
-
-  abbrev More : Type 0
-  More = sum-lts.Else2 sum-known (sum-at t) sum.Post
-
-  abbrev entered : Chosen → Entered
+  abbrev entered : of-sum sum-lts.After-most-used → of-sum sum-lts.Start
   entered c = c .before .before .before .before .before
 
-  abbrev chosen : Used → Chosen
+  abbrev chosen : of-sum sum-lts.After-uses → of-sum sum-lts.After-most-used
   chosen c = c .before .before
 
-  abbrev used : Split → Used
+  abbrev used : of-sum sum-lts.After-split → of-sum sum-lts.After-uses
   used c = c .before .before .before .before
 
-  abbrev divided : Multiplied → Split
-  divided c = c .before .before .before .before .before .before .before .before
+  abbrev divided : of-sum sum-lts.After-product → of-sum sum-lts.After-split
+  divided c = let lent = c .before .before .before .before in lent .before .before .before .before
 
-  abbrev multiplied : More → Multiplied
-  multiplied c = c .before .before .before .before .before .before .before
+  abbrev multiplied : of-sum sum-lts.Else2 → of-sum sum-lts.After-product
+  multiplied c = let back = c .before .before .before .before in back .before .before .before
 
-  abbrev origin : Split → Entered
+  abbrev origin : of-sum sum-lts.After-split → of-sum sum-lts.Start
   origin c = entered (chosen (used c))
 
   -- the cubes of the part, and what is due of the sum's text
-  abbrev terms : Entered → List (List ℕ)
+  abbrev terms : of-sum sum-lts.Start → List (List ℕ)
   terms s = cubesFrom (s .args .a) (s .args .e) (s .args .w .now)
 
-  abbrev Due-of : Entered → List ℕ → ℕ → List ℕ → Type 0
+  abbrev Due-of : of-sum sum-lts.Start → List ℕ → ℕ → List ℕ → Type 0
   Due-of s o at u = Due (s .args .o .now) (s .args .at) (writtenSum (terms s)) o at u
 
-  sum-most-used-requires : sum-lts.Need-most-used-requires sum-known (sum-at t) sum.Post
+  sum-most-used-requires : of-sum sum-lts.Need-most-used-requires
   sum-most-used-requires c κs = c .before .before .before .before .pre .1 .held
 
-  sum-uses-requires : sum-lts.Need-uses-requires sum-known (sum-at t) sum.Post
+  sum-uses-requires : of-sum sum-lts.Need-uses-requires
   sum-uses-requires c κs = entered (c .before) .pre .1 .held
 
-  sum-put-cubes-requires : sum-lts.Need-put-cubes-requires sum-known (sum-at t) sum.Post
+  sum-put-cubes-requires : of-sum sum-lts.Need-put-cubes-requires
   sum-put-cubes-requires c κs = entered (chosen (c .before .before .before)) .pre .1 .held
 
-  sum-same-length : sum-lts.Need-same-length sum-known (sum-at t) sum.Post
-  sum-same-length c = search needs
-
-  sum-same-length-2 : sum-lts.Need-same-length-2 sum-known (sum-at t) sum.Post
-  sum-same-length-2 c = search needs
-
   -- no literal is in two cubes: the cubes are due as they stand
-  plain-due : (c : sum-lts.Then1 sum-known (sum-at t) sum.Post) → let s = entered (chosen (c .before)) in
+  plain-due : (c : of-sum sum-lts.Then1) → let s = entered (chosen (c .before)) in
       Due-of s (s .args .o .now) (s .args .at) (sumText (terms s))
   plain-due c =
       let f = terms (entered (chosen (c .before))) in
       let n : c .before .uses .result ≡ usedIn (mostUsed f) f = c .before .uses .ensures ∙ ap (λ l. usedIn l f) (chosen (c .before) .most-used .ensures) in
       due-all _ _ (omega arith) (omega arith) (sum-plain f (omega (arith, n, c .if1 .taken)))
 
-  sum-returns : sum-lts.Need-returns sum-known (sum-at t) sum.Post
+  sum-returns : of-sum sum-lts.Need-returns
   sum-returns c =
       record { laid = due-last (plain-due (c .before .before .before .before .before)) (c .before .before .put-cubes .ensures); outside = outside-none _ _ _ }
 
-  sum-split-requires : sum-lts.Need-split-requires sum-known (sum-at t) sum.Post
+  sum-split-requires : of-sum sum-lts.Need-split-requires
   sum-split-requires c κs =
       let k = chosen (c .before .before .before) in
       (subst (λ l. l < 2 * width) (sym (k .most-used .ensures)) (mostUsed-inside _), entered k .pre .1)
 
   -- the literal, the cubes with it and the rest, as they are parted
-  abbrev literal : Split → ℕ
+  abbrev literal : of-sum sum-lts.After-split → ℕ
   literal c = chosen (used c) .most-used .result .0
 
-  abbrev quotient : Split → List (List ℕ)
+  abbrev quotient : of-sum sum-lts.After-split → List (List ℕ)
   quotient c = cubesFrom (origin c .args .a) (c .split .result) (c .split .last .0)
 
-  abbrev others : Split → List ℕ → List (List ℕ)
+  abbrev others : of-sum sum-lts.After-split → List ℕ → List (List ℕ)
   others c ws = cubesFrom (c .split .result) (origin c .args .e) ws
 
-  many : (c : Split) → 2 ≤ usedIn (literal c) (terms (origin c))
+  many : (c : of-sum sum-lts.After-split) → 2 ≤ usedIn (literal c) (terms (origin c))
   many c = omega (arith, used c .uses .ensures, c .before .before .before .if1 .left)
 
   -- the product is due, then the rest
-  parted-due : (c : Split) → let s = origin c in
+  parted-due : (c : of-sum sum-lts.After-split) → let s = origin c in
       Due-of s (s .args .o .now) (s .args .at) (productOf (literal c) (quotient c) ++ after (others c (c .split .last .0)))
   parted-due c =
       due-all _ _ (omega arith) (omega arith)
       (sum-parted _ _ _ _ (chosen (used c) .most-used .ensures) (many c) (c .split .ensures .first) (c .split .ensures .second))
 
   -- there are as many cubes and as many spare places as before
-  held : (c : Split) → origin c .args .e ≤ length (cubesOf (c .split .last .0))
+  held : (c : of-sum sum-lts.After-split) → origin c .args .e ≤ length (cubesOf (c .split .last .0))
   held c = omega (arith, same-room (c .split .last .0) (origin c .args .w .now) (c .split .kept .0), origin c .pre .1 .held .inside)
 
-  places : (c : Split) → origin c .args .e ≤ length (cubesOf (c .split .last .1 .0))
+  places : (c : of-sum sum-lts.After-split) → origin c .args .e ≤ length (cubesOf (c .split .last .1 .0))
   places c = omega (arith, same-room (c .split .last .1 .0) (origin c .args .spare .now) (c .split .kept .1 .0), origin c .pre .1 .places)
 
-  sum-product-requires : sum-lts.Need-product-requires sum-known (sum-at t) sum.Post
+  sum-product-requires : of-sum sum-lts.Need-product-requires
   sum-product-requires c κs =
-      let d : Split = c .before .before .before .before .before .before .before in
+      let lent = c .before .before .before in
+      let d = lent .before .before .before .before in
       let s = origin d in
       let p = d .split .ensures in (
         omega (arith, s .pre .0, ap literalsOf (p .first), literals-fall (literal d) (terms s), many d),
         record { held = record { forth = p .least; inside = omega (arith, p .most, held d) }; places = omega (arith, p .most, places d) },
       )
 
-  rest-due : (c : Multiplied) → let d = divided c in
+  rest-due : (c : of-sum sum-lts.After-product) → let d = divided c in
       Due-of (origin d) (c .product .last .1 .1 .1 .1 .1 .0) (c .product .result) (after (others d (d .split .last .0)))
   rest-due c = due-next (parted-due (divided c)) (c .product .ensures .laid)
 
   -- what the product leaves
-  left : (c : Multiplied) → let s = origin (divided c) in Elsewhere (s .args .w .now) (c .product .last .1 .0) (s .args .a) (s .args .e)
+  left : (c : of-sum sum-lts.After-product) → let s = origin (divided c) in Elsewhere (s .args .w .now) (c .product .last .1 .0) (s .args .a) (s .args .e)
   left c = let d = divided c in outside-join (d .split .ensures .outside) (c .product .ensures .outside) (omega arith) (d .split .ensures .most)
 
-  sum-same-length-3 : sum-lts.Need-same-length-3 sum-known (sum-at t) sum.Post
-  sum-same-length-3 c = search needs
-
-  sum-same-length-4 : sum-lts.Need-same-length-4 sum-known (sum-at t) sum.Post
-  sum-same-length-4 c = search needs
-
-  sum-same-length-5 : sum-lts.Need-same-length-5 sum-known (sum-at t) sum.Post
-  sum-same-length-5 c = search needs
-
-  sum-returns-2 : sum-lts.Need-returns-2 sum-known (sum-at t) sum.Post
+  sum-returns-2 : of-sum sum-lts.Need-returns-2
   sum-returns-2 c =
-      let m : Multiplied = c .before .before .before .before .before .before .before in
+      let back = c .before .before .before .before in
+      let m = back .before .before .before in
       let d = divided m in
       let none = slice-none (cubesOf (d .split .last .0)) (d .split .result) (origin d .args .e) (c .if2 .taken) in
       record { laid = due-done (due-as (rest-due m) (after-none _ (ap isNil none))); outside = left m }
 
   -- the rest is as it was parted
-  kept : (c : Multiplied) → others (divided c) (c .product .last .1 .0) ≡ others (divided c) (divided c .split .last .0)
+  kept : (c : of-sum sum-lts.After-product) → others (divided c) (c .product .last .1 .0) ≡ others (divided c) (divided c .split .last .0)
   kept c = part-after (c .product .ensures .outside) (origin (divided c) .args .e) (divided c .split .ensures .most)
 
   -- `+` and the sum of the rest are due
-  plus-due : (c : More) → let m = multiplied c in
+  plus-due : (c : of-sum sum-lts.Else2) → let m = multiplied c in
       Due-of (origin (divided m)) (m .product .last .1 .1 .1 .1 .1 .0) (m .product .result) (43 ∷ writtenSum (others (divided m) (m .product .last .1 .0)))
   plus-due c =
       let m = multiplied c in
@@ -309,12 +255,10 @@ module _ (t : ℕ) where
       let some = part-some (d .split .last .0) (d .split .result) (origin d .args .e) (omega (arith, d .split .ensures .most, c .if2 .left)) (held d) in
       due-as (rest-due m) (after-some _ some ∙ ap (λ g. 43 ∷ writtenSum g) (sym (kept m)))
 
-  sum-put-requires : sum-lts.Need-put-requires sum-known (sum-at t) sum.Post
-  sum-put-requires c κs = search needs
-
-  sum-sum-requires : sum-lts.Need-sum-requires sum-known (sum-at t) sum.Post
+  sum-sum-requires : of-sum sum-lts.Need-sum-requires
   sum-sum-requires c κs =
-      let m = multiplied (c .before .before .before .before .before .before .before) in
+      let lent = c .before .before .before in
+      let m = multiplied (lent .before .before .before .before) in
       let d = divided m in
       let s = origin d in (
         omega (arith, s .pre .0, ap literalsOf (kept m), ap literalsOf (d .split .ensures .second), literals-fall (literal d) (terms s), many d),
@@ -327,19 +271,12 @@ module _ (t : ℕ) where
         },
       )
 
-  sum-same-length-6 : sum-lts.Need-same-length-6 sum-known (sum-at t) sum.Post
-  sum-same-length-6 c = search needs
-
-  sum-same-length-7 : sum-lts.Need-same-length-7 sum-known (sum-at t) sum.Post
-  sum-same-length-7 c = search needs
-
-  sum-same-length-8 : sum-lts.Need-same-length-8 sum-known (sum-at t) sum.Post
-  sum-same-length-8 c = search needs
-
-  sum-returns-3 : sum-lts.Need-returns-3 sum-known (sum-at t) sum.Post
+  sum-returns-3 : of-sum sum-lts.Need-returns-3
   sum-returns-3 c =
-      let r = c .before .before .before .before .before .before in
-      let p = r .before .before .before .before .before .before in
+      let back = c .before .before .before in
+      let r = back .before .before .before in
+      let lent = r .before .before .before in
+      let p = lent .before .before .before in
       let m = multiplied (p .before .before) in
       record {
         laid = due-last (due-next (plus-due (p .before .before)) (p .put .ensures)) (r .sum .ensures .laid);
@@ -350,9 +287,9 @@ pub +product+sum-spec : {M : Type 1} → statement M
 +product+sum-spec =
     close μ-product μ-sum
     (λ t. product-lts.spec (product-known t) (product-at t) product.Post
-    (product-put-literal-requires t) (product-put-requires t) (product-put-requires-2 t) (product-sum-requires t) (product-put-requires-3 t)
-    (product-same-length t) (product-same-length-2 t) (product-same-length-3 t) (product-returns t))
+    (search needs) (search needs) (search needs) (product-sum-requires t) (search needs)
+    (search needs) (search needs) (search needs) (product-returns t))
     (λ t. sum-lts.spec (sum-known t) (sum-at t) sum.Post
-    (sum-most-used-requires t) (sum-uses-requires t) (sum-put-cubes-requires t) (sum-same-length t) (sum-same-length-2 t) (sum-returns t)
-    (sum-split-requires t) (sum-product-requires t) (sum-same-length-3 t) (sum-same-length-4 t) (sum-same-length-5 t) (sum-returns-2 t)
-    (sum-put-requires t) (sum-sum-requires t) (sum-same-length-6 t) (sum-same-length-7 t) (sum-same-length-8 t) (sum-returns-3 t))
+    (sum-most-used-requires t) (sum-uses-requires t) (sum-put-cubes-requires t) (search needs) (search needs) (sum-returns t)
+    (sum-split-requires t) (sum-product-requires t) (search needs) (search needs) (search needs) (sum-returns-2 t)
+    (search needs) (sum-sum-requires t) (search needs) (search needs) (search needs) (sum-returns-3 t))

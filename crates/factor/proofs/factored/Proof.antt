@@ -17,17 +17,8 @@ use Rattle.letters.proofs.Telling.{told-before, told-long, told-whole}
 use Rattle.factor.proofs.factored.Statement.{statement}
 use Rattle.factor.proofs.factored.Tie as tie
 
-accept-requires : tie.Need-accept-requires
-accept-requires c κs = search needs
-
-enum-known-v : tie.Need-enum-known-v
-enum-known-v c = search needs
-
 returns : tie.Need-returns
 returns c = rw (sym (c .before .before .before .accept .ensures) ∙ ap refusalOf (c .before .v .given .1)) (told-before _ _ _)
-
-enum-told : tie.Need-enum-told
-enum-told c = search needs
 
 -- the states of the walk: after the verdict, after the text is counted in no room
 abbrev begun : tie.After-enum-told → tie.Start
@@ -40,12 +31,6 @@ judged c = c .before .before
 kept : (c : tie.After-text) → c .text .last .1 .0 ++ begun (judged c) .args .o .now ≡ begun (judged c) .args .o .now
 kept c = ap (_++ begun (judged c) .args .o .now) (laid-nowhere (c .text .ensures))
 
-slice-relend-prefix-text : tie.Need-slice-relend-prefix-text
-slice-relend-prefix-text c = search needs
-
-slice-aggregate-text : tie.Need-slice-aggregate-text
-slice-aggregate-text c = search needs
-
 -- an expression of at most 1,024 cubes
 accepted : (c : tie.After-enum-told) → refusal (begun c .args .f .now) ≡ none
 accepted c = sym (c .before .before .accept .ensures) ∙ ap refusalOf (c .enum-told .given .1)
@@ -56,9 +41,6 @@ few c = let f = begun c .args .f .now in omega (arith, spare-length f, accepted-
 text-requires : tie.Need-text-requires
 text-requires c κs = few (c .before)
 
-same-length : tie.Need-same-length
-same-length c = search needs
-
 returns-2 : tie.Need-returns-2
 returns-2 c =
     let k = c .before .before .before in
@@ -68,9 +50,6 @@ returns-2 c =
 
 text-requires-2 : tie.Need-text-requires-2
 text-requires-2 c κs = few (judged (c .before .before .before .before))
-
-same-length-2 : tie.Need-same-length-2
-same-length-2 c = search needs
 
 returns-3 : tie.Need-returns-3
 returns-3 c =
@@ -85,17 +64,5 @@ returns-3 c =
 
 pub factored-spec : {M : Type 1} → statement M
 factored-spec =
-    tie.close
-    (tie.spec
-    accept-requires
-    enum-known-v
-    returns
-    enum-told
-    slice-relend-prefix-text
-    slice-aggregate-text
-    text-requires
-    same-length
-    returns-2
-    text-requires-2
-    same-length-2
-    returns-3)
+    tie.close (tie.spec (search needs) (search needs) returns (search needs) (search needs) (search needs) text-requires (search needs) returns-2
+    text-requires-2 (search needs) returns-3)

@@ -22,10 +22,7 @@ abbrev μ-loop : tie.MeasureT-loop
 μ-loop w₀ spare₀ a e l one m₀ i₀ w spare m i = e - i
 
 -- the states of the walk: at the start, at the loop's head, after a cube is read and tested
-abbrev Begun : Type 0
-Begun = tie.Start Inv-loop μ-loop
-
-abbrev begun : tie.At-loop Inv-loop μ-loop → Begun
+abbrev begun : tie.At-loop Inv-loop μ-loop → tie.Start Inv-loop μ-loop
 begun c = c .before .before .before .before .before
 
 abbrev inner : tie.After-cube-at Inv-loop μ-loop → tie.In-loop Inv-loop μ-loop
@@ -38,38 +35,18 @@ read c = c .before
 abbrev cube : tie.At-loop Inv-loop μ-loop → List ℕ
 cube c = getD (cubesOf (begun c .args .w .now)) (c .loop .i) []
 
-empty-requires : tie.Need-empty-requires Inv-loop μ-loop
-empty-requires c κs = search needs
-
-with-requires : tie.Need-with-requires Inv-loop μ-loop
-with-requires c κs = search needs
-
 loop-holds : tie.Need-loop-holds Inv-loop μ-loop
 loop-holds c = (c .before .before .before .before .pre .1 .held .forth, parting-none _ _ _ _, refl, refl)
 
-cube-at-requires : tie.Need-cube-at-requires Inv-loop μ-loop
-cube-at-requires c κs = search needs
-
-has-requires : tie.Need-has-requires Inv-loop μ-loop
-has-requires c κs = search needs
-
-without-requires : tie.Need-without-requires Inv-loop μ-loop
-without-requires c κs = search needs
-
-put-cube-requires : tie.Need-put-cube-requires Inv-loop μ-loop
-put-cube-requires c κs = search needs
-
 add-m : tie.Need-add-m Inv-loop μ-loop
 add-m c =
-    let i = inner (read (c .before .before .before .before .before .before)) in
+    let p = c .before .before in
+    let i = inner (read (p .before .before .before .before)) in
     let s = begun (i .before) in
     omega (arith, i .loop-test .taken, i .before .loop .inv .1 .most, s .pre .1 .held .inside, cubes-few (s .args .w .now))
 
 sub-put-cube : tie.Need-sub-put-cube Inv-loop μ-loop
 sub-put-cube c = omega (arith, inner (read (c .before .before)) .before .loop .inv .1 .most)
-
-put-cube-requires-2 : tie.Need-put-cube-requires-2 Inv-loop μ-loop
-put-cube-requires-2 c κs = search needs
 
 add-i : tie.Need-add-i Inv-loop μ-loop
 add-i c =
@@ -156,23 +133,5 @@ returns c =
 
 pub gather-spec : {M : Type 1} → statement M
 gather-spec =
-    tie.close
-    (tie.spec
-    Inv-loop
-    μ-loop
-    empty-requires
-    with-requires
-    loop-holds
-    cube-at-requires
-    has-requires
-    without-requires
-    put-cube-requires
-    add-m
-    sub-put-cube
-    put-cube-requires-2
-    add-i
-    loop-less
-    loop-again
-    same-length
-    same-length-2
-    returns)
+    tie.close (tie.spec Inv-loop μ-loop (search needs) (search needs) loop-holds (search needs) (search needs) (search needs) (search needs) add-m
+    sub-put-cube (search needs) add-i loop-less loop-again same-length same-length-2 returns)

@@ -24,16 +24,16 @@ abbrev μ-loop : tie.MeasureT-loop
 μ-loop o₀ at w a e p₀ i₀ o p i = e - i
 
 -- the states of the walk: at the start, after the first cube is read, after it is written, in the loop
-abbrev Begun : Type 0
-Begun = tie.Start Inv-loop μ-loop
+abbrev Opening : Type 0
+Opening = tie.Start Inv-loop μ-loop
 
-abbrev begun : tie.After-cube-at Inv-loop μ-loop → Begun
+abbrev begun : tie.After-cube-at Inv-loop μ-loop → Opening
 begun c = c .before .before .before .before .before
 
 abbrev wrote : tie.At-loop Inv-loop μ-loop → tie.After-put-product Inv-loop μ-loop
 wrote c = c .before .before .before
 
-abbrev origin : tie.At-loop Inv-loop μ-loop → Begun
+abbrev origin : tie.At-loop Inv-loop μ-loop → Opening
 origin c = begun (wrote c .before)
 
 abbrev plus : tie.After-cube-at2 Inv-loop μ-loop → tie.After-put2 Inv-loop μ-loop
@@ -46,21 +46,15 @@ abbrev turned : tie.After-slice-known5 Inv-loop μ-loop → tie.After-cube-at2 I
 turned c = c .before .before .before
 
 -- the cubes from one on, and their text with `+` before each
-abbrev from : Begun → ℕ → List (List ℕ)
+abbrev from : Opening → ℕ → List (List ℕ)
 from s i = cubesFrom i (s .args .e) (s .args .w .now)
 
-abbrev others : Begun → ℕ → List ℕ
+abbrev others : Opening → ℕ → List ℕ
 others s i = plussed (from s i)
 
 -- what is due of the text of all
-abbrev Owed : Begun → List ℕ → ℕ → List ℕ → Type 0
+abbrev Owed : Opening → List ℕ → ℕ → List ℕ → Type 0
 Owed s o at t = Due (s .args .o .now) (s .args .at) (sumText (from s (s .args .a))) o at t
-
-put-requires : tie.Need-put-requires Inv-loop μ-loop
-put-requires c κs = search needs
-
-same-length : tie.Need-same-length Inv-loop μ-loop
-same-length c = search needs
 
 -- no cubes: `0` is due
 returns : tie.Need-returns Inv-loop μ-loop
@@ -70,14 +64,8 @@ returns c =
     let none = slice-none (cubesOf (s .w .now)) (s .a) (s .e) (t .if1 .taken) in
     due-last (due-all _ _ (omega arith) (omega arith) (ap sumText none ∙ sum-none)) (c .before .before .put .ensures)
 
-cube-at-requires : tie.Need-cube-at-requires Inv-loop μ-loop
-cube-at-requires c κs = search needs
-
-put-product-requires : tie.Need-put-product-requires Inv-loop μ-loop
-put-product-requires c κs = search needs
-
 -- the cube at a place and those after it
-next : (s : Begun) (i : ℕ) → i < s .args .e → from s i ≡ getD (cubesOf (s .args .w .now)) i [] ∷ from s (i + 1)
+next : (s : Opening) (i : ℕ) → i < s .args .e → from s i ≡ getD (cubesOf (s .args .w .now)) i [] ∷ from s (i + 1)
 next s i h = slice-next (cubesOf (s .args .w .now)) i (s .args .e) [] h (s .pre .inside)
 
 -- the first cube is due, then the others
@@ -101,29 +89,20 @@ loop-holds c =
     (omega (arith, begun k .pre .forth, k .before .before .if1 .left), due-all _ _ (omega arith) (laid-next (w .put-product .ensures)) refl, refl)
 
 -- what is due of the text of the others
-abbrev Left : tie.At-loop Inv-loop μ-loop → List ℕ → ℕ → List ℕ → Type 0
-Left c o at t = Due (wrote c .put-product .last .0) (wrote c .put-product .result) (others (origin c) (origin c .args .a + 1)) o at t
+abbrev OwedAfter : tie.At-loop Inv-loop μ-loop → List ℕ → ℕ → List ℕ → Type 0
+OwedAfter c o at t = Due (wrote c .put-product .last .0) (wrote c .put-product .result) (others (origin c) (origin c .args .a + 1)) o at t
 
 plus-due : (c : tie.In-loop Inv-loop μ-loop) → let h = c .before in let s = origin h in
-    Left h (h .loop .o) (h .loop .p) (43 ∷ (cubeText (getD (cubesOf (s .args .w .now)) (h .loop .i) []) ++ others s (h .loop .i + 1)))
+    OwedAfter h (h .loop .o) (h .loop .p) (43 ∷ (cubeText (getD (cubesOf (s .args .w .now)) (h .loop .i) []) ++ others s (h .loop .i + 1)))
 plus-due c =
     let h = c .before in
     due-as (h .loop .inv .1) (ap plussed (next (origin h) (h .loop .i) (c .loop-test .taken)) ∙ marked-cons cubeText 43 _ _)
 
-put-requires-2 : tie.Need-put-requires-2 Inv-loop μ-loop
-put-requires-2 c κs = search needs
-
-cube-at-requires-2 : tie.Need-cube-at-requires-2 Inv-loop μ-loop
-cube-at-requires-2 c κs = search needs
-
 cube-due : (c : tie.After-cube-at2 Inv-loop μ-loop) → let h = inside c .before in
-    Left h (plus c .put2 .last .0) (plus c .put2 .result) (cubeText (lits (c .cube-at2 .result)) ++ others (origin h) (h .loop .i + 1))
+    OwedAfter h (plus c .put2 .last .0) (plus c .put2 .result) (cubeText (lits (c .cube-at2 .result)) ++ others (origin h) (h .loop .i + 1))
 cube-due c =
     let h = inside c .before in
     due-as (due-next (plus-due (inside c)) (plus c .put2 .ensures)) (ap (λ x. cubeText x ++ others (origin h) (h .loop .i + 1)) (sym (c .cube-at2 .ensures)))
-
-put-product-requires-2 : tie.Need-put-product-requires-2 Inv-loop μ-loop
-put-product-requires-2 c κs = search needs
 
 add-i-2 : tie.Need-add-i-2 Inv-loop μ-loop
 add-i-2 c =
@@ -156,22 +135,5 @@ returns-2 c =
 
 pub put-cubes-spec : {M : Type 1} → statement M
 put-cubes-spec =
-    tie.close
-    (tie.spec
-    Inv-loop
-    μ-loop
-    put-requires
-    same-length
-    returns
-    cube-at-requires
-    put-product-requires
-    add-i
-    loop-holds
-    put-requires-2
-    cube-at-requires-2
-    put-product-requires-2
-    add-i-2
-    loop-less
-    loop-again
-    same-length-2
-    returns-2)
+    tie.close (tie.spec Inv-loop μ-loop (search needs) (search needs) returns (search needs) (search needs) add-i loop-holds (search needs) (search needs)
+    (search needs) add-i-2 loop-less loop-again same-length-2 returns-2)

@@ -22,30 +22,9 @@ places = replicate (cubeWords * mostHanded) 0
 room : length (cubesOf places) ≡ mostHanded
 room = room-cubes places mostHanded refl
 
-number-requires : tie.Need-number-requires
-number-requires c κs = search needs
-
-slice-aggregate-copy : tie.Need-slice-aggregate-copy
-slice-aggregate-copy c = search needs
-
 -- there are places for the cubes
 few : (c : tie.After-number) → c .number .result ≤ length (cubesOf places)
 few c = omega (arith, room, c .number .ensures, c .before .before .before .pre)
-
-copy-requires : tie.Need-copy-requires
-copy-requires c κs = search needs
-
-slice-aggregate-sort-part : tie.Need-slice-aggregate-sort-part
-slice-aggregate-sort-part c = search needs
-
-sort-part-requires : tie.Need-sort-part-requires
-sort-part-requires c κs = search needs
-
-slice-aggregate-sum : tie.Need-slice-aggregate-sum
-slice-aggregate-sum c = search needs
-
-slice-aggregate-sum-2 : tie.Need-slice-aggregate-sum-2
-slice-aggregate-sum-2 c = search needs
 
 -- the states of the walk: after the cubes are counted, copied, put in order
 abbrev counted : tie.After-copy → tie.After-number
@@ -80,23 +59,10 @@ sum-requires c κs =
       places = few n;
     }
 
-same-length : tie.Need-same-length
-same-length c = search needs
-
 returns : tie.Need-returns
 returns c = let s = c .before .before .before .before in due-last (whole (s .before .before .before .before .before)) (s .sum .ensures .laid)
 
 pub text-spec : {M : Type 1} → statement M
 text-spec =
-    tie.close
-    (tie.spec
-    number-requires
-    slice-aggregate-copy
-    copy-requires
-    slice-aggregate-sort-part
-    sort-part-requires
-    slice-aggregate-sum
-    slice-aggregate-sum-2
-    sum-requires
-    same-length
+    tie.close (tie.spec (search needs) (search needs) (search needs) (search needs) (search needs) (search needs) (search needs) sum-requires (search needs)
     returns)
