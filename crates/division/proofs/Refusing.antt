@@ -59,7 +59,7 @@ module _ (f d : List ℕ) (v : Verdict) (h : refusalOf v ≡ either (refusal f) 
 
 -- ---- what is known where neither is refused
 
-pub record Admitted (f d : List ℕ) : Type 0 where
+pub record Admissible (f d : List ℕ) : Type 0 where
   pub dividend : accept.Accepted f
   pub divisor : accept.Accepted d
   pub some : 0 < length (cubesOf d)
@@ -73,12 +73,12 @@ either-none (some k) (some l) h = elim (ltb l k) as (λ t. cond {A = Option ℕ}
   | false ↦ λ e. some-not-none (some k) refl e
 ] h
 
-pub admitted-known : (f d : List ℕ) → admitted f d ≡ none → Admitted f d
+pub admitted-known : (f d : List ℕ) → admitted f d ≡ none → Admissible f d
 unfolding admitted noCubes
 admitted-known f d h = go (either (refusal f) (refusal d)) refl (isNil (cubesOf d)) refl h
   where
     go : (o : Option ℕ) → either (refusal f) (refusal d) ≡ o → (t : Bool) → isNil (cubesOf d) ≡ t → orElse o (cond t (some 8) none) ≡ none
-        → Admitted f d
+        → Admissible f d
     go (some k) e t n h = some-not-none (some k) refl h
     go none e true n h = some-not-none (some 8) refl h
     go none e false n h = let q = either-none (refusal f) (refusal d) e in
@@ -131,13 +131,13 @@ module _ (f d q r : List ℕ) where
   pub told-early : (k : ℕ) → some k ≡ admitted f d → Told (refusedBy f d q r) f d q r q r (Turned k)
   told-early k h = rw (early k (sym h)) (refl, refl, refl)
 
-  late : Admitted f d → refusedBy f d q r ≡ cond tight (some 9) none
+  late : Admissible f d → refusedBy f d q r ≡ cond tight (some 9) none
   unfolding refusedBy roomed cramped
   late m =
       subst (λ o. after o (roomed f d q r) ≡ cond tight (some 9) none) (sym (m .neither)) (rw (nil-some (cubesOf d) (λ z. omega (arith, m .some))))
 
   -- what is handed over is the answer
-  pub told-late : {a b : List (List ℕ)} (q′ r′ : List ℕ) (t : Division) → Admitted f d
+  pub told-late : {a b : List (List ℕ)} (q′ r′ : List ℕ) (t : Division) → Admissible f d
       → a ≡ quotient (cubesOf f) (cubesOf d) → b ≡ remainder (cubesOf f) (cubesOf d)
       → Handed (cramped a b q r) a b q r q′ r′ t → Told (refusedBy f d q r) f d q r q′ r′ t
   told-late {a} {b} q′ r′ t m e g h =

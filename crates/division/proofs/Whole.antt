@@ -15,7 +15,7 @@ use Rattle.division.specs.Division.{quotient, remainder}
 use Rattle.division.specs.Parts.{OrderedRoom, divisors, spared, sparedOf}
 use Rattle.division.proofs.Quotients.{quotient-form}
 use Rattle.division.proofs.Making.{made-quotient, made-remainder}
-use Rattle.division.proofs.Refusing.{Admitted}
+use Rattle.division.proofs.Refusing.{Admissible}
 
 -- a room for an expression handed in
 abbrev pub blank : List ℕ
@@ -24,7 +24,7 @@ blank = replicate (cubeWords * mostHanded) 0
 blank-length : length (cubesOf blank) ≡ mostHanded
 blank-length = room-cubes blank mostHanded (length-replicate {A = ℕ} (cubeWords * mostHanded) 0)
 
-module _ {f d : List ℕ} (m : Admitted f d) where
+module _ {f d : List ℕ} (m : Admissible f d) where
   pub blank-room : length (cubesOf f) ≤ length (cubesOf blank)
   blank-room = subst (λ n. length (cubesOf f) ≤ n) (sym blank-length) (m .dividend .few)
 

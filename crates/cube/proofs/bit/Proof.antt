@@ -11,12 +11,6 @@ use Rattle.cube.proofs.bit.Tie as tie
 returns : tie.Need-returns
 returns c = sym (single-other 64 _ _ (c .if1 .taken))
 
-cast-result : tie.Need-cast-result
-cast-result c = search needs
-
-shl-result : tie.Need-shl-result
-shl-result c = search needs
-
 returns-2 : tie.Need-returns-2
 returns-2 c = shifted-one 64 _ (omega arith) ∙ sym (single-one 64 _ _ (lt-ltb _ 128 (c .if2 .taken)) (c .before .if1 .left))
 
@@ -24,4 +18,4 @@ returns-3 : tie.Need-returns-3
 returns-3 c = sym (single-none 64 _ _ (le-ltb _ 128 (c .if2 .left)))
 
 pub bit-spec : {M : Type 1} → statement M
-bit-spec = tie.close (tie.spec returns cast-result shl-result returns-2 returns-3)
+bit-spec = tie.close (tie.spec returns (search needs) (search needs) returns-2 returns-3)

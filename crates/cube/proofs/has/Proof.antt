@@ -9,12 +9,6 @@ use Rattle.sets.proofs.Literals.{mem-single}
 use Rattle.cube.proofs.has.Statement.{statement}
 use Rattle.cube.proofs.has.Tie as tie
 
-bit-requires : tie.Need-bit-requires
-bit-requires c κs = search needs
-
-bit-requires-2 : tie.Need-bit-requires-2
-bit-requires-2 c κs = search needs
-
 returns : tie.Need-returns
 returns c =
     let a = c .before .before .before .before .args in
@@ -23,4 +17,4 @@ returns c =
     ∙ mem-single 64 (a .l .0) (a .c .plain) (a .c .negated)
 
 pub has-spec : {M : Type 1} → statement M
-has-spec = tie.close (tie.spec bit-requires bit-requires-2 returns)
+has-spec = tie.close (tie.spec (search needs) (search needs) returns)

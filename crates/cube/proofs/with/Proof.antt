@@ -8,12 +8,6 @@ use Rattle.sets.proofs.Literals.{literals-single}
 use Rattle.cube.proofs.with.Statement.{statement}
 use Rattle.cube.proofs.with.Tie as tie
 
-bit-requires : tie.Need-bit-requires
-bit-requires c κs = search needs
-
-bit-requires-2 : tie.Need-bit-requires-2
-bit-requires-2 c κs = search needs
-
 returns : tie.Need-returns
 returns c =
     let a = c .before .before .before .before .args in
@@ -21,4 +15,4 @@ returns c =
     ∙ literals-single 64 (a .l .0) (a .c .plain) (a .c .negated)
 
 pub with-spec : {M : Type 1} → statement M
-with-spec = tie.close (tie.spec bit-requires bit-requires-2 returns)
+with-spec = tie.close (tie.spec (search needs) (search needs) returns)

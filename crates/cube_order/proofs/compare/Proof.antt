@@ -7,21 +7,6 @@ use borrow.Author.Needs.{needs}
 use Rattle.cube_order.proofs.compare.Statement.{statement}
 use Rattle.cube_order.proofs.compare.Tie as tie
 
-first-at-requires : tie.Need-first-at-requires
-first-at-requires c κs = search needs
-
-enum-told : tie.Need-enum-told
-enum-told c = search needs
-
-enum-known-f : tie.Need-enum-known-f
-enum-known-f c = search needs
-
-has-requires : tie.Need-has-requires
-has-requires c κs = search needs
-
-goes-on-requires : tie.Need-goes-on-requires
-goes-on-requires c κs = search needs
-
 returns : tie.Need-returns
 returns c =
     let h = c .before .before .before in
@@ -35,9 +20,6 @@ returns-2 c =
     let k = h .before .before in
     is-after _ _ (left-after 64 _ _ _ _ _ (ap answer (sym (k .f .given .1)) ∙ k .before .before .first-at .ensures)
     (sym (h .has .ensures) ∙ c .before .before .if1 .taken) (sym (c .before .goes-on .ensures) ∙ c .if2 .left))
-
-goes-on-requires-2 : tie.Need-goes-on-requires-2
-goes-on-requires-2 c κs = search needs
 
 returns-3 : tie.Need-returns-3
 returns-3 c =
@@ -58,16 +40,5 @@ returns-5 c =
 
 pub compare-spec : {M : Type 1} → statement M
 compare-spec =
-    tie.close
-    (tie.spec
-    first-at-requires
-    enum-told
-    enum-known-f
-    has-requires
-    goes-on-requires
-    returns
-    returns-2
-    goes-on-requires-2
-    returns-3
-    returns-4
+    tie.close (tie.spec (search needs) (search needs) (search needs) (search needs) (search needs) returns returns-2 (search needs) returns-3 returns-4
     returns-5)

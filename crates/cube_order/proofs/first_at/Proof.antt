@@ -12,38 +12,8 @@ use Rattle.cube_order.proofs.first_at.Tie as tie
 returns : tie.Need-returns
 returns c = first-wide 64 _ _ _ (c .if1 .taken)
 
-cast-p : tie.Need-cast-p
-cast-p c = search needs
-
-shr-p : tie.Need-shr-p
-shr-p c = search needs
-
-cast-n : tie.Need-cast-n
-cast-n c = search needs
-
-shr-n : tie.Need-shr-n
-shr-n c = search needs
-
 returns-2 : tie.Need-returns-2
 returns-2 c = first-empty 64 _ _ _ (c .if2 .taken)
-
-lowest-requires : tie.Need-lowest-requires
-lowest-requires c κs = search needs
-
-add-t11 : tie.Need-add-t11
-add-t11 c = search needs
-
-cast-if3 : tie.Need-cast-if3
-cast-if3 c = search needs
-
-shr-if3 : tie.Need-shr-if3
-shr-if3 c = search needs
-
-plain-requires : tie.Need-plain-requires
-plain-requires c κs = search needs
-
-negated-requires : tie.Need-negated-requires
-negated-requires c κs = search needs
 
 returns-3 : tie.Need-returns-3
 returns-3 c =
@@ -59,19 +29,5 @@ returns-4 c =
 
 pub first-at-spec : {M : Type 1} → statement M
 first-at-spec =
-    tie.close
-    (tie.spec
-    returns
-    cast-p
-    shr-p
-    cast-n
-    shr-n
-    returns-2
-    lowest-requires
-    add-t11
-    cast-if3
-    shr-if3
-    plain-requires
-    negated-requires
-    returns-3
-    returns-4)
+    tie.close (tie.spec returns (search needs) (search needs) (search needs) (search needs) returns-2 (search needs) (search needs) (search needs)
+    (search needs) (search needs) (search needs) returns-3 returns-4)

@@ -6,15 +6,6 @@ use borrow.Author.Needs.{needs}
 use Rattle.cube_order.proofs.goes_on.Statement.{statement}
 use Rattle.cube_order.proofs.goes_on.Tie as tie
 
-first-from-requires : tie.Need-first-from-requires
-first-from-requires c κs = search needs
-
-enum-told : tie.Need-enum-told
-enum-told c = search needs
-
-enum-told-2 : tie.Need-enum-told-2
-enum-told-2 c = search needs
-
 returns : tie.Need-returns
 returns c = ap (λ f. isSome (answer f)) (sym (c .enum-told .given .1)) ∙ ap isSome (c .before .before .first-from .ensures)
 
@@ -22,4 +13,4 @@ returns-2 : tie.Need-returns-2
 returns-2 c = ap (λ f. isSome (answer f)) (sym (c .enum-told2 .given .1)) ∙ ap isSome (c .before .before .first-from .ensures)
 
 pub goes-on-spec : {M : Type 1} → statement M
-goes-on-spec = tie.close (tie.spec first-from-requires enum-told enum-told-2 returns returns-2)
+goes-on-spec = tie.close (tie.spec (search needs) (search needs) (search needs) returns returns-2)

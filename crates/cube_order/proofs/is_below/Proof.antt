@@ -17,15 +17,6 @@ returns c =
     let a = c .before .args in
     all-below (a .v) (lits (a .c)) (λ x m. omega (arith, c .if1 .taken, lits-inside (a .c) x m))
 
-cast-t5 : tie.Need-cast-t5
-cast-t5 c = search needs
-
-plain-requires : tie.Need-plain-requires
-plain-requires c κs = search needs
-
-goes-on-requires : tie.Need-goes-on-requires
-goes-on-requires c κs = search needs
-
 returns-2 : tie.Need-returns-2
 returns-2 c =
     let p = c .before in
@@ -35,4 +26,4 @@ returns-2 c =
     ∙ first-below (s .args .v) (lits (s .args .c)) (lits-asc (s .args .c))
 
 pub is-below-spec : {M : Type 1} → statement M
-is-below-spec = tie.close (tie.spec returns cast-t5 plain-requires goes-on-requires returns-2)
+is-below-spec = tie.close (tie.spec returns (search needs) (search needs) (search needs) returns-2)

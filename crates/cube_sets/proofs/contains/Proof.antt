@@ -6,14 +6,8 @@ use borrow.Author.Needs.{needs}
 use Rattle.cube_sets.proofs.contains.Statement.{statement}
 use Rattle.cube_sets.proofs.contains.Tie as tie
 
-without-requires : tie.Need-without-requires
-without-requires c κs = search needs
-
-is-empty-requires : tie.Need-is-empty-requires
-is-empty-requires c κs = search needs
-
 returns : tie.Need-returns
 returns c = c .is-empty .ensures ∙ ap isNil (c .before .without .ensures) ∙ without-none _ _
 
 pub contains-spec : {M : Type 1} → statement M
-contains-spec = tie.close (tie.spec without-requires is-empty-requires returns)
+contains-spec = tie.close (tie.spec (search needs) (search needs) returns)

@@ -5,9 +5,6 @@ use Rattle.division.proofs.Refusing.{no-cubes, some-cubes}
 use Rattle.division.proofs.accept_divisor.Statement.{statement}
 use Rattle.division.proofs.accept_divisor.Tie as tie
 
-number-requires : tie.Need-number-requires
-number-requires c κs = search needs
-
 returns : tie.Need-returns
 returns c = no-cubes _ (sym (c .before .number .ensures) ∙ c .if1 .taken)
 
@@ -15,4 +12,4 @@ returns-2 : tie.Need-returns-2
 returns-2 c = some-cubes _ (λ z. c .if1 .left (c .before .number .ensures ∙ z))
 
 pub accept-divisor-spec : {M : Type 1} → statement M
-accept-divisor-spec = tie.close (tie.spec number-requires returns returns-2)
+accept-divisor-spec = tie.close (tie.spec (search needs) returns returns-2)

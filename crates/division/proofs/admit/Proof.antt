@@ -14,26 +14,8 @@ start l = l .before .before .before .before .before
 first : (l : tie.After-lesser) → refusalOf (l .lesser .result) ≡ either (refusal (start l .args .f .now)) (refusal (start l .args .d .now))
 first l = l .lesser .ensures ∙ ap₂ either (l .before .before .accept .ensures) (l .before .accept2 .ensures)
 
-accept-requires : tie.Need-accept-requires
-accept-requires c κs = search needs
-
-accept-requires-2 : tie.Need-accept-requires-2
-accept-requires-2 c κs = search needs
-
-lesser-requires : tie.Need-lesser-requires
-lesser-requires c κs = search needs
-
-enum-told : tie.Need-enum-told
-enum-told c = search needs
-
-enum-told-2 : tie.Need-enum-told-2
-enum-told-2 c = search needs
-
 returns : tie.Need-returns
 returns c = let l = c .before .before in admitted-early (start l .args .f .now) (start l .args .d .now) _ (first l) _ (c .enum-told2 .given .1)
-
-accept-divisor-requires : tie.Need-accept-divisor-requires
-accept-divisor-requires c κs = search needs
 
 returns-2 : tie.Need-returns-2
 returns-2 c =
@@ -42,14 +24,4 @@ returns-2 c =
     admitted-late (start l .args .f .now) (start l .args .d .now) _ (first l) (c .accept-divisor .result) (e .enum-told .given .1) (c .accept-divisor .ensures)
 
 pub admit-spec : {M : Type 1} → statement M
-admit-spec =
-    tie.close
-    (tie.spec
-    accept-requires
-    accept-requires-2
-    lesser-requires
-    enum-told
-    enum-told-2
-    returns
-    accept-divisor-requires
-    returns-2)
+admit-spec = tie.close (tie.spec (search needs) (search needs) (search needs) (search needs) (search needs) returns (search needs) returns-2)

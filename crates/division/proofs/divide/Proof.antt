@@ -8,29 +8,24 @@ use Rattle.expression.specs.Expression.{sort}
 use Rattle.expression.specs.Answers.{refusalOf}
 use Rattle.division.specs.Division.{quotient, remainder}
 use Rattle.division.proofs.Listing.{front-part}
-use Rattle.division.proofs.Refusing.{Admitted, admitted-known, told-early, told-late}
+use Rattle.division.proofs.Refusing.{Admissible, admitted-known, told-early, told-late}
 use Rattle.division.proofs.Whole.{blank, blank-room, sorted-room, sorted-ready, listed-quotient, quotient-order, listed-remainder}
 use Rattle.division.proofs.divide.Statement.{statement}
 use Rattle.division.proofs.divide.Tie as tie
 
-admit-requires : tie.Need-admit-requires
-admit-requires c κs = search needs
-
-enum-known-v : tie.Need-enum-known-v
-enum-known-v c = search needs
-
 returns : tie.Need-returns
 returns c = told-early _ _ _ _ _ (sym (ap refusalOf (c .before .v .given .1)) ∙ c .before .before .before .admit .ensures)
 
-enum-told : tie.Need-enum-told
-enum-told c = search needs
+-- the states of the walk: after both are judged, and at the start
+abbrev judged : tie.After-enum-told → tie.After-admit
+judged c = c .before .before
 
 abbrev start : tie.After-enum-told → tie.Start
-start c = c .before .before .before .before .before .before .before
+start c = judged c .before .before .before .before .before
 
 -- neither expression is refused, and the divisor has a cube
-admission : (c : tie.After-enum-told) → Admitted (start c .args .f .now) (start c .args .d .now)
-admission c = admitted-known _ _ (sym (c .before .before .admit .ensures) ∙ ap refusalOf (c .enum-told .given .1))
+admission : (c : tie.After-enum-told) → Admissible (start c .args .f .now) (start c .args .d .now)
+admission c = admitted-known _ _ (sym (judged c .admit .ensures) ∙ ap refusalOf (c .enum-told .given .1))
 
 abbrev opening : tie.After-part → tie.After-enum-told
 opening c = c .before .before .before .before .before
@@ -66,53 +61,17 @@ remainders c =
 rest : (c : tie.After-part3) → cubesOf (c .part3 .result .now) ≡ over (opened (c .before .before .before .before .before)) remainder
 rest c = front-part (remainders (c .before .before .before)) _ (c .part3 .ensures .0)
 
-slice-aggregate-copy-sorted : tie.Need-slice-aggregate-copy-sorted
-slice-aggregate-copy-sorted c = search needs
-
 copy-sorted-requires : tie.Need-copy-sorted-requires
 copy-sorted-requires c κs = blank-room (admission (c .before))
 
-slice-aggregate-part : tie.Need-slice-aggregate-part
-slice-aggregate-part c = search needs
-
-part-requires : tie.Need-part-requires
-part-requires c κs = search needs
-
-slice-aggregate-list-quotient-sorted : tie.Need-slice-aggregate-list-quotient-sorted
-slice-aggregate-list-quotient-sorted c = search needs
-
 list-quotient-sorted-requires : tie.Need-list-quotient-sorted-requires
 list-quotient-sorted-requires c κs = sorted-ready (admission (opening (c .before))) _ (dividend (c .before))
-
-slice-aggregate-part-2 : tie.Need-slice-aggregate-part-2
-slice-aggregate-part-2 c = search needs
-
-part-requires-2 : tie.Need-part-requires-2
-part-requires-2 c κs = search needs
-
-slice-aggregate-list-spared : tie.Need-slice-aggregate-list-spared
-slice-aggregate-list-spared c = search needs
 
 list-spared-requires : tie.Need-list-spared-requires
 list-spared-requires c κs =
     let p = c .before in
     let e = dividend (listing p .before .before) in
     (sorted-room (admission (opened p)) _ e, quotient-order (admission (opened p)) _ e _ (whole p))
-
-slice-aggregate-part-3 : tie.Need-slice-aggregate-part-3
-slice-aggregate-part-3 c = search needs
-
-part-requires-3 : tie.Need-part-requires-3
-part-requires-3 c κs = search needs
-
-hand-over-requires : tie.Need-hand-over-requires
-hand-over-requires c κs = search needs
-
-same-length : tie.Need-same-length
-same-length c = search needs
-
-same-length-2 : tie.Need-same-length-2
-same-length-2 c = search needs
 
 returns-2 : tie.Need-returns-2
 returns-2 c =
@@ -123,25 +82,6 @@ returns-2 c =
 
 pub divide-spec : {M : Type 1} → statement M
 divide-spec =
-    tie.close
-    (tie.spec
-    admit-requires
-    enum-known-v
-    returns
-    enum-told
-    slice-aggregate-copy-sorted
-    copy-sorted-requires
-    slice-aggregate-part
-    part-requires
-    slice-aggregate-list-quotient-sorted
-    list-quotient-sorted-requires
-    slice-aggregate-part-2
-    part-requires-2
-    slice-aggregate-list-spared
-    list-spared-requires
-    slice-aggregate-part-3
-    part-requires-3
-    hand-over-requires
-    same-length
-    same-length-2
-    returns-2)
+    tie.close (tie.spec (search needs) (search needs) returns (search needs) (search needs) copy-sorted-requires (search needs) (search needs) (search needs)
+    list-quotient-sorted-requires (search needs) (search needs) (search needs) list-spared-requires (search needs) (search needs) (search needs)
+    (search needs) (search needs) returns-2)

@@ -4,21 +4,8 @@ use Rattle.sets.proofs.Sets.{meet-none}
 use Rattle.division.proofs.fits.Statement.{statement}
 use Rattle.division.proofs.fits.Tie as tie
 
-common-requires : tie.Need-common-requires
-common-requires c κs = search needs
-
-is-empty-requires : tie.Need-is-empty-requires
-is-empty-requires c κs = search needs
-
-union-requires : tie.Need-union-requires
-union-requires c κs = search needs
-
-holds-requires : tie.Need-holds-requires
-holds-requires c κs = search needs
-
 returns : tie.Need-returns
 returns c = rw (c .before .before .is-empty .ensures, c .before .before .before .common .ensures, meet-none, c .before .union .ensures) at (c .holds .ensures)
 
 pub fits-spec : {M : Type 1} → statement M
-fits-spec =
-    tie.close (tie.spec common-requires is-empty-requires union-requires holds-requires returns)
+fits-spec = tie.close (tie.spec (search needs) (search needs) (search needs) (λ c κs. search needs) returns)

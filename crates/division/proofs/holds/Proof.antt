@@ -14,15 +14,6 @@ use Rattle.division.proofs.holds.Tie as tie
 returns : tie.Need-returns
 returns c = rw (not-true (c .before .before .args .passed) (c .if1 .taken))
 
-find-requires : tie.Need-find-requires
-find-requires c κs = search needs
-
-enum-told : tie.Need-enum-told
-enum-told c = search needs
-
-enum-told-2 : tie.Need-enum-told-2
-enum-told-2 c = search needs
-
 -- what the search found is what is told
 found : (c : tie.After-find) → isSome (placeOf (c .find .result)) ≡ has (lits (c .before .before .before .args .c))
     (cubesOf (c .before .before .before .args .s .now))
@@ -37,6 +28,4 @@ returns-3 c = rw (not-false (c .before .before .before .before .before .args .pa
     (sym (ap (λ r. isSome (placeOf r)) (c .enum-told2 .given .1)) ∙ found (c .before .before))
 
 pub holds-spec : {M : Type 1} → statement M
-holds-spec =
-    tie.close
-    (tie.spec returns find-requires enum-told enum-told-2 returns-2 returns-3)
+holds-spec = tie.close (tie.spec returns (search needs) (search needs) (search needs) returns-2 returns-3)

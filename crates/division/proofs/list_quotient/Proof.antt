@@ -18,12 +18,6 @@ Inv-loop f d to₀ first n kept₀ i₀ to kept i = Walk (given (cubesOf f) (cub
 abbrev μ-loop : tie.MeasureT-loop
 μ-loop f d to₀ first n kept₀ i₀ to kept i = n - i
 
-cube-at-requires : tie.Need-cube-at-requires Inv-loop μ-loop
-cube-at-requires c κs = search needs
-
-number-requires : tie.Need-number-requires Inv-loop μ-loop
-number-requires c κs = search needs
-
 abbrev start : tie.After-number Inv-loop μ-loop → tie.Start Inv-loop μ-loop
 start c = c .before .before .before .before .before
 
@@ -40,31 +34,10 @@ loop-holds c =
     let first = lits (c .before .cube-at .result) in
     walk-first (given f d first) _ _ _ (c .number .ensures) (omega (arith, given-length f d first f, s .pre .room))
 
-cube-at-requires-2 : tie.Need-cube-at-requires-2 Inv-loop μ-loop
-cube-at-requires-2 c κs = search needs
-
-add-i : tie.Need-add-i Inv-loop μ-loop
-add-i c = search needs
-
-contains-requires : tie.Need-contains-requires Inv-loop μ-loop
-contains-requires c κs = search needs
-
-loop-less : tie.Need-loop-less Inv-loop μ-loop
-loop-less c = search needs
-
 loop-again : tie.Need-loop-again Inv-loop μ-loop
 loop-again c =
     walk-skip (c .before .before .before .before .loop .inv) (omega arith) (c .before .before .cube-at2 .ensures)
     (λ l. rw (lacking (c .before) ∙ not-true _ (c .if1 .taken)))
-
-without-requires : tie.Need-without-requires Inv-loop μ-loop
-without-requires c κs = search needs
-
-fits-all-requires : tie.Need-fits-all-requires Inv-loop μ-loop
-fits-all-requires c κs = search needs
-
-loop-less-2 : tie.Need-loop-less-2 Inv-loop μ-loop
-loop-less-2 c = search needs
 
 loop-again-2 : tie.Need-loop-again-2 Inv-loop μ-loop
 loop-again-2 c =
@@ -75,15 +48,6 @@ loop-again-2 c =
       ← (c .before .before .without .ensures),
       sym (c .before .fits-all .ensures) ∙ not-true _ (c .if2 .taken),
     ))
-
-put-cube-requires : tie.Need-put-cube-requires Inv-loop μ-loop
-put-cube-requires c κs = search needs
-
-add-kept : tie.Need-add-kept Inv-loop μ-loop
-add-kept c = search needs
-
-loop-less-3 : tie.Need-loop-less-3 Inv-loop μ-loop
-loop-less-3 c = search needs
 
 loop-again-3 : tie.Need-loop-again-3 Inv-loop μ-loop
 loop-again-3 c =
@@ -108,25 +72,5 @@ returns c =
 
 pub list-quotient-spec : {M : Type 1} → statement M
 list-quotient-spec =
-    tie.close
-    (tie.spec
-    Inv-loop
-    μ-loop
-    cube-at-requires
-    number-requires
-    loop-holds
-    cube-at-requires-2
-    add-i
-    contains-requires
-    loop-less
-    loop-again
-    without-requires
-    fits-all-requires
-    loop-less-2
-    loop-again-2
-    put-cube-requires
-    add-kept
-    loop-less-3
-    loop-again-3
-    same-length
-    returns)
+    tie.close (tie.spec Inv-loop μ-loop (search needs) (search needs) loop-holds (search needs) (search needs) (search needs) (search needs) loop-again
+    (search needs) (λ c κs. search needs) (search needs) loop-again-2 (search needs) (search needs) (search needs) loop-again-3 same-length returns)

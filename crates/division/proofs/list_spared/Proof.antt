@@ -18,9 +18,6 @@ Inv-loop f q d to₀ n kept₀ i₀ to kept i = Walk (keep (spared (cubesOf q) (
 abbrev μ-loop : tie.MeasureT-loop
 μ-loop f q d to₀ n kept₀ i₀ to kept i = n - i
 
-number-requires : tie.Need-number-requires Inv-loop μ-loop
-number-requires c κs = search needs
-
 abbrev start : tie.After-number Inv-loop μ-loop → tie.Start Inv-loop μ-loop
 start c = c .before .before .before .before .before
 
@@ -30,31 +27,10 @@ loop-holds c =
     let p = spared (cubesOf (s .args .q .now)) (cubesOf (s .args .d .now)) in
     walk-first (keep p) _ _ _ (c .number .ensures) (omega (arith, keep-length p (cubesOf (s .args .f .now)), s .pre .0))
 
-cube-at-requires : tie.Need-cube-at-requires Inv-loop μ-loop
-cube-at-requires c κs = search needs
-
-add-i : tie.Need-add-i Inv-loop μ-loop
-add-i c = search needs
-
-is-spared-requires : tie.Need-is-spared-requires Inv-loop μ-loop
-is-spared-requires c κs = search needs
-
-loop-less : tie.Need-loop-less Inv-loop μ-loop
-loop-less c = search needs
-
 loop-again : tie.Need-loop-again Inv-loop μ-loop
 loop-again c =
     walk-skip (c .before .before .before .before .loop .inv) (omega arith) (c .before .before .cube-at .ensures)
     (λ l. rw (sym (c .before .is-spared .ensures) ∙ not-true _ (c .if1 .taken)))
-
-put-cube-requires : tie.Need-put-cube-requires Inv-loop μ-loop
-put-cube-requires c κs = search needs
-
-add-kept : tie.Need-add-kept Inv-loop μ-loop
-add-kept c = search needs
-
-loop-less-2 : tie.Need-loop-less-2 Inv-loop μ-loop
-loop-less-2 c = search needs
 
 loop-again-2 : tie.Need-loop-again-2 Inv-loop μ-loop
 loop-again-2 c =
@@ -72,20 +48,5 @@ returns c = walk-end (c .before .loop .inv) (omega arith) refl
 
 pub list-spared-spec : {M : Type 1} → statement M
 list-spared-spec =
-    tie.close
-    (tie.spec
-    Inv-loop
-    μ-loop
-    number-requires
-    loop-holds
-    cube-at-requires
-    add-i
-    is-spared-requires
-    loop-less
-    loop-again
-    put-cube-requires
-    add-kept
-    loop-less-2
-    loop-again-2
-    same-length
-    returns)
+    tie.close (tie.spec Inv-loop μ-loop (search needs) loop-holds (search needs) (search needs) (λ c κs. search needs) (search needs) loop-again
+    (search needs) (search needs) (search needs) loop-again-2 same-length returns)

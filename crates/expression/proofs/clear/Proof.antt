@@ -23,29 +23,11 @@ start l = l .before .before .before .before .before
 stop : (l : tie.At-loop Inv-loop μ-loop) → l .before .least .result ≡ min (start l .args .e) (length (cubesOf (start l .args .s .now)))
 stop l = l .before .least .ensures ∙ ap (min _) (l .before .before .number .ensures)
 
-number-requires : tie.Need-number-requires Inv-loop μ-loop
-number-requires c κs = search needs
-
-least-requires : tie.Need-least-requires Inv-loop μ-loop
-least-requires c κs = search needs
-
 loop-holds : tie.Need-loop-holds Inv-loop μ-loop
 loop-holds c =
     let a = c .before .before .before .before .args .a in
     let z : 0 ≡ a - a = omega arith in
     (omega arith, omega arith, refl, placed-as (ap (λ n. replicate n []) z) (placed-none _ _))
-
-empty-requires : tie.Need-empty-requires Inv-loop μ-loop
-empty-requires c κs = search needs
-
-put-cube-requires : tie.Need-put-cube-requires Inv-loop μ-loop
-put-cube-requires c κs = search needs
-
-add-i : tie.Need-add-i Inv-loop μ-loop
-add-i c = search needs
-
-loop-less : tie.Need-loop-less Inv-loop μ-loop
-loop-less c = search needs
 
 loop-again : tie.Need-loop-again Inv-loop μ-loop
 loop-again c =
@@ -59,9 +41,6 @@ loop-again c =
       cleared-next (l .loop .inv .0) (omega (arith, stop l)) (l .loop .inv .3) (subst (Put _ _ _) e (p .put-cube .ensures)),
     )
 
-same-length : tie.Need-same-length Inv-loop μ-loop
-same-length c = search needs
-
 returns : tie.Need-returns Inv-loop μ-loop
 returns c =
     let l = c .before in
@@ -71,17 +50,5 @@ returns c =
 
 pub clear-spec : {M : Type 1} → statement M
 clear-spec =
-    tie.close
-    (tie.spec
-    Inv-loop
-    μ-loop
-    number-requires
-    least-requires
-    loop-holds
-    empty-requires
-    put-cube-requires
-    add-i
-    loop-less
-    loop-again
-    same-length
-    returns)
+    tie.close (tie.spec Inv-loop μ-loop (search needs) (search needs) loop-holds (search needs) (search needs) (search needs) (search needs) loop-again
+    (search needs) returns)

@@ -6,15 +6,6 @@ use Rattle.expression.proofs.Placing.{placed-as}
 use Rattle.expression.proofs.copy.Statement.{statement}
 use Rattle.expression.proofs.copy.Tie as tie
 
-part-requires : tie.Need-part-requires
-part-requires c κs = search needs
-
-copy-whole-requires : tie.Need-copy-whole-requires
-copy-whole-requires c κs = search needs
-
-same-length : tie.Need-same-length
-same-length c = search needs
-
 returns : tie.Need-returns
 returns c =
     let w = c .before .before in
@@ -22,4 +13,4 @@ returns c =
     placed-as (ap (fitting (s .args .to .now) (s .args .at)) (w .before .before .part .ensures .0)) (w .copy-whole .ensures)
 
 pub copy-spec : {M : Type 1} → statement M
-copy-spec = tie.close (tie.spec part-requires copy-whole-requires same-length returns)
+copy-spec = tie.close (tie.spec (search needs) (search needs) (search needs) returns)

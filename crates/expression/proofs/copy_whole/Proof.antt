@@ -16,37 +16,26 @@ Inv-loop s to₀ at room n i₀ to i = (i ≤ n) × (length to ≡ length to₀)
 abbrev μ-loop : tie.MeasureT-loop
 μ-loop s to₀ at room n i₀ to i = n - i
 
+-- the states of the walk: after the places are counted, and at the start
+abbrev counted : tie.At-loop Inv-loop μ-loop → tie.After-number Inv-loop μ-loop
+counted l = l .before .before .before .before
+
 abbrev start : tie.At-loop Inv-loop μ-loop → tie.Start Inv-loop μ-loop
-start l = l .before .before .before .before .before .before .before .before
+start l = counted l .before .before .before .before
 
 -- how many there are places for
-room : (l : tie.At-loop Inv-loop μ-loop) → l .before .before .before .before .number .result ≡ length (cubesOf (start l .args .to .now))
-room l = l .before .before .before .before .number .ensures
+room : (l : tie.At-loop Inv-loop μ-loop) → counted l .number .result ≡ length (cubesOf (start l .args .to .now))
+room l = counted l .number .ensures
 
 number : (l : tie.At-loop Inv-loop μ-loop)
     → l .before .least .result ≡ min (length (cubesOf (start l .args .s .now))) (length (cubesOf (start l .args .to .now)) - start l .args .at)
 number l = l .before .least .ensures ∙ ap₂ (λ x y. min x (y - start l .args .at)) (l .before .before .number2 .ensures) (room l)
-
-number-requires : tie.Need-number-requires Inv-loop μ-loop
-number-requires c κs = search needs
-
-same-length : tie.Need-same-length Inv-loop μ-loop
-same-length c = search needs
 
 returns : tie.Need-returns Inv-loop μ-loop
 returns c =
     let s = c .before .before .before .before .before in
     let z : length (cubesOf (s .args .to .now)) - s .args .at ≡ 0 = omega (arith, c .if1 .taken, c .before .number .ensures) in
     placed-as (ap (λ n. take n (cubesOf (s .args .s .now))) (sym z)) (placed-none _ _)
-
-number-requires-2 : tie.Need-number-requires-2 Inv-loop μ-loop
-number-requires-2 c κs = search needs
-
-sub-least : tie.Need-sub-least Inv-loop μ-loop
-sub-least c = search needs
-
-least-requires : tie.Need-least-requires Inv-loop μ-loop
-least-requires c κs = search needs
 
 loop-holds : tie.Need-loop-holds Inv-loop μ-loop
 loop-holds c = (omega arith, refl, placed-none _ _)
@@ -55,18 +44,6 @@ add-put-cube : tie.Need-add-put-cube Inv-loop μ-loop
 add-put-cube c =
     let l = c .before .before in
     record { fits = omega (arith, number l, room l, cubes-few (start l .args .to .now), l .before .before .before .if1 .left) }
-
-cube-at-requires : tie.Need-cube-at-requires Inv-loop μ-loop
-cube-at-requires c κs = search needs
-
-put-cube-requires : tie.Need-put-cube-requires Inv-loop μ-loop
-put-cube-requires c κs = search needs
-
-add-i : tie.Need-add-i Inv-loop μ-loop
-add-i c = search needs
-
-loop-less : tie.Need-loop-less Inv-loop μ-loop
-loop-less c = search needs
 
 loop-again : tie.Need-loop-again Inv-loop μ-loop
 loop-again c =
@@ -78,9 +55,6 @@ loop-again c =
           (p .put-cube .ensures),
     )
 
-same-length-2 : tie.Need-same-length-2 Inv-loop μ-loop
-same-length-2 c = search needs
-
 returns-2 : tie.Need-returns-2 Inv-loop μ-loop
 returns-2 c =
     let l = c .before in
@@ -90,22 +64,5 @@ returns-2 c =
 
 pub copy-whole-spec : {M : Type 1} → statement M
 copy-whole-spec =
-    tie.close
-    (tie.spec
-    Inv-loop
-    μ-loop
-    number-requires
-    same-length
-    returns
-    number-requires-2
-    sub-least
-    least-requires
-    loop-holds
-    add-put-cube
-    cube-at-requires
-    put-cube-requires
-    add-i
-    loop-less
-    loop-again
-    same-length-2
-    returns-2)
+    tie.close (tie.spec Inv-loop μ-loop (search needs) (search needs) returns (search needs) (search needs) (search needs) loop-holds add-put-cube
+    (search needs) (search needs) (search needs) (search needs) loop-again (search needs) returns-2)

@@ -29,14 +29,8 @@ paired ws i = go (decided (ltb i (length ws / 2)))
     go (inl t) = let z : 2 * i + 0 ≡ 2 * i = omega arith in rw (t, z) (sym (cubes-at ws i (ltb-true i (length ws / 2) t)))
     go (inr t) = rw t (literals-none width ∙ sym (cubes-past ws i (ltb-false i (length ws / 2) t)))
 
-word-at-requires : tie.Need-word-at-requires
-word-at-requires c κs = search needs
-
-word-at-requires-2 : tie.Need-word-at-requires-2
-word-at-requires-2 c κs = search needs
-
 returns : tie.Need-returns
 returns c = ap₂ (literals width) (c .before .word-at .ensures) (c .word-at2 .ensures) ∙ paired _ _
 
 pub cube-at-spec : {M : Type 1} → statement M
-cube-at-spec = tie.close (tie.spec word-at-requires word-at-requires-2 returns)
+cube-at-spec = tie.close (tie.spec (search needs) (search needs) returns)

@@ -9,15 +9,6 @@ use borrow.Author.Needs.{needs}
 use Rattle.expression.proofs.words_of.Statement.{statement}
 use Rattle.expression.proofs.words_of.Tie as tie
 
-number-requires : tie.Need-number-requires
-number-requires c κs = search needs
-
-least-requires : tie.Need-least-requires
-least-requires c κs = search needs
-
-least-requires-2 : tie.Need-least-requires-2
-least-requires-2 c κs = search needs
-
 mul-t6 : tie.Need-mul-t6
 mul-t6 c = omega (arith, cubes-length (c .before .before .before .before .args .s .now))
 
@@ -34,5 +25,4 @@ returns c =
     record { start = ap (2 *_) l; stop = ap (2 *_) h; forth = omega arith; within = omega arith }
 
 pub words-of-spec : {M : Type 1} → statement M
-words-of-spec =
-    tie.close (tie.spec number-requires least-requires least-requires-2 mul-t6 mul-t7 returns)
+words-of-spec = tie.close (tie.spec (search needs) (search needs) (search needs) mul-t6 mul-t7 returns)

@@ -8,27 +8,6 @@ use borrow.Author.Needs.{needs}
 use Rattle.expression_absorb.proofs.absorb_part.Statement.{statement}
 use Rattle.expression_absorb.proofs.absorb_part.Tie as tie
 
-words-of-requires : tie.Need-words-of-requires
-words-of-requires c κs = search needs
-
-mul-absorb : tie.Need-mul-absorb
-mul-absorb c = search needs
-
-sub-absorb : tie.Need-sub-absorb
-sub-absorb c = search needs
-
-part-absorb-start : tie.Need-part-absorb-start
-part-absorb-start c = search needs
-
-part-absorb-end : tie.Need-part-absorb-end
-part-absorb-end c = search needs
-
-absorb-requires : tie.Need-absorb-requires
-absorb-requires c κs = search needs
-
-same-length : tie.Need-same-length
-same-length c = search needs
-
 returns : tie.Need-returns
 returns c =
     let w = c .before .before .before .before .words-of .ensures in
@@ -36,14 +15,4 @@ returns c =
     (r .0 ∙ ap (λ f. length (absorbed f)) (part-of _ _ _ _ _ w .0), placed-by _ _ _ _ _ w absorbed absorbed-length _ (r .1))
 
 pub absorb-part-spec : {M : Type 1} → statement M
-absorb-part-spec =
-    tie.close
-    (tie.spec
-    words-of-requires
-    mul-absorb
-    sub-absorb
-    part-absorb-start
-    part-absorb-end
-    absorb-requires
-    same-length
-    returns)
+absorb-part-spec = tie.close (tie.spec (search needs) (search needs) (search needs) (search needs) (search needs) (search needs) (search needs) returns)

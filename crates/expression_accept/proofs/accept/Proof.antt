@@ -12,16 +12,10 @@ returns c = sym (refused-many _ (c .if1 .taken))
 returns-2 : tie.Need-returns-2
 returns-2 c = sym (refused-spare _ (c .before .if1 .left) (c .if2 .taken))
 
-all-proper-requires : tie.Need-all-proper-requires
-all-proper-requires c κs = search needs
-
 returns-3 : tie.Need-returns-3
 returns-3 c =
     let e = c .before .before in
     sym (refused-else _ (e .before .if1 .left) (e .if2 .left) ∙ rw (sym (c .before .all-proper .ensures) ∙ not-true _ (c .if3 .taken)))
-
-all-loose-requires : tie.Need-all-loose-requires
-all-loose-requires c κs = search needs
 
 returns-4 : tie.Need-returns-4
 returns-4 c =
@@ -38,13 +32,4 @@ returns-5 c =
     ∙ rw (sym (p .before .all-proper .ensures) ∙ not-false _ (p .if3 .left), sym (c .before .all-loose .ensures) ∙ not-false _ (c .if4 .left)))
 
 pub accept-spec : {M : Type 1} → statement M
-accept-spec =
-    tie.close
-    (tie.spec
-    returns
-    returns-2
-    all-proper-requires
-    returns-3
-    all-loose-requires
-    returns-4
-    returns-5)
+accept-spec = tie.close (tie.spec returns returns-2 (search needs) returns-3 (search needs) returns-4 returns-5)

@@ -19,27 +19,12 @@ Inv-loop s i₀ i = (i ≤ length (cubesOf s)) × (pairwise loose (drop i (cubes
 abbrev μ-loop : tie.MeasureT-loop
 μ-loop s i₀ i = length (cubesOf s) - i
 
-loop-holds : tie.Need-loop-holds Inv-loop μ-loop
-loop-holds c = search needs
-
-number-requires : tie.Need-number-requires Inv-loop μ-loop
-number-requires c κs = search needs
-
-is-loose-from-requires : tie.Need-is-loose-from-requires Inv-loop μ-loop
-is-loose-from-requires c κs = search needs
-
 returns : tie.Need-returns Inv-loop μ-loop
 returns c =
     let l = c .before .before .before .before in
     sym (pairwise-stop (cubesOf (l .before .before .args .s .now)) (l .loop .i) [] (omega arith) loose
     (sym (c .before .is-loose-from .ensures) ∙ not-true _ (c .if2 .taken)))
     ∙ l .loop .inv .1
-
-add-i : tie.Need-add-i Inv-loop μ-loop
-add-i c = search needs
-
-loop-less : tie.Need-loop-less Inv-loop μ-loop
-loop-less c = search needs
 
 loop-again : tie.Need-loop-again Inv-loop μ-loop
 loop-again c =
@@ -56,16 +41,4 @@ returns-2 c =
     sym (pairwise-done (cubesOf (l .before .before .args .s .now)) (l .loop .i) (omega arith) loose) ∙ l .loop .inv .1
 
 pub all-loose-spec : {M : Type 1} → statement M
-all-loose-spec =
-    tie.close
-    (tie.spec
-    Inv-loop
-    μ-loop
-    loop-holds
-    number-requires
-    is-loose-from-requires
-    returns
-    add-i
-    loop-less
-    loop-again
-    returns-2)
+all-loose-spec = tie.close (tie.spec Inv-loop μ-loop (search needs) (search needs) (search needs) returns (search needs) (search needs) loop-again returns-2)

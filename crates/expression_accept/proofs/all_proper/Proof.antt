@@ -19,59 +19,30 @@ Inv-loop s i₀ i = (i ≤ length (cubesOf s)) × (all proper (drop i (cubesOf s
 abbrev μ-loop : tie.MeasureT-loop
 μ-loop s i₀ i = length (cubesOf s) - i
 
-abbrev cubes : tie.At-loop Inv-loop μ-loop → List (List ℕ)
-cubes l = cubesOf (l .before .before .args .s .now)
+abbrev held : tie.At-loop Inv-loop μ-loop → List (List ℕ)
+held l = cubesOf (l .before .before .args .s .now)
 
 -- what the test says of the cube at place i
-tested : (c : tie.After-is-proper Inv-loop μ-loop) → let l = c .before .before .before .before in proper (getD (cubes l) (l .loop .i) []) ≡ c .is-proper .result
+tested : (c : tie.After-is-proper Inv-loop μ-loop) → let l = c .before .before .before .before in proper (getD (held l) (l .loop .i) []) ≡ c .is-proper .result
 tested c = ap proper (sym (c .before .cube-at .ensures)) ∙ sym (c .is-proper .ensures)
-
-loop-holds : tie.Need-loop-holds Inv-loop μ-loop
-loop-holds c = search needs
-
-number-requires : tie.Need-number-requires Inv-loop μ-loop
-number-requires c κs = search needs
-
-cube-at-requires : tie.Need-cube-at-requires Inv-loop μ-loop
-cube-at-requires c κs = search needs
-
-is-proper-requires : tie.Need-is-proper-requires Inv-loop μ-loop
-is-proper-requires c κs = search needs
 
 returns : tie.Need-returns Inv-loop μ-loop
 returns c =
     let l = c .before .before .before .before .before in
-    sym (all-stop (cubes l) (l .loop .i) [] (omega arith) proper (tested (c .before) ∙ not-true _ (c .if2 .taken)))
+    sym (all-stop (held l) (l .loop .i) [] (omega arith) proper (tested (c .before) ∙ not-true _ (c .if2 .taken)))
     ∙ l .loop .inv .1
-
-add-i : tie.Need-add-i Inv-loop μ-loop
-add-i c = search needs
-
-loop-less : tie.Need-loop-less Inv-loop μ-loop
-loop-less c = search needs
 
 loop-again : tie.Need-loop-again Inv-loop μ-loop
 loop-again c =
     let l = c .before .before .before .before .before in
-    (search needs, sym (all-on (cubes l) (l .loop .i) [] (omega arith) proper (tested (c .before) ∙ not-false _ (c .if2 .left))) ∙ l .loop .inv .1)
+    (search needs, sym (all-on (held l) (l .loop .i) [] (omega arith) proper (tested (c .before) ∙ not-false _ (c .if2 .left))) ∙ l .loop .inv .1)
 
 returns-2 : tie.Need-returns-2 Inv-loop μ-loop
 returns-2 c =
     let l = c .before .before in
-    sym (all-done (cubes l) (l .loop .i) (omega arith) proper) ∙ l .loop .inv .1
+    sym (all-done (held l) (l .loop .i) (omega arith) proper) ∙ l .loop .inv .1
 
 pub all-proper-spec : {M : Type 1} → statement M
 all-proper-spec =
-    tie.close
-    (tie.spec
-    Inv-loop
-    μ-loop
-    loop-holds
-    number-requires
-    cube-at-requires
-    is-proper-requires
-    returns
-    add-i
-    loop-less
-    loop-again
+    tie.close (tie.spec Inv-loop μ-loop (search needs) (search needs) (search needs) (search needs) returns (search needs) (search needs) loop-again
     returns-2)

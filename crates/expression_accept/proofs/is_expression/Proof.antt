@@ -6,17 +6,11 @@ use Rattle.expression_accept.proofs.Accepting.{cubes-proper}
 use Rattle.expression_accept.proofs.is_expression.Statement.{statement}
 use Rattle.expression_accept.proofs.is_expression.Tie as tie
 
-all-proper-requires : tie.Need-all-proper-requires
-all-proper-requires c κs = search needs
-
 returns : tie.Need-returns
 returns c = rw (cubes-proper _ ∙ sym (c .before .all-proper .ensures) ∙ not-true _ (c .if1 .taken))
-
-all-loose-requires : tie.Need-all-loose-requires
-all-loose-requires c κs = search needs
 
 returns-2 : tie.Need-returns-2
 returns-2 c = c .all-loose .ensures ∙ rw (cubes-proper _ ∙ sym (c .before .before .all-proper .ensures) ∙ not-false _ (c .before .if1 .left))
 
 pub is-expression-spec : {M : Type 1} → statement M
-is-expression-spec = tie.close (tie.spec all-proper-requires returns all-loose-requires returns-2)
+is-expression-spec = tie.close (tie.spec (search needs) returns (search needs) returns-2)

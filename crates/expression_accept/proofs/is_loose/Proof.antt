@@ -5,19 +5,13 @@ use borrow.Author.Needs.{needs}
 use Rattle.expression_accept.proofs.is_loose.Statement.{statement}
 use Rattle.expression_accept.proofs.is_loose.Tie as tie
 
-contains-requires : tie.Need-contains-requires
-contains-requires c κs = search needs
-
 returns : tie.Need-returns
 unfolding loose
 returns c = rw (sym (c .before .contains .ensures) ∙ c .if1 .taken)
-
-contains-requires-2 : tie.Need-contains-requires-2
-contains-requires-2 c κs = search needs
 
 returns-2 : tie.Need-returns-2
 unfolding loose
 returns-2 c = rw (sym (c .before .before .contains .ensures) ∙ c .before .if1 .left, c .contains2 .ensures)
 
 pub is-loose-spec : {M : Type 1} → statement M
-is-loose-spec = tie.close (tie.spec contains-requires returns contains-requires-2 returns-2)
+is-loose-spec = tie.close (tie.spec (search needs) returns (search needs) returns-2)

@@ -23,8 +23,8 @@ Inv-loop s i c j₀ j =
 abbrev μ-loop : tie.MeasureT-loop
 μ-loop s i c j₀ j = length (cubesOf s) - j
 
-abbrev words : tie.At-loop Inv-loop μ-loop → List ℕ
-words l = l .before .before .before .args .s .now
+abbrev lent : tie.At-loop Inv-loop μ-loop → List ℕ
+lent l = l .before .before .before .args .s .now
 
 -- the cube at place i
 abbrev first : tie.At-loop Inv-loop μ-loop → List ℕ
@@ -32,71 +32,37 @@ first l = lits (l .before .cube-at .result)
 
 -- what the test says of the cube at place j, and of all from there on
 tested : (c : tie.After-is-loose Inv-loop μ-loop)
-    → loose (first (c .before .before .before .before)) (getD (cubesOf (words (c .before .before .before .before)))
+    → loose (first (c .before .before .before .before)) (getD (cubesOf (lent (c .before .before .before .before)))
     (c .before .before .before .before .loop .j) []) ≡ c .is-loose .result
 tested c = ap (loose (first (c .before .before .before .before))) (sym (c .before .cube-at2 .ensures)) ∙ sym (c .is-loose .ensures)
 
 whole : (l : tie.At-loop Inv-loop μ-loop)
-    → all (loose (first l)) (drop (l .loop .j) (cubesOf (words l)))
-    ≡ all (loose (getD (cubesOf (words l)) (l .before .before .before .args .i) [])) (drop (l .before .before .before .args .i + 1) (cubesOf (words l)))
-whole l = l .loop .inv .1 ∙ ap (λ x. all (loose x) (drop (l .before .before .before .args .i + 1) (cubesOf (words l)))) (l .before .cube-at .ensures)
-
-cube-at-requires : tie.Need-cube-at-requires Inv-loop μ-loop
-cube-at-requires c κs = search needs
+    → all (loose (first l)) (drop (l .loop .j) (cubesOf (lent l)))
+    ≡ all (loose (getD (cubesOf (lent l)) (l .before .before .before .args .i) [])) (drop (l .before .before .before .args .i + 1) (cubesOf (lent l)))
+whole l = l .loop .inv .1 ∙ ap (λ x. all (loose x) (drop (l .before .before .before .args .i + 1) (cubesOf (lent l)))) (l .before .cube-at .ensures)
 
 add-j : tie.Need-add-j Inv-loop μ-loop
 add-j c = omega (arith, cubes-few (c .before .before .args .s .now))
 
-loop-holds : tie.Need-loop-holds Inv-loop μ-loop
-loop-holds c = search needs
-
-number-requires : tie.Need-number-requires Inv-loop μ-loop
-number-requires c κs = search needs
-
-cube-at-requires-2 : tie.Need-cube-at-requires-2 Inv-loop μ-loop
-cube-at-requires-2 c κs = search needs
-
-is-loose-requires : tie.Need-is-loose-requires Inv-loop μ-loop
-is-loose-requires c κs = search needs
-
 returns : tie.Need-returns Inv-loop μ-loop
 returns c =
     let l = c .before .before .before .before .before in
-    sym (all-stop (cubesOf (words l)) (l .loop .j) [] (omega arith) (loose (first l)) (tested (c .before) ∙ not-true _ (c .if2 .taken))) ∙ whole l
-
-add-j-2 : tie.Need-add-j-2 Inv-loop μ-loop
-add-j-2 c = search needs
-
-loop-less : tie.Need-loop-less Inv-loop μ-loop
-loop-less c = search needs
+    sym (all-stop (cubesOf (lent l)) (l .loop .j) [] (omega arith) (loose (first l)) (tested (c .before) ∙ not-true _ (c .if2 .taken))) ∙ whole l
 
 loop-again : tie.Need-loop-again Inv-loop μ-loop
 loop-again c =
     let l = c .before .before .before .before .before in (
       search needs,
-      sym (all-on (cubesOf (words l)) (l .loop .j) [] (omega arith) (loose (first l)) (tested (c .before) ∙ not-false _ (c .if2 .left)))
+      sym (all-on (cubesOf (lent l)) (l .loop .j) [] (omega arith) (loose (first l)) (tested (c .before) ∙ not-false _ (c .if2 .left)))
           ∙ l .loop .inv .1,
     )
 
 returns-2 : tie.Need-returns-2 Inv-loop μ-loop
 returns-2 c =
     let l = c .before .before in
-    sym (all-done (cubesOf (words l)) (l .loop .j) (omega arith) (loose (first l))) ∙ whole l
+    sym (all-done (cubesOf (lent l)) (l .loop .j) (omega arith) (loose (first l))) ∙ whole l
 
 pub is-loose-from-spec : {M : Type 1} → statement M
 is-loose-from-spec =
-    tie.close
-    (tie.spec
-    Inv-loop
-    μ-loop
-    cube-at-requires
-    add-j
-    loop-holds
-    number-requires
-    cube-at-requires-2
-    is-loose-requires
-    returns
-    add-j-2
-    loop-less
-    loop-again
-    returns-2)
+    tie.close (tie.spec Inv-loop μ-loop (search needs) add-j (λ c. search needs) (search needs) (search needs) (search needs) returns (search needs)
+    (search needs) loop-again returns-2)

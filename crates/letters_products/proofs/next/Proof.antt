@@ -6,15 +6,6 @@ use Rattle.letters_products.specs.Products.{numberOf}
 use Rattle.letters_products.proofs.next.Statement.{statement}
 use Rattle.letters_products.proofs.next.Tie as tie
 
-first-from-requires : tie.Need-first-from-requires
-first-from-requires c κs = search needs
-
-enum-known-found : tie.Need-enum-known-found
-enum-known-found c = search needs
-
-enum-told : tie.Need-enum-told
-enum-told c = search needs
-
 returns : tie.Need-returns
 returns c = ap numberOf (ap answer (sym (c .enum-told .given .1)) ∙ c .before .before .first-from .ensures)
 
@@ -22,4 +13,4 @@ returns-2 : tie.Need-returns-2
 returns-2 c = ap numberOf (ap answer (sym (c .before .found .given .1)) ∙ c .before .before .before .first-from .ensures)
 
 pub next-spec : {M : Type 1} → statement M
-next-spec = tie.close (tie.spec first-from-requires enum-known-found enum-told returns returns-2)
+next-spec = tie.close (tie.spec (search needs) (search needs) (search needs) returns returns-2)

@@ -6,12 +6,6 @@ use Rattle.letters.proofs.Laying.{due-all, due-done}
 use Rattle.letters_products.proofs.put_if.Statement.{statement}
 use Rattle.letters_products.proofs.put_if.Tie as tie
 
-put-requires : tie.Need-put-requires
-put-requires c κs = search needs
-
-same-length : tie.Need-same-length
-same-length c = search needs
-
 returns : tie.Need-returns
 returns c = rw (c .before .before .before .before .if1 .taken) (c .before .before .put .ensures)
 
@@ -19,4 +13,4 @@ returns-2 : tie.Need-returns-2
 returns-2 c = rw (c .if1 .left) (due-done (due-all _ _ (omega arith) (omega arith) refl))
 
 pub put-if-spec : {M : Type 1} → statement M
-put-if-spec = tie.close (tie.spec put-requires same-length returns returns-2)
+put-if-spec = tie.close (tie.spec (search needs) (search needs) returns returns-2)

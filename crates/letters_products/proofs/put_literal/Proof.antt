@@ -10,24 +10,6 @@ use Rattle.letters_products.proofs.Texts.{mark, mark-is, literal-start}
 use Rattle.letters_products.proofs.put_literal.Statement.{statement}
 use Rattle.letters_products.proofs.put_literal.Tie as tie
 
-variable-of-requires : tie.Need-variable-of-requires
-variable-of-requires c κs = search needs
-
-cast-put-name : tie.Need-cast-put-name
-cast-put-name c = search needs
-
-put-name-requires : tie.Need-put-name-requires
-put-name-requires c κs = search needs
-
-is-negated-requires : tie.Need-is-negated-requires
-is-negated-requires c κs = search needs
-
-put-if-requires : tie.Need-put-if-requires
-put-if-requires c κs = search needs
-
-same-length : tie.Need-same-length
-same-length c = search needs
-
 module _ (c : tie.After-put-name) where
   abbrev known : tie.After-variable-of
   known = c .before .before .before
@@ -49,4 +31,4 @@ returns c =
     due-last (due-as (after p) (mark-is (start p .args .l .0) (n .is-negated .result) (n .is-negated .ensures))) (c .before .before .put-if .ensures)
 
 pub put-literal-spec : {M : Type 1} → statement M
-put-literal-spec = tie.close (tie.spec variable-of-requires cast-put-name put-name-requires is-negated-requires put-if-requires same-length returns)
+put-literal-spec = tie.close (tie.spec (search needs) (search needs) (search needs) (search needs) (search needs) (search needs) returns)

@@ -28,9 +28,6 @@ held s = lits (s .args .c)
 abbrev Owed : tie.Start Inv-loop μ-loop → List ℕ → ℕ → List ℕ → Type 0
 Owed s o at t = Due (s .args .o .now) (s .args .at) (cubeText (held s)) o at t
 
-next-requires : tie.Need-next-requires Inv-loop μ-loop
-next-requires c κs = search needs
-
 module _ (c : tie.After-next Inv-loop μ-loop) where
   abbrev start : tie.Start Inv-loop μ-loop
   start = c .before .before
@@ -39,9 +36,6 @@ module _ (c : tie.After-next Inv-loop μ-loop) where
   whole : Owed start (start .args .o .now) (start .args .at)
       (cond (leb (2 * width) (c .next .result)) (49 ∷ []) [] ++ textFrom (c .next .result) (held start))
   whole = due-all _ _ (omega arith) (omega arith) (text-start (start .args .c) (c .next .result) (c .next .ensures))
-
-put-if-requires : tie.Need-put-if-requires Inv-loop μ-loop
-put-if-requires c κs = search needs
 
 module _ (c : tie.After-put-if Inv-loop μ-loop) where
   abbrev first : tie.After-next Inv-loop μ-loop
@@ -71,14 +65,8 @@ module _ (c : tie.In-loop Inv-loop μ-loop) (m : ℕ) (e : m ≡ numberOf (first
       (literalText (c .before .loop .l) ++ (cond (ltb m (2 * width)) (42 ∷ []) [] ++ textFrom m (held (origin (c .before)))))
   turn = due-as (c .before .loop .inv .0) (text-next (origin (c .before) .args .c) (c .before .loop .l) m (c .loop-test .taken) e)
 
-put-literal-requires : tie.Need-put-literal-requires Inv-loop μ-loop
-put-literal-requires c κs = search needs
-
 add-next : tie.Need-add-next Inv-loop μ-loop
 add-next c = omega (arith, c .before .before .before .before .loop-test .taken)
-
-next-requires-2 : tie.Need-next-requires-2 Inv-loop μ-loop
-next-requires-2 c κs = search needs
 
 module _ (c : tie.After-next2 Inv-loop μ-loop) where
   abbrev wrote : tie.After-put-literal Inv-loop μ-loop
@@ -90,9 +78,6 @@ module _ (c : tie.After-next2 Inv-loop μ-loop) where
   star : Rest inside (c .next2 .result) (c .next2 .ensures) (wrote .put-literal .last .0) (wrote .put-literal .result)
       (cond (ltb (c .next2 .result) (2 * width)) (42 ∷ []) [] ++ textFrom (c .next2 .result) (held (origin (inside .before))))
   star = due-next (turn inside (c .next2 .result) (c .next2 .ensures)) (wrote .put-literal .ensures)
-
-put-if-requires-2 : tie.Need-put-if-requires-2 Inv-loop μ-loop
-put-if-requires-2 c κs = search needs
 
 loop-less : tie.Need-loop-less Inv-loop μ-loop
 loop-less c =
@@ -117,18 +102,5 @@ returns c =
 
 pub put-product-spec : {M : Type 1} → statement M
 put-product-spec =
-    tie.close
-    (tie.spec
-    Inv-loop
-    μ-loop
-    next-requires
-    put-if-requires
-    loop-holds
-    put-literal-requires
-    add-next
-    next-requires-2
-    put-if-requires-2
-    loop-less
-    loop-again
-    same-length
-    returns)
+    tie.close (tie.spec Inv-loop μ-loop (search needs) (search needs) loop-holds (search needs) add-next (search needs) (search needs) loop-less loop-again
+    same-length returns)
