@@ -12,7 +12,7 @@ use borrow.Author.Tests.{not-true}
 use Rattle.sets.specs.Lists.{any, all, keep, total, pairwise, from}
 use Rattle.sets.specs.Sets.{sub, asc, same}
 use Rattle.sets.proofs.Truth.{iff, both, together, either, or-left, or-right, decided, clash, refuted}
-use Rattle.sets.proofs.Lists.{_∈_, any-in, any-out, all-in, all-out, ahead}
+use Rattle.sets.proofs.Lists.{_∈_, any-in, any-out, all-in, all-out, ahead, total-ones}
 use Rattle.sets.proofs.Sets.{sub-refl, sub-trans, sub-antisym, sub-out, mem-all, all-mem, same-eq, eq-same}
 use Rattle.expression.specs.Expression.{isCube, loose, expression, literalsOf, dropped, absorbFrom, absorbed}
 
@@ -171,11 +171,7 @@ pub absorbed-literals : (f : Cubes) → literalsOf (absorbed f) ≤ literalsOf f
 absorbed-literals f = total-from length [] f
 
 pub absorbed-length : (f : Cubes) → length (absorbed f) ≤ length f
-absorbed-length f = omega (arith, total-from (λ c. 1) [] f, counted (absorbed f), counted f)
-  where
-    counted : (l : Cubes) → total (λ c. 1) l ≡ length l
-    counted [] = refl
-    counted (c ∷ l) = omega (arith, counted l)
+absorbed-length f = omega (arith, total-from (λ c. 1) [] f, total-ones (absorbed f), total-ones f)
 
 -- ---- no kept cube contains another
 

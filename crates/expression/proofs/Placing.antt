@@ -4,10 +4,13 @@ use mathlib.Core.Path.{_≡_, refl, sym, _∙_, ap, ap₂, subst}
 use mathlib.Core.List.{List, [], _∷_, _++_, append-assoc, append-nil}
 use native.Mathlib.Numerals.{add-one}
 use native.Mathlib.Omega.{arith}
+use mathlib.Core.Logic.{inl, inr}
+use lib.Dec.{leb}
+use borrow.Author.Tests.{leb-true, leb-false}
 use lib.ListN.{length, getD, take, drop, replicate}
 use lib.ListN.{take-append-drop, length-append, length-drop, length-replicate, replicate-append-replicate}
 use lib.Seq.{set-split, drop-drop, take-at, drop-at, take-all, length-take-le, append-snoc, take-suc}
-use Rattle.sets.proofs.Truth.{Stand, below, equal, beyond, stand}
+use Rattle.sets.proofs.Truth.{decided}
 use Rattle.expression.specs.Words.{cubeWords, cubesOf, Put, Placed, Appends, fitting, blanks, Front}
 use Rattle.expression.specs.Expression.{sort}
 use Rattle.expression.proofs.Words.{zeros}
@@ -156,15 +159,10 @@ copied-next {new = new} {next} {a} {i} {c} f h k p e q =
 
 -- as many as there are, or as there are places for
 pub copied-all : (f : List (List ℕ)) (n k : ℕ) → n ≡ min (length f) k → take n f ≡ take k f
-copied-all f n k e = go (stand (length f) k)
-  where
-    whole : length f ≤ k → take n f ≡ take k f
-    whole h = take-all n f (omega arith) ∙ sym (take-all k f h)
-
-    go : Stand (length f) k → take n f ≡ take k f
-    go (below h _ _) = whole (omega arith)
-    go (equal h _ _) = whole (omega arith)
-    go (beyond h _ _) = let z : n ≡ k = omega arith in rw z
+copied-all f n k e = elim (decided (leb (length f) k)) [
+  | inl t ↦ let h = leb-true (length f) k t in take-all n f (omega arith) ∙ sym (take-all k f h)
+  | inr t ↦ let z : n ≡ k = omega (arith, leb-false (length f) k t) in rw z
+]
 
 -- ---- the place after them
 

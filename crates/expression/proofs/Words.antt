@@ -29,16 +29,19 @@ cubes-length [] = refl
 cubes-length (p ∷ []) = refl
 cubes-length (p ∷ n ∷ ws) = omega (arith, cubes-length ws)
 
+twice : (i : ℕ) → 2 * suc i ≡ suc (suc (2 * i))
+twice i = omega arith
+
+twice-next : (i : ℕ) → suc (suc (2 * i)) + 1 ≡ suc (suc (2 * i + 1))
+twice-next i = omega arith
+
 -- the words of one cube
 pub cubes-at : (ws : List ℕ) (i : ℕ) → i < length ws / 2 → getD (cubesOf ws) i [] ≡ literals width (getD ws (2 * i) 0) (getD ws (2 * i + 1) 0)
 unfolding cubesOf
 cubes-at [] i h = absurd (omega arith)
 cubes-at (p ∷ []) i h = absurd (omega arith)
 cubes-at (p ∷ n ∷ ws) zero h = refl
-cubes-at (p ∷ n ∷ ws) (suc i) h =
-    let a : 2 * suc i ≡ suc (suc (2 * i)) = omega arith in
-    let b : suc (suc (2 * i)) + 1 ≡ suc (suc (2 * i + 1)) = omega arith in
-    rw (a, b) (cubes-at ws i (omega arith))
+cubes-at (p ∷ n ∷ ws) (suc i) h = rw (twice i, twice-next i) (cubes-at ws i (omega arith))
 
 -- past the last cube stands none
 pub cubes-past : (ws : List ℕ) (i : ℕ) → length ws / 2 ≤ i → getD (cubesOf ws) i [] ≡ []
@@ -50,43 +53,37 @@ unfolding cubesOf
 cubes-set [] i p n h = absurd (omega arith)
 cubes-set (x ∷ []) i p n h = absurd (omega arith)
 cubes-set (x ∷ y ∷ ws) zero p n h = refl
-cubes-set (x ∷ y ∷ ws) (suc i) p n h =
-    let a : 2 * suc i ≡ suc (suc (2 * i)) = omega arith in
-    let b : suc (suc (2 * i)) + 1 ≡ suc (suc (2 * i + 1)) = omega arith in
-    rw (a, b) (ap (literals width x y ∷_) (cubes-set ws i p n (omega arith)))
+cubes-set (x ∷ y ∷ ws) (suc i) p n h = rw (twice i, twice-next i) (ap (literals width x y ∷_) (cubes-set ws i p n (omega arith)))
 
 pub spare-set : (ws : List ℕ) (i p n : ℕ) → i < length ws / 2 → spareOf (set (set ws (2 * i) p) (2 * i + 1) n) ≡ spareOf ws
 unfolding spareOf
 spare-set [] i p n h = absurd (omega arith)
 spare-set (x ∷ []) i p n h = absurd (omega arith)
 spare-set (x ∷ y ∷ ws) zero p n h = refl
-spare-set (x ∷ y ∷ ws) (suc i) p n h =
-    let a : 2 * suc i ≡ suc (suc (2 * i)) = omega arith in
-    let b : suc (suc (2 * i)) + 1 ≡ suc (suc (2 * i + 1)) = omega arith in
-    rw (a, b) (spare-set ws i p n (omega arith))
+spare-set (x ∷ y ∷ ws) (suc i) p n h = rw (twice i, twice-next i) (spare-set ws i p n (omega arith))
 
 -- ---- a part of the words is a part of the cubes
 
 pub cubes-drop : (ws : List ℕ) (j : ℕ) → cubesOf (drop (2 * j) ws) ≡ drop j (cubesOf ws)
 unfolding cubesOf
 cubes-drop ws zero = refl
-cubes-drop [] (suc j) = let a : 2 * suc j ≡ suc (suc (2 * j)) = omega arith in rw a
-cubes-drop (p ∷ []) (suc j) = let a : 2 * suc j ≡ suc (suc (2 * j)) = omega arith in rw (a, drop-nil)
-cubes-drop (p ∷ n ∷ ws) (suc j) = let a : 2 * suc j ≡ suc (suc (2 * j)) = omega arith in rw a (cubes-drop ws j)
+cubes-drop [] (suc j) = rw (twice j)
+cubes-drop (p ∷ []) (suc j) = rw (twice j, drop-nil)
+cubes-drop (p ∷ n ∷ ws) (suc j) = rw (twice j) (cubes-drop ws j)
 
 pub cubes-take : (ws : List ℕ) (j : ℕ) → cubesOf (take (2 * j) ws) ≡ take j (cubesOf ws)
 unfolding cubesOf
 cubes-take ws zero = refl
-cubes-take [] (suc j) = let a : 2 * suc j ≡ suc (suc (2 * j)) = omega arith in rw a
-cubes-take (p ∷ []) (suc j) = let a : 2 * suc j ≡ suc (suc (2 * j)) = omega arith in rw (a, take-nil)
-cubes-take (p ∷ n ∷ ws) (suc j) = let a : 2 * suc j ≡ suc (suc (2 * j)) = omega arith in rw a (ap (literals width p n ∷_) (cubes-take ws j))
+cubes-take [] (suc j) = rw (twice j)
+cubes-take (p ∷ []) (suc j) = rw (twice j, take-nil)
+cubes-take (p ∷ n ∷ ws) (suc j) = rw (twice j) (ap (literals width p n ∷_) (cubes-take ws j))
 
 pub spare-take : (ws : List ℕ) (j : ℕ) → 2 * j ≤ length ws → spareOf (take (2 * j) ws) ≡ []
 unfolding spareOf
 spare-take ws zero h = refl
 spare-take [] (suc j) h = absurd (omega arith)
 spare-take (p ∷ []) (suc j) h = absurd (omega arith)
-spare-take (p ∷ n ∷ ws) (suc j) h = let a : 2 * suc j ≡ suc (suc (2 * j)) = omega arith in rw a (spare-take ws j (omega arith))
+spare-take (p ∷ n ∷ ws) (suc j) h = rw (twice j) (spare-take ws j (omega arith))
 
 -- the part from a up to e, both held to what there is
 pub part-held : {A : Type 0} (f : List A) (a e : ℕ)
@@ -119,7 +116,7 @@ part-held f a e = go (stand a (min e (length f))) (stand e (length f))
 pub zeros : (n : ℕ) → cubesOf (replicate (cubeWords * n) 0) ≡ replicate n []
 unfolding cubesOf
 zeros zero = refl
-zeros (suc n) = let e : 2 * suc n ≡ suc (suc (2 * n)) = omega arith in rw e (ap₂ _∷_ (literals-none width) (zeros n))
+zeros (suc n) = rw (twice n) (ap₂ _∷_ (literals-none width) (zeros n))
 
 -- whole cubes in front, and then what follows
 pub cubes-append : (a b : List ℕ) → spareOf a ≡ [] → cubesOf (a ++ b) ≡ cubesOf a ++ cubesOf b
@@ -139,7 +136,7 @@ unfolding spareOf
 spare-drop ws zero h = refl
 spare-drop [] (suc j) h = absurd (omega arith)
 spare-drop (p ∷ []) (suc j) h = absurd (omega arith)
-spare-drop (p ∷ n ∷ ws) (suc j) h = let a : 2 * suc j ≡ suc (suc (2 * j)) = omega arith in rw a (spare-drop ws j (omega arith))
+spare-drop (p ∷ n ∷ ws) (suc j) h = rw (twice j) (spare-drop ws j (omega arith))
 
 -- g written over the front of a part, and the part put back
 module _ {A : Type 0} (f g : List A) where

@@ -6,7 +6,7 @@ use mathlib.Core.List.{List, [], _∷_}
 use native.Mathlib.Omega.{arith}
 use lib.ListN.{length, getD}
 use Rattle.sets.specs.Sets.{before}
-use Rattle.sets.proofs.Truth.{clash, refuted, Stand, below, equal, beyond, stand}
+use Rattle.sets.proofs.Truth.{clash, refuted, below, equal, beyond, stand}
 use Rattle.sets.proofs.Lists.{all-in, all-out, ahead}
 use Rattle.sets.proofs.Places.{pairwise-at}
 use Rattle.sets.proofs.Ordering.{before-trans}
@@ -30,9 +30,8 @@ climbs-not f i h p e = refuted (λ t. clash (pairwise-at before [] f (i - 1) i t
 
 -- one more
 pub climbs-next : (f : List (List ℕ)) (i : ℕ) → 0 < i → before (getD f (i - 1) []) (getD f i []) ≡ true → Climbs i f → Climbs (i + 1) f
-climbs-next f i p e h k l = go (stand (suc k) i)
-  where
-    go : Stand (suc k) i → before (getD f k []) (getD f (suc k) []) ≡ true
-    go (below q _ _) = h k q
-    go (equal q _ _) = let z : k ≡ i - 1 = omega arith in rw (q, z) e
-    go (beyond q _ _) = absurd (omega arith)
+climbs-next f i p e h k l = elim (stand (suc k) i) [
+  | below q _ _ ↦ h k q
+  | equal q _ _ ↦ let z : k ≡ i - 1 = omega arith in rw (q, z) e
+  | beyond q _ _ ↦ absurd (omega arith)
+]

@@ -1,9 +1,9 @@
 -- Numbers in decimal: case by case as they are written, and what they mean. Assumes nothing.
 use Prim.Native.Nat.{ℕ, zero, suc, _+_, _-_, _*_, _/_, _%_, _<_, _≤_}
 use mathlib.Core.Path.{_≡_, refl, sym, _∙_, ap}
-use mathlib.Core.Bool.{true, false}
+use mathlib.Core.Bool.{true}
 use mathlib.Core.List.{List, [], _∷_, _++_, List·Memᴰ·append-cases}
-use mathlib.Core.Logic.{_⊎_, inl, inr}
+use mathlib.Core.Logic.{inl, inr}
 use native.Mathlib.Omega.{arith}
 use lib.Dec.{ltb}
 use lib.ListN.{length, getD, length-append, List·getD-append}
@@ -32,14 +32,12 @@ digits-more k n h = rw (le-ltb n 10 h)
 digits-enough : (j k n : ℕ) → n ≤ j → n ≤ k → digits j n ≡ digits k n
 digits-enough zero k n h i = digits-one zero n (omega arith) ∙ sym (digits-one k n (omega arith))
 digits-enough (suc j) zero n h i = digits-one (suc j) n (omega arith) ∙ sym (digits-one zero n (omega arith))
-digits-enough (suc j) (suc k) n h i = go (decided (ltb n 10)) (digits-enough j k (n / 10))
-  where
-    go : (ltb n 10 ≡ true) ⊎ (ltb n 10 ≡ false)
-        → (n / 10 ≤ j → n / 10 ≤ k → digits j (n / 10) ≡ digits k (n / 10)) → digits (suc j) n ≡ digits (suc k) n
-    go (inl t) f = digits-one (suc j) n (ltb-true n 10 t) ∙ sym (digits-one (suc k) n (ltb-true n 10 t))
-    go (inr t) f =
-        let l : 10 ≤ n = ltb-false n 10 t in
-        digits-more j n l ∙ ap (_++ last n) (f (omega arith) (omega arith)) ∙ sym (digits-more k n l)
+digits-enough (suc j) (suc k) n h i = elim (decided (ltb n 10)) [
+  | inl t ↦ digits-one (suc j) n (ltb-true n 10 t) ∙ sym (digits-one (suc k) n (ltb-true n 10 t))
+  | inr t ↦
+      let l : 10 ≤ n = ltb-false n 10 t in
+      digits-more j n l ∙ ap (_++ last n) (digits-enough j k (n / 10) (omega arith) (omega arith)) ∙ sym (digits-more k n l)
+]
 
 pub decimal-one : (n : ℕ) → n < 10 → decimal n ≡ (48 + n) ∷ []
 unfolding decimal
@@ -54,11 +52,10 @@ decimal-more (suc k) h = digits-more k (suc k) h ∙ ap (_++ last (suc k)) (digi
 module _ {P : ℕ → Type 0} (one : (n : ℕ) → n < 10 → P n) (more : (n : ℕ) → 10 ≤ n → P (n / 10) → P n) where
   by-turns : (k n : ℕ) → n ≤ k → P n
   by-turns zero n h = one n (omega arith)
-  by-turns (suc k) n h = go (decided (ltb n 10)) (by-turns k (n / 10))
-    where
-      go : (ltb n 10 ≡ true) ⊎ (ltb n 10 ≡ false) → (n / 10 ≤ k → P (n / 10)) → P n
-      go (inl t) f = one n (ltb-true n 10 t)
-      go (inr t) f = let l : 10 ≤ n = ltb-false n 10 t in more n l (f (omega arith))
+  by-turns (suc k) n h = elim (decided (ltb n 10)) [
+    | inl t ↦ one n (ltb-true n 10 t)
+    | inr t ↦ let l : 10 ≤ n = ltb-false n 10 t in more n l (by-turns k (n / 10) (omega arith))
+  ]
 
   by-digits : (n : ℕ) → P n
   by-digits n = by-turns n n (omega arith)

@@ -1,9 +1,9 @@
 -- The literals of a cube from one on: none is left, or the first and those after it. Assumes nothing.
 use Prim.Native.Nat.{ℕ, suc, _+_, _≤_, _<_}
 use mathlib.Core.Path.{_≡_, refl, sym, _∙_, ap}
-use mathlib.Core.Bool.{true, false, cond}
+use mathlib.Core.Bool.{true, cond}
 use mathlib.Core.List.{List, [], _∷_}
-use mathlib.Core.Logic.{_⊎_, inl, inr}
+use mathlib.Core.Logic.{inl, inr}
 use mathlib.Core.Option.{none, some}
 use native.Mathlib.Omega.{arith}
 use lib.Dec.{leb, ltb}
@@ -24,11 +24,10 @@ above-all c = keep-all (leb 0) c (all-in (leb 0) c (λ x m. le-leb 0 x (omega ar
 pub above-none : (l : ℕ) (c : List ℕ) → firstFrom l c ≡ none → above l c ≡ []
 unfolding firstFrom
 above-none l [] h = refl
-above-none l (x ∷ c) h = go (decided (leb l x)) (above-none l c)
-  where
-    go : (leb l x ≡ true) ⊎ (leb l x ≡ false) → (firstFrom l c ≡ none → above l c ≡ []) → above l (x ∷ c) ≡ []
-    go (inl t) ih = some-not-none {x = x} (cond (leb l x) (some x) (firstFrom l c)) (rw t) h
-    go (inr t) ih = rw t (ih (rw t at h))
+above-none l (x ∷ c) h = elim (decided (leb l x)) [
+  | inl t ↦ some-not-none {x = x} (cond (leb l x) (some x) (firstFrom l c)) (rw t) h
+  | inr t ↦ rw t (above-none l c (rw t at h))
+]
 
 -- all that follow are past the first
 past : (l x : ℕ) (c : List ℕ) → asc (x ∷ c) ≡ true → l ≤ suc x → above l c ≡ c
@@ -38,25 +37,22 @@ past l x c a h =
 pub at-least : (l x : ℕ) (c : List ℕ) → firstFrom l c ≡ some x → l ≤ x
 unfolding firstFrom
 at-least l x [] h = some-not-none {x = x} none h refl
-at-least l x (z ∷ c) h = pick (decided (leb l z)) (at-least l x c)
-  where
-    pick : (leb l z ≡ true) ⊎ (leb l z ≡ false) → (firstFrom l c ≡ some x → l ≤ x) → l ≤ x
-    pick (inl t) ih = let s : some z ≡ some x = rw t at h in let e : z ≡ x = cc in let g : l ≤ z = leb-true l z t in omega arith
-    pick (inr t) ih = ih (rw t at h)
+at-least l x (z ∷ c) h = elim (decided (leb l z)) [
+  | inl t ↦ let s : some z ≡ some x = rw t at h in let e : z ≡ x = cc in omega (arith, leb-true l z t)
+  | inr t ↦ at-least l x c (rw t at h)
+]
 
 pub above-some : (l x : ℕ) (c : List ℕ) → asc c ≡ true → firstFrom l c ≡ some x → above l c ≡ x ∷ above (x + 1) c
 unfolding firstFrom
 above-some l x [] a h = some-not-none {x = x} none h refl
-above-some l x (y ∷ c) a h = go (decided (leb l y)) (above-some l x c (tail-asc y c a))
-  where
-    go : (leb l y ≡ true) ⊎ (leb l y ≡ false) → (firstFrom l c ≡ some x → above l c ≡ x ∷ above (x + 1) c) → above l (y ∷ c) ≡ x ∷ above (x + 1) (y ∷ c)
-    go (inl t) ih =
-        let s : some y ≡ some x = rw t at h in
-        let e : y ≡ x = cc in
-        let g : l ≤ y = leb-true l y t in
-        rw (t, ← e, lt-leb (y + 1) y (omega arith)) (ap (y ∷_) (past l y c a (omega arith) ∙ sym (past (y + 1) y c a (omega arith))))
-    go (inr t) ih =
-        let s : firstFrom l c ≡ some x = rw t at h in
-        let g : y < l = leb-false l y t in
-        let k : above l c ≡ x ∷ above (x + 1) c = ih s in
-        rw (t, lt-leb (x + 1) y (omega (arith, at-least l x c s))) k
+above-some l x (y ∷ c) a h = elim (decided (leb l y)) [
+  | inl t ↦
+      let s : some y ≡ some x = rw t at h in
+      let e : y ≡ x = cc in
+      let g : l ≤ y = leb-true l y t in
+      rw (t, ← e, lt-leb (y + 1) y (omega arith)) (ap (y ∷_) (past l y c a (omega arith) ∙ sym (past (y + 1) y c a (omega arith))))
+  | inr t ↦
+      let s : firstFrom l c ≡ some x = rw t at h in
+      let g : y < l = leb-false l y t in
+      rw (t, lt-leb (x + 1) y (omega (arith, at-least l x c s))) (above-some l x c (tail-asc y c a) s)
+]

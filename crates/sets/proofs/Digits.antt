@@ -138,26 +138,24 @@ no-bits w m h f = bits-ext w m 0 h (pow-pos w) (λ v k. f v k ∙ sym (bit-none 
 
 -- `&` with a power of two
 pub bit-mask : (m v : ℕ) → not (eqb (bitAnd m (2 ^ v)) 0) ≡ bit m v
-bit-mask m v = go (decided (bit m v))
+bit-mask m v = elim (decided (bit m v)) [
+  | inl t ↦
+      let there : bit (bitAnd m (2 ^ v)) v ≡ true = only v ∙ rw (t, eq-eqb v v refl) in
+      rw (ne-eqb (bitAnd m (2 ^ v)) 0 (λ z. mathlib.Core.Bool.true≢false (sym there ∙ ap (λ (x : ℕ). bit x v) z ∙ bit-none v)), t)
+  | inr f ↦
+      let e : 2 ^ suc v ≡ 2 ^ v * 2 = pow-suc 2 v in
+      rw (
+        eq-eqb (bitAnd m (2 ^ v)) 0 (no-bits (suc v) (bitAnd m (2 ^ v)) (omega (arith, and-le-r m (2 ^ v), pow-pos v))
+            (λ u h. only u ∙ elim (decided (eqb u v)) [
+              | inl t ↦ ap (λ (x : ℕ). bit m x && eqb u v) (eqb-true u v t) ∙ rw f
+              | inr t ↦ rw t (and-false (bit m u))
+            ])),
+        f,
+      )
+]
   where
     only : (u : ℕ) → bit (bitAnd m (2 ^ v)) u ≡ (bit m u && eqb u v)
     only u = bit-and m (2 ^ v) u ∙ ap (λ (b : Bool). bit m u && b) (bit-pow v u)
-
-    go : (bit m v ≡ true) ⊎ (bit m v ≡ false) → not (eqb (bitAnd m (2 ^ v)) 0) ≡ bit m v
-    go (inl t) =
-        let there : bit (bitAnd m (2 ^ v)) v ≡ true = only v ∙ rw (t, eq-eqb v v refl) in
-        rw (ne-eqb (bitAnd m (2 ^ v)) 0 (λ z. mathlib.Core.Bool.true≢false (sym there ∙ ap (λ (x : ℕ). bit x v) z ∙ bit-none v)), t)
-    go (inr f) =
-        let e : 2 ^ suc v ≡ 2 ^ v * 2 = pow-suc 2 v in
-        rw (
-          eq-eqb (bitAnd m (2 ^ v)) 0 (no-bits (suc v) (bitAnd m (2 ^ v)) (omega (arith, and-le-r m (2 ^ v), pow-pos v))
-              (λ u h. only u ∙ pick u (decided (eqb u v)))),
-          f,
-        )
-      where
-        pick : (u : ℕ) → (eqb u v ≡ true) ⊎ (eqb u v ≡ false) → (bit m u && eqb u v) ≡ false
-        pick u (inl t) = ap (λ (x : ℕ). bit m x && eqb u v) (eqb-true u v t) ∙ rw f
-        pick u (inr t) = rw t (and-false (bit m u))
 
 -- a number below 2 ^ j has no bit from j on
 pub bit-high : (j m v : ℕ) → m < 2 ^ j → j ≤ v → bit m v ≡ false

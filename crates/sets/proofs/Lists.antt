@@ -9,7 +9,7 @@ use native.Mathlib.Omega.{arith}
 use lib.ListN.{length, take, drop, take-append-drop}
 use lib.Seq.{take-take}
 use Rattle.sets.specs.Lists.{any, all, keep, total, pairwise}
-use Rattle.sets.proofs.Truth.{both, either, neither, clash}
+use Rattle.sets.proofs.Truth.{both, either, neither, decided, clash}
 
 module _ {A : Type 0} where
   infix 20 _∈_
@@ -50,11 +50,10 @@ module _ {A : Type 0} where
   -- some element fails a test that not all pass
   pub all-fails : (f : A → Bool) (l : List A) → all f l ≡ false → (x : A) × (x ∈ l) × (f x ≡ false)
   all-fails f [] h = clash refl h
-  all-fails f (x ∷ l) h = go (f x) refl h (all-fails f l)
-    where
-      go : (b : Bool) → f x ≡ b → (b && all f l) ≡ false → (all f l ≡ false → (y : A) × (y ∈ l) × (f y ≡ false)) → (y : A) × (y ∈ (x ∷ l)) × (f y ≡ false)
-      go true e k r = let q = r k in (q .0, there (q .1), q .2)
-      go false e k r = (x, here refl, e)
+  all-fails f (x ∷ l) h = elim (decided (f x)) [
+    | inl e ↦ let q = all-fails f l (rw e at h) in (q .0, there (q .1), q .2)
+    | inr e ↦ (x, here refl, e)
+  ]
 
   -- ---- keep
 
@@ -76,16 +75,27 @@ module _ {A : Type 0} where
   keep-all f [] h = refl
   keep-all f (x ∷ l) h = let q = both (f x) (all f l) h in rw (q .0) (ap (x ∷_) (keep-all f l (q .1)))
 
-  pub keep-le : (p q : A → Bool) (l : List A) → ((x : A) → x ∈ l → p x ≡ true → q x ≡ true) → length (keep p l) ≤ length (keep q l)
-  keep-le p q [] h = omega arith
-  keep-le p q (x ∷ l) h = go (p x) (q x) (h x (here refl)) (keep-le p q l (λ y m. h y (there m)))
+  -- no more passes a stricter test
+  kept-le : (g : A → ℕ) (p q : A → Bool) (l : List A) → ((x : A) → x ∈ l → p x ≡ true → q x ≡ true) → total g (keep p l) ≤ total g (keep q l)
+  kept-le g p q [] h = omega arith
+  kept-le g p q (x ∷ l) h = go (p x) (q x) (h x (here refl)) (kept-le g p q l (λ y m. h y (there m)))
     where
-      go : (b c : Bool) → (b ≡ true → c ≡ true) → length (keep p l) ≤ length (keep q l)
-          → length (cond b (x ∷ keep p l) (keep p l)) ≤ length (cond c (x ∷ keep q l) (keep q l))
-      go true true k r = omega arith
-      go true false k r = clash (k refl) refl
-      go false true k r = omega arith
-      go false false k r = r
+      go : (a b : Bool) → (a ≡ true → b ≡ true) → total g (keep p l) ≤ total g (keep q l)
+          → total g (cond a (x ∷ keep p l) (keep p l)) ≤ total g (cond b (x ∷ keep q l) (keep q l))
+      go true true k i = omega arith
+      go true false k i = clash (k refl) refl
+      go false true k i = omega arith
+      go false false k i = i
+
+  pub total-keep-le : (g : A → ℕ) (p q : A → Bool) (l : List A) → ((x : A) → p x ≡ true → q x ≡ true) → total g (keep p l) ≤ total g (keep q l)
+  total-keep-le g p q l h = kept-le g p q l (λ x m. h x)
+
+  pub total-ones : (l : List A) → total (λ x. 1) l ≡ length l
+  total-ones [] = refl
+  total-ones (x ∷ l) = omega (arith, total-ones l)
+
+  pub keep-le : (p q : A → Bool) (l : List A) → ((x : A) → x ∈ l → p x ≡ true → q x ≡ true) → length (keep p l) ≤ length (keep q l)
+  keep-le p q l h = omega (arith, total-ones (keep p l), total-ones (keep q l), kept-le (λ x. 1) p q l h)
 
   pub keep-length : (p : A → Bool) (l : List A) → length (keep p l) ≤ length l
   keep-length p l = rw (keep-all (λ x. true) l (all-in (λ x. true) l (λ x m. refl))) at (keep-le p (λ x. true) l (λ x m h. refl))
@@ -148,26 +158,10 @@ module _ {A : Type 0} where
   total-in f (here {xs = l} e) = omega (arith, ap f e)
   total-in f (there m) = omega (arith, total-in f m)
 
-  pub total-ones : (l : List A) → total (λ x. 1) l ≡ length l
-  total-ones [] = refl
-  total-ones (x ∷ l) = omega (arith, total-ones l)
-
   -- the sum of a front part is no more than that of a longer one
   pub total-take-le : (f : A → ℕ) (l : List A) (i j : ℕ) → i ≤ j → total f (take i l) ≤ total f (take j l)
   total-take-le f l i j h =
       omega (arith, ap (total f) (take-append-drop i (take j l)), total-append f (take i (take j l)) (drop i (take j l)), ap (total f) (take-take i j l h))
-
-  -- no more passes a stricter test
-  pub total-keep-le : (g : A → ℕ) (p q : A → Bool) (l : List A) → ((x : A) → p x ≡ true → q x ≡ true) → total g (keep p l) ≤ total g (keep q l)
-  total-keep-le g p q [] h = omega arith
-  total-keep-le g p q (x ∷ l) h = go (p x) (q x) (h x) (total-keep-le g p q l h)
-    where
-      go : (a b : Bool) → (a ≡ true → b ≡ true) → total g (keep p l) ≤ total g (keep q l)
-          → total g (cond a (x ∷ keep p l) (keep p l)) ≤ total g (cond b (x ∷ keep q l) (keep q l))
-      go true true k i = omega arith
-      go true false k i = clash (k refl) refl
-      go false true k i = omega arith
-      go false false k i = i
 
   -- g and a constant for f, where they agree on the list
   pub total-const : (f g : A → ℕ) (k : ℕ) (l : List A) → ((x : A) → x ∈ l → f x ≡ g x + k) → total f l ≡ total g l + length l * k

@@ -19,7 +19,8 @@ use Rattle.sets.specs.Literal.{oppositeOf}
 use Rattle.sets.specs.Sets.{mem, asc, proper, insert, union, without, meet, same}
 use Rattle.sets.specs.Masks.{bit, nonzero, side, test, literals, single}
 use Rattle.sets.proofs.Truth.{iff, both, together, or-left, or-right, decided, clash, refuted}
-use Rattle.sets.proofs.Lists.{pairwise-keep}
+use Rattle.sets.proofs.Lists.{keep-length, pairwise-keep}
+use Rattle.sets.proofs.Rows.{from-length}
 use Rattle.sets.proofs.Sets.{keep-mem, from-mem, from-asc, insert-mem, union-mem, without-mem, meet-mem, insert-asc, union-asc, without-asc}
 use Rattle.sets.proofs.Sets.{meet-asc, ext, nil-mem, mem-nil, same-eq, eq-same, proper-in, proper-out}
 use Rattle.sets.proofs.Digits.{bit-or, bit-and, bit-xor, bit-not, bit-pow, bits-ext, bit-none, no-bits, bit-mask}
@@ -177,43 +178,38 @@ module _ (w l : ℕ) where
 
   single-test : ltb l (2 * w) ≡ true → (k : ℕ) → test (single w l 0) (single w l 1) k ≡ eqb k l
   unfolding test
-  single-test t k = ap (λ (m : ℕ). bit m (k / 2)) (side-of (single w l) k) ∙ go (decided (eqb (l % 2) (k % 2)))
-    where
-      go : (eqb (l % 2) (k % 2) ≡ true) ⊎ (eqb (l % 2) (k % 2) ≡ false) → bit (single w l (k % 2)) (k / 2) ≡ eqb k l
-      go (inl e) = let q = eqb-true (l % 2) (k % 2) e in ap (λ (m : ℕ). bit m (k / 2)) (single-one (k % 2) t q) ∙ bit-pow (l / 2) (k / 2) ∙ alike k l q
-      go (inr e) = let q = eqb-false (l % 2) (k % 2) e in ap (λ (m : ℕ). bit m (k / 2)) (single-other (k % 2) q) ∙ bit-none (k / 2) ∙ sym (unlike k l q)
+  single-test t k = ap (λ (m : ℕ). bit m (k / 2)) (side-of (single w l) k) ∙ elim (decided (eqb (l % 2) (k % 2))) [
+    | inl e ↦ let q = eqb-true (l % 2) (k % 2) e in ap (λ (m : ℕ). bit m (k / 2)) (single-one (k % 2) t q) ∙ bit-pow (l / 2) (k / 2) ∙ alike k l q
+    | inr e ↦ let q = eqb-false (l % 2) (k % 2) e in ap (λ (m : ℕ). bit m (k / 2)) (single-other (k % 2) q) ∙ bit-none (k / 2) ∙ sym (unlike k l q)
+  ]
 
   module _ (p n : ℕ) where
     -- `|` with its bits joins a literal
     pub literals-single : literals w (bitOr p (single w l 0)) (bitOr n (single w l 1)) ≡ cond (ltb l (2 * w)) (insert l (literals w p n)) (literals w p n)
-    literals-single = go (decided (ltb l (2 * w)))
-      where
-        go : (ltb l (2 * w) ≡ true) ⊎ (ltb l (2 * w) ≡ false)
-            → literals w (bitOr p (single w l 0)) (bitOr n (single w l 1)) ≡ cond (ltb l (2 * w)) (insert l (literals w p n)) (literals w p n)
-        go (inl t) =
-            insert-by w p n (bitOr p (single w l 0)) (bitOr n (single w l 1)) l (ltb-true l (2 * w) t)
-            (λ k. op-test bitOr _||_ bit-or p n (single w l 0) (single w l 1) k ∙ ap (λ (b : Bool). test p n k || b) (single-test t k)
-            ∙ or-comm (test p n k) (eqb k l))
-            ∙ rw t
-        go (inr t) = rw (single-none 0 t, single-none 1 t, or-zero-r p, or-zero-r n, t)
+    literals-single = elim (decided (ltb l (2 * w))) [
+      | inl t ↦
+          insert-by w p n (bitOr p (single w l 0)) (bitOr n (single w l 1)) l (ltb-true l (2 * w) t)
+          (λ k. op-test bitOr _||_ bit-or p n (single w l 0) (single w l 1) k ∙ ap (λ (b : Bool). test p n k || b) (single-test t k)
+          ∙ or-comm (test p n k) (eqb k l))
+          ∙ rw t
+      | inr t ↦ rw (single-none 0 t, single-none 1 t, or-zero-r p, or-zero-r n, t)
+    ]
 
     -- `&` with its bits finds it
     pub mem-single : not (eqb (bitOr (bitAnd p (single w l 0)) (bitAnd n (single w l 1))) 0) ≡ mem l (literals w p n)
-    mem-single = go (decided (ltb l (2 * w))) (decided (eqb (l % 2) 0))
-      where
-        go : (ltb l (2 * w) ≡ true) ⊎ (ltb l (2 * w) ≡ false) → (eqb (l % 2) 0 ≡ true) ⊎ (eqb (l % 2) 0 ≡ false)
-            → not (eqb (bitOr (bitAnd p (single w l 0)) (bitAnd n (single w l 1))) 0) ≡ mem l (literals w p n)
-        go (inr t) d = rw (single-none 0 t, single-none 1 t, and-zero-r p, and-zero-r n) (sym (literals-mem w p n l ∙ rw t))
-        go (inl t) (inl e) =
+    mem-single = elim (decided (ltb l (2 * w))) [
+      | inr t ↦ rw (single-none 0 t, single-none 1 t, and-zero-r p, and-zero-r n) (sym (literals-mem w p n l ∙ rw t))
+      | inl t ↦ let h = ltb-true l (2 * w) t in elim (decided (eqb (l % 2) 0)) [
+        | inl e ↦
             let z = eqb-true (l % 2) 0 e in
-            let h = ltb-true l (2 * w) t in
             rw (single-one 0 t z, single-other 1 (λ o. omega arith), and-zero-r n, or-zero-r (bitAnd p (2 ^ (l / 2))))
             (bit-mask p (l / 2) ∙ sym (mem-even w p n l (omega arith) z))
-        go (inl t) (inr e) =
+        | inr e ↦
             let z = eqb-false (l % 2) 0 e in
-            let h = ltb-true l (2 * w) t in
             rw (single-other 0 z, single-one 1 t (omega arith), and-zero-r p, or-zero-l (bitAnd n (2 ^ (l / 2))))
             (bit-mask n (l / 2) ∙ sym (mem-odd w p n l (omega arith) z))
+      ]
+    ]
 
 -- ---- how many
 
@@ -258,15 +254,9 @@ literals-length w p n hp hn =
     count-from w 0 p n (subst (λ (x : ℕ). x < 2 ^ w) (sym (div-one p)) hp) (subst (λ (x : ℕ). x < 2 ^ w) (sym (div-one n)) hn)
     ∙ ap₂ (λ (x y : ℕ). ones x + ones y) (div-one p) (div-one n)
 
-length-keep-le : (f : ℕ → Bool) (k m : ℕ) → length (keep f (from k m)) ≤ m
-unfolding from
-length-keep-le f k zero = omega arith
-length-keep-le f k (suc m) = elim (f k) as (λ b. length (cond b (k ∷ keep f (from (suc k) m)) (keep f (from (suc k) m))) ≤ suc m)
-    [ true ↦ omega (arith, length-keep-le f (suc k) m) | false ↦ omega (arith, length-keep-le f (suc k) m) ]
-
 pub literals-at-most : (w p n : ℕ) → length (literals w p n) ≤ 2 * w
 unfolding literals
-literals-at-most w p n = length-keep-le (test p n) 0 (2 * w)
+literals-at-most w p n = omega (arith, keep-length (test p n) (from 0 (2 * w)), from-length 0 (2 * w))
 
 -- ---- empty, proper, equal
 

@@ -2,13 +2,15 @@
 use mathlib.Core.Path.{_≡_, sym, _∙_, ap}
 use mathlib.Core.Bool.{Bool, true, false, _&&_, and-false}
 use mathlib.Core.Option.{none, some}
+use mathlib.Core.Logic.{inl, inr}
 use Prim.Native.Nat.{ℕ, zero, suc, _+_, _-_, _*_, _/_, _%_, _^_, _<_, _≤_}
 use native.Mathlib.Omega.{arith}
 use lib.Dec.{ltb}
 use lib.Bits.{bitOr}
+use borrow.Author.Tests.{ltb-true, ltb-false}
 use Rattle.sets.specs.Sets.{mem, firstFrom}
 use Rattle.sets.specs.Masks.{bit, side, test, literals}
-use Rattle.sets.proofs.Truth.{clash, or-left, or-right, refuted, Stand, below, equal, beyond, stand}
+use Rattle.sets.proofs.Truth.{clash, or-left, or-right, decided, refuted, Stand, below, equal, beyond, stand}
 use Rattle.sets.proofs.Digits.{bit-or, bit-shr, bit-none, bit-high}
 use Rattle.sets.proofs.Literals.{literals-mem, mem-inside, mem-plain, mem-negated, mem-wide, literals-asc}
 use Rattle.sets.proofs.First.{first-none, first-some, some-first}
@@ -47,12 +49,10 @@ module _ (w p n v : ℕ) where
 
   module _ (hp : p < 2 ^ w) (hn : n < 2 ^ w) (t : ℕ) (low : (i : ℕ) → i < t → bit (bitOr (p / 2 ^ v) (n / 2 ^ v)) i ≡ false) where
     inside : (m : ℕ) → m < 2 ^ w → bit m (v + t) ≡ true → v + t < w
-    inside m h b = go (stand (v + t) w)
-      where
-        go : Stand (v + t) w → v + t < w
-        go (below r x y) = r
-        go (equal r x y) = clash b (bit-high w m (v + t) h (omega arith))
-        go (beyond r x y) = clash b (bit-high w m (v + t) h (omega arith))
+    inside m h b = elim (decided (ltb (v + t) w)) [
+      | inl r ↦ ltb-true (v + t) w r
+      | inr r ↦ clash b (bit-high w m (v + t) h (ltb-false (v + t) w r))
+    ]
 
     pub first-plain : bit (p / 2 ^ v) t ≡ true → some (2 * (v + t)) ≡ firstFrom (2 * v) (literals w p n)
     first-plain b =

@@ -1,7 +1,7 @@
 -- Ascending lists as sets of numbers: membership in what the operations make, and what follows from it. Assumes nothing.
 use mathlib.Core.Path.{_≡_, refl, sym, ap, ap₂, _∙_, subst}
 use mathlib.Core.Logic.{_⊎_, inl, inr}
-use mathlib.Core.Bool.{Bool, true, false, cond, not, _&&_, _||_, false≢true, or-comm, or-assoc, or-self-left}
+use mathlib.Core.Bool.{Bool, true, false, cond, not, _&&_, _||_, false≢true, and-assoc, or-comm, or-assoc, or-self-left}
 use mathlib.Core.List.{List, [], _∷_, _++_, List·Memᴰ·head as here, List·Memᴰ·tail as there, Memᴰ·cast}
 use Prim.Native.Nat.{ℕ, zero, suc, _+_, _≤_}
 use native.Mathlib.Omega.{arith}
@@ -11,7 +11,7 @@ use borrow.Author.Tests.{ltb-true, ltb-false, eqb-true, eqb-false, leb-true, lt-
 use Rattle.sets.specs.Lists.{any, all, keep, isNil, from}
 use Rattle.sets.specs.Literal.{oppositeOf}
 use Rattle.sets.specs.Sets.{mem, sub, apart, asc, proper, insert, union, without, meet, same}
-use Rattle.sets.proofs.Truth.{iff, both, together, either, decided, clash, refuted}
+use Rattle.sets.proofs.Truth.{iff, both, together, either, or-right, decided, clash, refuted}
 use Rattle.sets.proofs.Lists.{_∈_, any-in, any-out, all-in, all-out, keep-in, keep-out, pairwise-keep, ahead}
 use Rattle.sets.proofs.Orders.{ltb-order, ext-in}
 
@@ -41,14 +41,10 @@ insert-mem z x (y ∷ c) = go (ltb x y) (eqb x y) refl (insert-mem z x c)
     go false true h k = rw (eqb-true x y h) (sym (or-self-left (eqb z y) (any (eqb z) c)))
     go false false h k = rw k (swap-or (eqb z y) (eqb z x) (any (eqb z) c))
 
-or-assoc′ : (a b c : Bool) → (a || (b || c)) ≡ ((a || b) || c)
-or-assoc′ true b c = refl
-or-assoc′ false b c = refl
-
 pub union-mem : (z : ℕ) (a b : List ℕ) → mem z (union a b) ≡ (mem z a || mem z b)
 unfolding union mem
 union-mem z [] b = refl
-union-mem z (x ∷ a) b = insert-mem z x (union a b) ∙ rw (union-mem z a b) (or-assoc′ (eqb z x) (mem z a) (mem z b))
+union-mem z (x ∷ a) b = insert-mem z x (union a b) ∙ rw (union-mem z a b) (sym (or-assoc (eqb z x) (mem z a) (mem z b)))
 
 pub keep-mem : (f : ℕ → Bool) (z : ℕ) (c : List ℕ) → mem z (keep f c) ≡ (mem z c && f z)
 keep-mem f z c = iff
@@ -187,13 +183,9 @@ ext a b h k e = ext-in ltb ltb-order a b h k (λ z m. of-mem z b (sym (e z) ∙ 
 pub insert-all : (v : ℕ → Bool) (x : ℕ) (c : List ℕ) → all v (insert x c) ≡ (v x && all v c)
 insert-all v x c = iff
     (λ h. rw (mem-all v (insert x c) x h (insert-mem x x c ∙ rw (eq-eqb x x refl)))
-    (all-mem v c (λ z m. mem-all v (insert x c) z h (insert-mem z x c ∙ or-r (eqb z x) m))))
+    (all-mem v c (λ z m. mem-all v (insert x c) z h (insert-mem z x c ∙ or-right (eqb z x) (mem z c) m))))
     (λ h. let q = both (v x) (all v c) h in all-mem v (insert x c) (λ z m.
     elim (either (eqb z x) (mem z c) (sym (insert-mem z x c) ∙ m)) [ inl e ↦ ap v (eqb-true z x e) ∙ q .0 | inr e ↦ mem-all v c z (q .1) e ]))
-  where
-    or-r : (a : Bool) {b : Bool} → b ≡ true → (a || b) ≡ true
-    or-r true h = refl
-    or-r false h = h
 
 pub insert-length : (x : ℕ) (c : List ℕ) → mem x c ≡ false → length (insert x c) ≡ suc (length c)
 unfolding insert mem
@@ -209,11 +201,7 @@ insert-length x (y ∷ c) h = go (ltb x y) (eqb x y) h (insert-length x c)
 pub union-all : (v : ℕ → Bool) (a b : List ℕ) → all v (union a b) ≡ (all v a && all v b)
 unfolding union
 union-all v [] b = refl
-union-all v (x ∷ a) b = insert-all v x (union a b) ∙ rw (union-all v a b) (assoc (v x) (all v a) (all v b))
-  where
-    assoc : (p q r : Bool) → (p && (q && r)) ≡ ((p && q) && r)
-    assoc true q r = refl
-    assoc false q r = refl
+union-all v (x ∷ a) b = insert-all v x (union a b) ∙ rw (union-all v a b) (sym (and-assoc (v x) (all v a) (all v b)))
 
 pub union-length : (a b : List ℕ) → asc a ≡ true → apart a b ≡ true → length (union a b) ≡ length a + length b
 unfolding union apart

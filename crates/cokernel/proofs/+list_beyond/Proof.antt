@@ -5,7 +5,7 @@ use mathlib.Core.List.{List}
 use mathlib.Core.Logic.{inl, inr}
 use native.Mathlib.Omega.{arith}
 use borrow.Author.Needs.{needs}
-use borrow.Fn.Kinds.{In}
+use borrow.Fn.Kinds.{In, Out}
 use borrow.Fn.PlainCycle.{Measures, is, falls, and}
 use lib.ListN.{length}
 use Rattle.cube.proofs.Lits.{lits-asc}
@@ -45,23 +45,27 @@ known t = (
 )
 
 module _ (t : ℕ) where
+  -- its states and its needs
+  abbrev of-list : (lts.Claims → In 2 kinds.ps → Out 2 kinds.ps kinds.r → Type 0) → Type 0
+  of-list S = S (known t) (at t) reads.Post
+
   -- what it was given, before it makes a branch
-  abbrev begun : lts.Else2 (known t) (at t) reads.Post → lts.Start (known t) (at t) reads.Post
+  abbrev begun : of-list lts.Else2 → of-list lts.Start
   begun e = e .before .before .before .before
 
-  abbrev held : lts.Else2 (known t) (at t) reads.Post → List (List ℕ)
+  abbrev held : of-list lts.Else2 → List (List ℕ)
   held e = cubesOf (begun e .args .f .now)
 
-  inside : (e : lts.Else2 (known t) (at t) reads.Post) → begun e .args .j < 2 * width
+  inside : (e : of-list lts.Else2) → begun e .args .j < 2 * width
   inside e = omega arith
 
-  returns : lts.Need-returns (known t) (at t) reads.Post
+  returns : of-list lts.Need-returns
   returns c = rw (beyond-end _ _ _ (c .if1 .taken)) (walked-still _ _ _ _ (omega arith))
 
-  returns-2 : lts.Need-returns-2 (known t) (at t) reads.Post
+  returns-2 : of-list lts.Need-returns-2
   returns-2 c = walked-still _ _ _ _ (omega arith)
 
-  list-beyond-requires : lts.Need-list-beyond-requires (known t) (at t) reads.Post
+  list-beyond-requires : of-list lts.Need-list-beyond-requires
   list-beyond-requires c κs =
       let p = c .before .before .before in
       let b = p .before .before .before .before .before in
@@ -74,7 +78,7 @@ module _ (t : ℕ) where
       )
 
   -- those with j are counted, and stand where there is room
-  with-j : (c : lts.Joined3 (known t) (at t) reads.Post) → let b = c .before in let s = begun (b .before) in let r = b .branch-at .result in
+  with-j : (c : of-list lts.Joined3) → let b = c .before in let s = begun (b .before) in let r = b .branch-at .result in
       Walked (s .args .o .now) (c .if3 .o) (s .args .most) (s .args .i)
       (withIt (held (b .before)) (s .args .j) (lits (r .cube)) (r .opened) (r .closed)) (c .if3 .at)
   with-j c =
@@ -84,13 +88,13 @@ module _ (t : ℕ) where
         | inr w ↦ rw (w .1, w .2, w .0 .left) (walked-still _ _ _ _ (omega arith))
       ]
 
-  keeps : (c : lts.Joined3 (known t) (at t) reads.Post) → length (c .if3 .o) ≡ length (begun (c .before .before) .args .o .now)
+  keeps : (c : of-list lts.Joined3) → length (c .if3 .o) ≡ length (begun (c .before .before) .args .o .now)
   keeps c = elim (c .if3 .came) [ inl w ↦ ap length (w .11) ∙ w .8 .kept .1 .1 .1 .1 .0 ∙ w .4 .kept .0 | inr w ↦ ap length (w .1) ]
 
-  same-length : lts.Need-same-length (known t) (at t) reads.Post
+  same-length : of-list lts.Need-same-length
   same-length c = keeps (c .before .before)
 
-  returns-3 : lts.Need-returns-3 (known t) (at t) reads.Post
+  returns-3 : of-list lts.Need-returns-3
   returns-3 c =
       let h = c .before in
       let b = h .before .before in
@@ -99,16 +103,16 @@ module _ (t : ℕ) where
       (sym (h .has .ensures) ∙ c .if4 .taken))
       (with-j (h .before))
 
-  list-beyond-requires-2 : lts.Need-list-beyond-requires-2 (known t) (at t) reads.Post
+  list-beyond-requires-2 : of-list lts.Need-list-beyond-requires-2
   list-beyond-requires-2 c κs =
       let j = c .before .before .before in
       let e = j .before .before in
       (omega arith, (walks-on _ _ _ _ (begun e .pre .1 .0) (inside e), omega (arith, (with-j j) .next)))
 
-  same-length-2 : lts.Need-same-length-2 (known t) (at t) reads.Post
+  same-length-2 : of-list lts.Need-same-length-2
   same-length-2 c = let w = c .before .before in w .list-beyond2 .kept .1 .1 .1 .1 .0 ∙ keeps (w .before .before .before .before)
 
-  returns-4 : lts.Need-returns-4 (known t) (at t) reads.Post
+  returns-4 : of-list lts.Need-returns-4
   returns-4 c =
       let w = c .before .before in
       let j = w .before .before .before .before in

@@ -1,9 +1,9 @@
 -- `expression::cube_at` meets its contract: the words of a cube are its masks. Assumes nothing.
 use Prim.Native.Nat.{ℕ, _+_, _*_, _/_}
 use mathlib.Core.Path.{_≡_, sym, _∙_, ap₂}
-use mathlib.Core.Bool.{true, false, cond}
+use mathlib.Core.Bool.{cond}
 use mathlib.Core.List.{List, []}
-use mathlib.Core.Logic.{_⊎_, inl, inr}
+use mathlib.Core.Logic.{inl, inr}
 use native.Mathlib.Omega.{arith}
 use lib.Dec.{ltb}
 use lib.ListN.{length, getD}
@@ -23,11 +23,10 @@ abbrev word : List ℕ → ℕ → ℕ → ℕ
 word ws i k = cond (ltb i (length ws / 2)) (getD ws (2 * i + k) 0) 0
 
 paired : (ws : List ℕ) (i : ℕ) → literals width (word ws i 0) (word ws i 1) ≡ getD (cubesOf ws) i []
-paired ws i = go (decided (ltb i (length ws / 2)))
-  where
-    go : (ltb i (length ws / 2) ≡ true) ⊎ (ltb i (length ws / 2) ≡ false) → literals width (word ws i 0) (word ws i 1) ≡ getD (cubesOf ws) i []
-    go (inl t) = let z : 2 * i + 0 ≡ 2 * i = omega arith in rw (t, z) (sym (cubes-at ws i (ltb-true i (length ws / 2) t)))
-    go (inr t) = rw t (literals-none width ∙ sym (cubes-past ws i (ltb-false i (length ws / 2) t)))
+paired ws i = elim (decided (ltb i (length ws / 2))) [
+  | inl t ↦ let z : 2 * i + 0 ≡ 2 * i = omega arith in rw (t, z) (sym (cubes-at ws i (ltb-true i (length ws / 2) t)))
+  | inr t ↦ rw t (literals-none width ∙ sym (cubes-past ws i (ltb-false i (length ws / 2) t)))
+]
 
 returns : tie.Need-returns
 returns c = ap₂ (literals width) (c .before .word-at .ensures) (c .word-at2 .ensures) ∙ paired _ _

@@ -3,7 +3,7 @@ use Prim.Native.Nat.{ℕ, _+_, _/_, _%_, _<_}
 use mathlib.Core.List.{[], _∷_, _++_}
 use native.Mathlib.Omega.{arith}
 use borrow.Author.Needs.{needs}
-use borrow.Fn.Kinds.{In}
+use borrow.Fn.Kinds.{In, Out}
 use borrow.Fn.PlainCycle.{Measures, is, falls, and}
 use Rattle.letters.specs.Letters.{decimal}
 use Rattle.letters.proofs.Laying.{Due, due-all, due-next, due-last}
@@ -29,20 +29,24 @@ abbrev known : ℕ → lts.Claims
 known t = (put-reads.Asked, put-reads.Learnt, below t, reads.Post)
 
 module _ (t : ℕ) where
-  returns : lts.Need-returns (known t) (at t) reads.Post
+  -- its states and its needs
+  abbrev of-put : (lts.Claims → In 1 kinds.ps → Out 1 kinds.ps kinds.r → Type 0) → Type 0
+  of-put S = S (known t) (at t) reads.Post
+
+  returns : of-put lts.Need-returns
   returns c = due-last (due-all _ _ (omega arith) (omega arith) (decimal-one _ (c .before .before .before .before .if1 .taken)))
       (c .before .before .put .ensures)
 
   -- the digits of a tenth are due, then the last one
-  digits : (c : lts.Else1 (known t) (at t) reads.Post) → let s = c .before .before .args in
+  digits : (c : of-put lts.Else1) → let s = c .before .before .args in
       Due (s .o .now) (s .at) (decimal (s .n)) (s .o .now) (s .at) (decimal (s .n / 10) ++ ((48 + s .n % 10) ∷ []))
   digits c = due-all _ _ (omega arith) (omega arith) (decimal-more _ (c .if1 .left))
 
-  last : (c : lts.After-put-number (known t) (at t) reads.Post) → let s = c .before .before .before .before .args in
+  last : (c : of-put lts.After-put-number) → let s = c .before .before .before .before .args in
       Due (s .o .now) (s .at) (decimal (s .n)) (c .put-number .last .0) (c .put-number .result) ((48 + s .n % 10) ∷ [])
   last c = due-next (digits (c .before .before)) (c .put-number .ensures)
 
-  returns-2 : lts.Need-returns-2 (known t) (at t) reads.Post
+  returns-2 : of-put lts.Need-returns-2
   returns-2 c = let p = c .before .before in due-last (last (p .before .before .before .before)) (p .put2 .ensures)
 
 pub +put-number-spec : {M : Type 1} → statement M
