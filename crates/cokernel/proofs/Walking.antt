@@ -212,45 +212,31 @@ module _ (n : ℕ) (f : Cubes) (p : List ℕ) (j : ℕ) (g : Held n f) (h : Pref
 -- where the literals of the cubes are all below j + k
 pub beyond-in : (k n : ℕ) (f : Cubes) (p : List ℕ) (j : ℕ) → n ≡ k + j → Held n f → Prefix p j → (c : List ℕ) → GoesOn f p j c → c ∈ beyond k f p j
 unfolding beyond
-beyond-in zero n f p j e g h c b =
-    let s = on-out j c (b .rising) (b .on) in let q = cokernel-out f c (b .closed) in
-    absurd (past (s .0) (s .1) (common-above f c (omega (arith, q .0))) (q .0) (s .2))
+beyond-in zero n f p j e g h c b = absurd (past (above f c) refl ((cokernel-out f c (b .closed)) .0))
   where
-    past : (l : ℕ) → j ≤ l → sub c (common (above f c)) ≡ true → 2 ≤ length (above f c) → mem l c ≡ true → ⊥
-    past l u s two m = some-above (above f c) refl two
-      where
-        some-above : (a : Cubes) → above f c ≡ a → 2 ≤ length a → ⊥
-        some-above [] t w = omega arith
-        some-above (d ∷ a) t w =
-            let q = keep-out (sub c) f (subst (λ z. d ∈ z) (sym t) (here refl)) in
-            omega (arith, g .inside d (q .0) l (sub-out c d l (q .1) m))
-beyond-in (suc k) n f p j e g h c b =
-    go (decided (mem j c)) (beyond-in k n f (insert j p) (suc j) (omega arith) g (prefix-with p j h) c)
-    (beyond-in k n f p (suc j) (omega arith) g (prefix-on p j h) c)
-  where
-    go : (mem j c ≡ true) ⊎ (mem j c ≡ false) → (GoesOn f (insert j p) (suc j) c → c ∈ beyond k f (insert j p) (suc j))
-        → (GoesOn f p (suc j) c → c ∈ beyond k f p (suc j))
-        → c ∈ (cond (opens f j (insert j p)) (branchCubes k f (insert j p) (suc j)) [] ++ beyond k f p (suc j))
-    go (inl m) w v = Memᴰ·append-left (beyond k f p (suc j))
-        (cond-in (opens f j (insert j p)) (branch-open n f p j g h c (b .closed) (b .alike) m)
-        (branch-in k f (insert j p) (suc j) (prefix-with p j h) c (b .rising) (b .closed)
-        (up-to j c (insert j p) (λ l s. b .alike l s ∙ sym (mem-with p j l s)) (m ∙ sym (mem-there p j))) w))
-    go (inr m) w v =
+    past : (a : Cubes) → above f c ≡ a → 2 ≤ length a → ⊥
+    past [] t w = omega arith
+    past (d ∷ a) t w =
         let s = on-out j c (b .rising) (b .on) in
-        Memᴰ·append-right (cond (opens f j (insert j p)) (branchCubes k f (insert j p) (suc j)) []) (v (record {
-          rising = b .rising;
-          closed = b .closed;
-          alike = up-to j c p (b .alike) (m ∙ sym (prefix-past p j h j (omega arith)));
-          on = on-in (suc j) c (s .0) (later (s .0) (s .1) (s .2)) (s .2);
-        }))
-      where
-        later : (l : ℕ) → j ≤ l → mem l c ≡ true → suc j ≤ l
-        later l u i = elim (stand l j) [
-          | lower t _ _ ↦ absurd (omega arith)
-          | equal t _ _ ↦ clash
-              (subst (λ z. mem z c ≡ true) t i) m
-          | upper t _ _ ↦ omega arith
-        ]
+        let q = keep-out (sub c) f (subst (λ z. d ∈ z) (sym t) (here refl)) in
+        omega (arith, s .1, g .inside d (q .0) (s .0) (sub-out c d (s .0) (q .1) (s .2)))
+beyond-in (suc k) n f p j e g h c b = elim (decided (mem j c)) [
+  | inl m ↦ Memᴰ·append-left (beyond k f p (suc j))
+      (cond-in (opens f j (insert j p)) (branch-open n f p j g h c (b .closed) (b .alike) m)
+      (branch-in k f (insert j p) (suc j) (prefix-with p j h) c (b .rising) (b .closed)
+      (up-to j c (insert j p) (λ l s. b .alike l s ∙ sym (mem-with p j l s)) (m ∙ sym (mem-there p j)))
+      (beyond-in k n f (insert j p) (suc j) (omega arith) g (prefix-with p j h) c)))
+  | inr m ↦
+      let s = on-out j c (b .rising) (b .on) in
+      let past : s .0 ≡ j → ⊥ = λ t. clash (subst (λ z. mem z c ≡ true) t (s .2)) m in
+      Memᴰ·append-right (cond (opens f j (insert j p)) (branchCubes k f (insert j p) (suc j)) [])
+      (beyond-in k n f p (suc j) (omega arith) g (prefix-on p j h) c (record {
+        rising = b .rising;
+        closed = b .closed;
+        alike = up-to j c p (b .alike) (m ∙ sym (prefix-past p j h j (omega arith)));
+        on = on-in (suc j) c (s .0) (omega (arith, s .1, past)) (s .2);
+      }))
+]
 
 -- ---- in cube order
 

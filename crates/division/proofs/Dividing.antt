@@ -10,7 +10,7 @@ use borrow.Author.Tests.{not-true}
 use Rattle.sets.specs.Lists.{any, all, total, keep, pairwise}
 use Rattle.sets.specs.Sets.{mem, sub, apart, asc, proper, union, without, same, before}
 use Rattle.sets.proofs.Truth.{iff, both, together, either, or-left, or-right, decided, clash, refuted}
-use Rattle.sets.proofs.Lists.{_∈_, any-in, any-out, all-in, all-out, keep-in, keep-out, keep-all, map-in, map-out, map-fixed, total-split, total-or}
+use Rattle.sets.proofs.Lists.{_∈_, any-in, any-out, all-in, all-out, keep-in, keep-out, keep-all, map-in, map-out, map-fixed, total-split, total-or, total-ones}
 use Rattle.sets.proofs.Lists.{total-same, ahead, pairwise-keep, pairwise-imp, pairwise-map}
 use Rattle.sets.proofs.Orders.{before-order, ext-in}
 use Rattle.sets.proofs.Sets.{sub-in, apart-in, apart-out, union-mem, union-all, union-left, union-right, union-comm, without-apart, rejoin, unjoin}
@@ -107,13 +107,8 @@ differ-all : (f : List (List ℕ)) → expression f ≡ true → pairwise differ
 differ-all f h = pairwise-imp loose differ f loose-differ ((both (all isCube f) (pairwise loose f) h) .1)
 
 -- the number of elements, as a total
-one : List ℕ → ℕ
+abbrev one : List ℕ → ℕ
 one c = 1
-
-ones : (l : List (List ℕ)) → total one l ≡ length l
-unfolding one
-ones [] = refl
-ones (c ∷ l) = omega (arith, ones l)
 
 keep-none : (l : List (List ℕ)) → keep (λ e. false) l ≡ []
 keep-none [] = refl
@@ -148,7 +143,6 @@ module _ (f d : List (List ℕ)) (ef : expression f ≡ true) (ed : expression d
   unions-out c e h = let r = any-out (λ b. same e (union c b)) d h in (r .0, r .1, same-eq e (union c (r .0)) (r .2))
 
   count-one : (c : List ℕ) → asc c ≡ true → DividesAll f d c → total one (keep (unions c) f) ≡ length d
-  unfolding one
   count-one c a k =
       total-same differ differ-flip differ-self one (keep (unions c) f) (map (union c) d)
       (pairwise-keep differ (unions c) f (differ-all f ef))
@@ -157,7 +151,7 @@ module _ (f d : List (List ℕ)) (ef : expression f ≡ true) (ed : expression d
       (λ e m. let r = unions-out c e ((keep-out (unions c) f m) .1) in Memᴰ·cast (r .2) (map-in (union c) (r .1)))
       (λ e m. let r = map-out (union c) d m in Memᴰ·cast (r .2)
       (keep-in (unions c) ((k (r .0) (r .1)) .1) (any-in (λ b. same (union c (r .0)) (union c b)) (r .1) (same-self (union c (r .0))))))
-      ∙ ones (map (union c) d) ∙ length-map d (union c)
+      ∙ total-ones (map (union c) d) ∙ length-map d (union c)
 
   count-all : (q : List (List ℕ)) → pairwise differ q ≡ true → ((c : List ℕ) → c ∈ q → asc c ≡ true) → ((c : List ℕ) → c ∈ q → DividesAll f d c)
       → total one (keep (product q d) f) ≡ length q * length d
@@ -179,9 +173,9 @@ module _ (f d : List (List ℕ)) (ef : expression f ≡ true) (ed : expression d
   division-count =
       let q = quotient f d in
       let p = product q d in
-      sym (ones f) ∙ total-split one p f
+      sym (total-ones f) ∙ total-split one p f
       ∙ rw (count-all q (differ-all q ((quotient-form f d ef ed) .0)) (λ c m. cube-asc q ((quotient-form f d ef ed) .0) m) (quotient-out f d))
-      (ap (length q * length d +_) (sym (total-sort one (keep (λ e. not (p e)) f)) ∙ ones (sort (keep (λ e. not (p e)) f))))
+      (ap (length q * length d +_) (sym (total-sort one (keep (λ e. not (p e)) f)) ∙ total-ones (sort (keep (λ e. not (p e)) f))))
 
 -- ---- division by one cube
 

@@ -62,7 +62,7 @@ module _ (f d : List ℕ) (v : Verdict) (h : refusalOf v ≡ either (refusal f) 
 pub record Admissible (f d : List ℕ) : Type 0 where
   pub dividend : accept.Accepted f
   pub divisor : accept.Accepted d
-  pub some : 0 < length (cubesOf d)
+  pub filled : 0 < length (cubesOf d)
   pub neither : either (refusal f) (refusal d) ≡ none
 
 either-none : (a b : Option ℕ) → either a b ≡ none → (a ≡ none) × (b ≡ none)
@@ -82,7 +82,7 @@ admitted-known f d h = go (either (refusal f) (refusal d)) refl (isNil (cubesOf 
     go (some k) e t n h = some-not-none (some k) refl h
     go none e true n h = some-not-none (some 8) refl h
     go none e false n h = let q = either-none (refusal f) (refusal d) e in
-        record { dividend = accept.accepted-out f (q .0); divisor = accept.accepted-out d (q .1); some = some-nil (cubesOf d) n; neither = e }
+        record { dividend = accept.accepted-out f (q .0); divisor = accept.accepted-out d (q .1); filled = some-nil (cubesOf d) n; neither = e }
 
 -- ---- too little room
 
@@ -134,7 +134,7 @@ module _ (f d q r : List ℕ) where
   late : Admissible f d → refusedBy f d q r ≡ cond tight (some 9) none
   unfolding refusedBy roomed cramped
   late m =
-      subst (λ o. after o (roomed f d q r) ≡ cond tight (some 9) none) (sym (m .neither)) (rw (nil-some (cubesOf d) (λ z. omega (arith, m .some))))
+      subst (λ o. after o (roomed f d q r) ≡ cond tight (some 9) none) (sym (m .neither)) (rw (nil-some (cubesOf d) (λ z. omega (arith, m .filled))))
 
   -- what is handed over is the answer
   pub told-late : {a b : List (List ℕ)} (q′ r′ : List ℕ) (t : Division) → Admissible f d

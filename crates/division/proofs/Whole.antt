@@ -38,7 +38,7 @@ module _ {f d : List ℕ} (m : Admissible f d) where
     pub listed-quotient : {old new : List ℕ} {n : ℕ} → Appends old new 0 (sort (divisors (cubesOf s) (cubesOf d))) n
         → Appends old new 0 (quotient (cubesOf f) (cubesOf d)) n
     listed-quotient l =
-        appends-as (ap (λ g. sort (divisors g (cubesOf d))) e ∙ made-quotient (cubesOf f) (cubesOf d) (m .dividend .cubes) (m .divisor .cubes) (m .some)) l
+        appends-as (ap (λ g. sort (divisors g (cubesOf d))) e ∙ made-quotient (cubesOf f) (cubesOf d) (m .dividend .cubes) (m .divisor .cubes) (m .filled)) l
 
     module _ (q : List ℕ) (h : cubesOf q ≡ quotient (cubesOf f) (cubesOf d)) where
       pub quotient-order : ordered (cubesOf q) ≡ true
@@ -48,4 +48,4 @@ module _ {f d : List ℕ} (m : Admissible f d) where
       listed-remainder l =
           appends-as
           (ap (λ g. keep (spared g (cubesOf d)) (cubesOf s)) h ∙ ap (keep (spared (quotient (cubesOf f) (cubesOf d)) (cubesOf d))) e
-          ∙ made-remainder (cubesOf f) (cubesOf d) (m .dividend .cubes) (m .divisor .cubes) (m .some)) l
+          ∙ made-remainder (cubesOf f) (cubesOf d) (m .dividend .cubes) (m .divisor .cubes) (m .filled)) l

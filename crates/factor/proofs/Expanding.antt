@@ -7,14 +7,15 @@ use mathlib.Core.Logic.{inl, inr, _↔_}
 use lib.Dec.{ltb}
 use lib.ListN.{length}
 use borrow.Author.Tests.{ltb-true, ltb-false}
-use Rattle.sets.specs.Lists.{any, all, keep, pairwise, isNil}
-use Rattle.sets.specs.Sets.{mem, sub, asc, insert, union, without, before, proper}
-use Rattle.sets.proofs.Truth.{both, decided, clash}
+use Rattle.sets.specs.Lists.{any, all, keep, isNil}
+use Rattle.sets.specs.Sets.{mem, sub, asc, insert, union, without, before}
+use Rattle.sets.proofs.Truth.{decided, clash}
 use Rattle.sets.proofs.Lists.{_∈_, all-in, all-out, keep-out, map-out}
 use Rattle.sets.proofs.Sets.{without-asc, rejoin, union-comm, insert-all}
-use Rattle.expression.specs.Expression.{isCube, loose, expression, ordered, place, sort}
+use Rattle.expression.specs.Expression.{expression, ordered, place, sort}
 use Rattle.expression.proofs.Sorting.{sort-in, sort-out, sort-length, sort-sort, sort-middle, sort-append-comm, all-sort, value-sort, expression-sort}
 use Rattle.expression.proofs.Values.{append-value}
+use Rattle.division.proofs.Quotients.{cube-asc}
 use Rattle.factor.specs.Form.{usedIn, mostUsed, over, rest, Form, sum, times, plus, formBy, formOf, expanded, formValue}
 use Rattle.factor.proofs.Falling.{Cubes, form-plain, form-times, form-plus}
 
@@ -139,7 +140,7 @@ module _ (v : ℕ → Bool) where
 -- ---- an expression's cubes are ascending, and multiplying out gives none twice
 
 pub expression-asc : (f : Cubes) → expression f ≡ true → all asc f ≡ true
-expression-asc f h = all-in asc f (λ c m. (both (asc c) (proper c) (all-out isCube m ((both (all isCube f) (pairwise loose f) h) .0))) .0)
+expression-asc f h = all-in asc f (λ c m. cube-asc f h m)
 
 pub multiplied-once : (f : Cubes) → expression f ≡ true → ordered (sort (expanded (formOf f))) ≡ true
 multiplied-once f h = ap ordered (multiplied f (expression-asc f h)) ∙ expression-sort f h .1

@@ -252,8 +252,8 @@ module _ (t : ℕ) where
   plus-due c =
       let m = multiplied c in
       let d = divided m in
-      let some = part-some (d .split .last .0) (d .split .result) (origin d .args .e) (omega (arith, d .split .ensures .most, c .if2 .left)) (held d) in
-      due-as (rest-due m) (after-some _ some ∙ ap (λ g. 43 ∷ writtenSum g) (sym (kept m)))
+      let more = part-some (d .split .last .0) (d .split .result) (origin d .args .e) (omega (arith, d .split .ensures .most, c .if2 .left)) (held d) in
+      due-as (rest-due m) (after-some _ more ∙ ap (λ g. 43 ∷ writtenSum g) (sym (kept m)))
 
   sum-sum-requires : of-sum sum-lts.Need-sum-requires
   sum-sum-requires c κs =
