@@ -36,8 +36,8 @@ abbrev outer : tie.After-cube-at Inv-loop μ-loop Inv-next μ-next → tie.At-ne
 outer c = c .before .before .before
 
 -- what stands in a scan, of which the present i is still the outer loop's, and the cube that it is for
-scanned : (l : tie.At-loop Inv-loop μ-loop Inv-next μ-next)
-    → Stands (cubesOf (outer (l .before) .before .before .before .before .args .s .now)) (cubesOf (outer (l .before) .next .s)) (l .loop .i) (outer (l .before) .next .kept)
+scanned : (l : tie.At-loop Inv-loop μ-loop Inv-next μ-next) → let n = outer (l .before) in
+    Stands (cubesOf (n .before .before .before .before .args .s .now)) (cubesOf (n .next .s)) (l .loop .i) (n .next .kept)
 scanned l = rw (l .loop .inv .0) (outer (l .before) .next .inv .1)
 
 present : (l : tie.At-loop Inv-loop μ-loop Inv-next μ-next) → lits (l .before .cube-at .result) ≡ getD (cubesOf (outer (l .before) .next .s)) (l .loop .i) []
