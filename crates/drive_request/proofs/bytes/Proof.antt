@@ -14,9 +14,6 @@ fresh s = storing-all _ _
 returns : tie.Need-returns
 returns c = storing-none (storing-as (bytes-empty _ (c .if1 .taken)) (fresh (c .before)))
 
-shared-slice-read-if3 : tie.Need-shared-slice-read-if3
-shared-slice-read-if3 c = search needs
-
 returns-2 : tie.Need-returns-2
 returns-2 c = let t = c .before .before in let e = t .before in
     storing-done (storing-as (bytes-none _ (e .if1 .left) (t .if2 .taken) (c .if3 .taken)) (fresh (e .before)))
@@ -24,12 +21,6 @@ returns-2 c = let t = c .before .before in let e = t .before in
 returns-3 : tie.Need-returns-3
 returns-3 c = let t = c .before .before in let e = t .before in
     storing-none (storing-as (bytes-odd _ (e .if1 .left) (t .if2 .taken) (c .if3 .left)) (fresh (e .before)))
-
-pairs-requires : tie.Need-pairs-requires
-pairs-requires c κs = search needs
-
-same-length : tie.Need-same-length
-same-length c = search needs
 
 returns-4 : tie.Need-returns-4
 returns-4 c = let p = c .before .before in let entry = p .before .before .before .before in
@@ -40,9 +31,9 @@ bytes-spec =
     tie.close
     (tie.spec
     returns
-    shared-slice-read-if3
+    (λ c. search needs)
     returns-2
     returns-3
-    pairs-requires
-    same-length
+    (λ c κs. search needs)
+    (λ c. search needs)
     returns-4)

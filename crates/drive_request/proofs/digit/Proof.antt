@@ -14,9 +14,6 @@ returns-2 c = sym (digit-decimal _ (c .before .if1 .left) (c .if2 .taken))
 returns-3 : tie.Need-returns-3
 returns-3 c = sym (digit-between _ (c .before .if2 .left) (c .if3 .taken))
 
-sub-result : tie.Need-sub-result
-sub-result c = search needs
-
 returns-4 : tie.Need-returns-4
 returns-4 c = sym (digit-letter _ (c .before .if3 .left) (c .if4 .taken))
 
@@ -24,4 +21,4 @@ returns-5 : tie.Need-returns-5
 returns-5 c = sym (digit-above _ (c .if4 .left))
 
 pub digit-spec : {M : Type 1} → statement M
-digit-spec = tie.close (tie.spec returns returns-2 returns-3 sub-result returns-4 returns-5)
+digit-spec = tie.close (tie.spec returns returns-2 returns-3 (λ c. search needs) returns-4 returns-5)

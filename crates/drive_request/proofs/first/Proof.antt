@@ -8,18 +8,6 @@ use borrow.Author.Needs.{needs}
 use Rattle.drive_request.proofs.first.Statement.{statement}
 use Rattle.drive_request.proofs.first.Tie as tie
 
-word-end-requires : tie.Need-word-end-requires
-word-end-requires c κs = search needs
-
-sub-result : tie.Need-sub-result
-sub-result c = search needs
-
-part-result-start : tie.Need-part-result-start
-part-result-start c = search needs
-
-part-result-end : tie.Need-part-result-end
-part-result-end c = search needs
-
 returns : tie.Need-returns
 returns c =
     let t = c .before .before .before .args .text .now in
@@ -28,4 +16,4 @@ returns c =
 
 pub first-spec : {M : Type 1} → statement M
 first-spec =
-    tie.close (tie.spec word-end-requires sub-result part-result-start part-result-end returns)
+    tie.close (tie.spec (λ c κs. search needs) (λ c. search needs) (λ c. search needs) (λ c. search needs) returns)

@@ -34,43 +34,13 @@ stands w = w .before .before
 abbrev word : tie.After-is-part Inv-loop μ-loop → tie.Else2 Inv-loop μ-loop
 word c = c .before .before
 
-ends-blank-requires : tie.Need-ends-blank-requires Inv-loop μ-loop
-ends-blank-requires c κs = search needs
-
 returns : tie.Need-returns Inv-loop μ-loop
 returns c = sym (groups-blank (c .before .before .before .args .line .now) (sym (c .before .ends-blank .ensures) ∙ c .if1 .taken))
-
-loop-holds : tie.Need-loop-holds Inv-loop μ-loop
-loop-holds c = search needs
-
-word-end-requires : tie.Need-word-end-requires Inv-loop μ-loop
-word-end-requires c κs = search needs
 
 returns-2 : tie.Need-returns-2 Inv-loop μ-loop
 returns-2 c = let w = c .before in let s = stands w in
     sym (groups-empty (line s) (clear s) (sym (s .loop .inv .0)
     ∙ filled-stop (line s) (s .loop .at) (w .word-end .result) (w .before .loop-test .taken) (w .word-end .ensures .0) (c .if2 .taken)))
-
-sub-is-part : tie.Need-sub-is-part Inv-loop μ-loop
-sub-is-part c = search needs
-
-part-is-part-start : tie.Need-part-is-part-start Inv-loop μ-loop
-part-is-part-start c = search needs
-
-part-is-part-end : tie.Need-part-is-part-end Inv-loop μ-loop
-part-is-part-end c = search needs
-
-is-part-requires : tie.Need-is-part-requires Inv-loop μ-loop
-is-part-requires c κs = search needs
-
-add-parts : tie.Need-add-parts Inv-loop μ-loop
-add-parts c = search needs
-
-add-at : tie.Need-add-at Inv-loop μ-loop
-add-at c = search needs
-
-loop-less : tie.Need-loop-less Inv-loop μ-loop
-loop-less c = search needs
 
 loop-again : tie.Need-loop-again Inv-loop μ-loop
 loop-again c =
@@ -88,9 +58,6 @@ loop-again c =
       omega (arith, w .word-end .ensures .1),
     )
 
-add-result : tie.Need-add-result Inv-loop μ-loop
-add-result c = search needs
-
 returns-3 : tie.Need-returns-3 Inv-loop μ-loop
 returns-3 c = let s = c .before in
     let d : wordsOf (drop (s .loop .at) (line s)) ≡ [] = words-done (line s) (s .loop .at) (c .loop-test .left) in
@@ -103,18 +70,18 @@ groups-spec =
     (tie.spec
     Inv-loop
     μ-loop
-    ends-blank-requires
+    (λ c κs. search needs)
     returns
-    loop-holds
-    word-end-requires
+    (λ c. search needs)
+    (λ c κs. search needs)
     returns-2
-    sub-is-part
-    part-is-part-start
-    part-is-part-end
-    is-part-requires
-    add-parts
-    add-at
-    loop-less
+    (λ c. search needs)
+    (λ c. search needs)
+    (λ c. search needs)
+    (λ c κs. search needs)
+    (λ c. search needs)
+    (λ c. search needs)
+    (λ c. search needs)
     loop-again
-    add-result
+    (λ c. search needs)
     returns-3)

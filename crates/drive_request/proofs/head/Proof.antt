@@ -8,21 +8,6 @@ use borrow.Author.Needs.{needs}
 use Rattle.drive_request.proofs.head.Statement.{statement}
 use Rattle.drive_request.proofs.head.Tie as tie
 
-part-requires : tie.Need-part-requires
-part-requires c κs = search needs
-
-before-requires : tie.Need-before-requires
-before-requires c κs = search needs
-
-sub-result : tie.Need-sub-result
-sub-result c = search needs
-
-part-result-start : tie.Need-part-result-start
-part-result-start c = search needs
-
-part-result-end : tie.Need-part-result-end
-part-result-end c = search needs
-
 returns : tie.Need-returns
 returns c =
     let t = c .before .before .before .before .args .text .now in
@@ -32,4 +17,4 @@ returns c =
 pub head-spec : {M : Type 1} → statement M
 head-spec =
     tie.close
-    (tie.spec part-requires before-requires sub-result part-result-start part-result-end returns)
+    (tie.spec (λ c κs. search needs) (λ c κs. search needs) (λ c. search needs) (λ c. search needs) (λ c. search needs) returns)

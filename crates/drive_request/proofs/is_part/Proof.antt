@@ -8,11 +8,8 @@ use Rattle.drive_request.proofs.is_part.Tie as tie
 returns : tie.Need-returns
 returns c = sym (part-other (c .before .args .word .now) (c .if1 .taken))
 
-shared-slice-read-result : tie.Need-shared-slice-read-result
-shared-slice-read-result c = search needs
-
 returns-2 : tie.Need-returns-2
 returns-2 c = sym (part-one (c .before .before .args .word .now) (c .before .if1 .left))
 
 pub is-part-spec : {M : Type 1} → statement M
-is-part-spec = tie.close (tie.spec returns shared-slice-read-result returns-2)
+is-part-spec = tie.close (tie.spec returns (λ c. search needs) returns-2)

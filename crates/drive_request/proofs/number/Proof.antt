@@ -25,9 +25,6 @@ led c = sym (c .before .before .well-led .ensures) ∙ not-false _ (c .before .i
 abbrev word : tie.At-loop Inv-loop μ-loop → List ℕ
 word s = s .before .before .before .before .args .word .now
 
-well-led-requires : tie.Need-well-led-requires Inv-loop μ-loop
-well-led-requires c κs = search needs
-
 returns : tie.Need-returns Inv-loop μ-loop
 unfolding numberOf
 returns c =
@@ -36,12 +33,6 @@ returns c =
 
 loop-holds : tie.Need-loop-holds Inv-loop μ-loop
 loop-holds c = (omega arith, omega arith, refl)
-
-shared-slice-read-digit : tie.Need-shared-slice-read-digit Inv-loop μ-loop
-shared-slice-read-digit c = search needs
-
-digit-requires : tie.Need-digit-requires Inv-loop μ-loop
-digit-requires c κs = search needs
 
 returns-2 : tie.Need-returns-2 Inv-loop μ-loop
 unfolding numberOf
@@ -59,17 +50,8 @@ fits c = let s = c .before .before .before .before in
 mul-value : tie.Need-mul-value Inv-loop μ-loop
 mul-value c = omega (arith, fits c)
 
-cast-value : tie.Need-cast-value Inv-loop μ-loop
-cast-value c = search needs
-
 add-value : tie.Need-add-value Inv-loop μ-loop
 add-value c = omega (arith, fits c)
-
-add-i : tie.Need-add-i Inv-loop μ-loop
-add-i c = search needs
-
-loop-less : tie.Need-loop-less Inv-loop μ-loop
-loop-less c = search needs
 
 loop-again : tie.Need-loop-again Inv-loop μ-loop
 loop-again c = let s = c .before .before .before .before in
@@ -92,16 +74,16 @@ number-spec =
     (tie.spec
     Inv-loop
     μ-loop
-    well-led-requires
+    (λ c κs. search needs)
     returns
     loop-holds
-    shared-slice-read-digit
-    digit-requires
+    (λ c. search needs)
+    (λ c κs. search needs)
     returns-2
     mul-value
-    cast-value
+    (λ c. search needs)
     add-value
-    add-i
-    loop-less
+    (λ c. search needs)
+    (λ c. search needs)
     loop-again
     returns-3)

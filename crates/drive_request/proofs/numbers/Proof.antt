@@ -35,27 +35,6 @@ read c = let w = c .before .before in let s = w .before .before in
 loop-holds : tie.Need-loop-holds Inv-loop μ-loop
 loop-holds c = (omega arith, storing-all _ _)
 
-word-end-requires : tie.Need-word-end-requires Inv-loop μ-loop
-word-end-requires c κs = search needs
-
-sub-number : tie.Need-sub-number Inv-loop μ-loop
-sub-number c = search needs
-
-part-number-start : tie.Need-part-number-start Inv-loop μ-loop
-part-number-start c = search needs
-
-part-number-end : tie.Need-part-number-end Inv-loop μ-loop
-part-number-end c = search needs
-
-number-requires : tie.Need-number-requires Inv-loop μ-loop
-number-requires c κs = search needs
-
-enum-known-v : tie.Need-enum-known-v Inv-loop μ-loop
-enum-known-v c = search needs
-
-enum-told : tie.Need-enum-told Inv-loop μ-loop
-enum-told c = search needs
-
 -- the word is no number
 missing : (c : tie.After-enum-told Inv-loop μ-loop) → let w = c .before .before .before .before in let s = w .before .before in
     Storing (s .before .before .before .args .pool .now) (s .loop .pool) (s .loop .n) (none ∷ rest w) (numbersOf (text s))
@@ -84,21 +63,6 @@ same-length-2 c = due (c .before) .size
 returns-2 : tie.Need-returns-2 Inv-loop μ-loop
 returns-2 c = storing-full (due (c .before)) (c .if1 .taken)
 
-mul-pool : tie.Need-mul-pool Inv-loop μ-loop
-mul-pool c = search needs
-
-slice-write-pool : tie.Need-slice-write-pool Inv-loop μ-loop
-slice-write-pool c = search needs
-
-add-n : tie.Need-add-n Inv-loop μ-loop
-add-n c = search needs
-
-add-at : tie.Need-add-at Inv-loop μ-loop
-add-at c = search needs
-
-loop-less : tie.Need-loop-less Inv-loop μ-loop
-loop-less c = search needs
-
 loop-again : tie.Need-loop-again Inv-loop μ-loop
 loop-again c = let w = word (c .before) in
     (omega (arith, w .word-end .ensures .1), storing-next (due (c .before)) (c .if1 .left))
@@ -117,22 +81,22 @@ numbers-spec =
     Inv-loop
     μ-loop
     loop-holds
-    word-end-requires
-    sub-number
-    part-number-start
-    part-number-end
-    number-requires
-    enum-known-v
-    enum-told
+    (λ c κs. search needs)
+    (λ c. search needs)
+    (λ c. search needs)
+    (λ c. search needs)
+    (λ c κs. search needs)
+    (λ c. search needs)
+    (λ c. search needs)
     same-length
     returns
     same-length-2
     returns-2
-    mul-pool
-    slice-write-pool
-    add-n
-    add-at
-    loop-less
+    (λ c. search needs)
+    (λ c. search needs)
+    (λ c. search needs)
+    (λ c. search needs)
+    (λ c. search needs)
     loop-again
     same-length-3
     returns-3)

@@ -37,9 +37,6 @@ more c = omega (arith, c .if1 .left, c .before .loop-test .taken)
 loop-holds : tie.Need-loop-holds Inv-loop μ-loop
 loop-holds c = (omega arith, storing-all _ _)
 
-sub-if1 : tie.Need-sub-if1 Inv-loop μ-loop
-sub-if1 c = search needs
-
 same-length : tie.Need-same-length Inv-loop μ-loop
 same-length c = c .before .before .loop .inv .1 .size
 
@@ -47,27 +44,12 @@ returns : tie.Need-returns Inv-loop μ-loop
 returns c = let s = c .before .before in
     storing-none (storing-as (pairs-odd (word s) (s .loop .i) (c .before .loop-test .taken) (c .if1 .taken)) (s .loop .inv .1))
 
-shared-slice-read-digit : tie.Need-shared-slice-read-digit Inv-loop μ-loop
-shared-slice-read-digit c = search needs
-
-digit-requires : tie.Need-digit-requires Inv-loop μ-loop
-digit-requires c κs = search needs
-
 same-length-2 : tie.Need-same-length-2 Inv-loop μ-loop
 same-length-2 c = two (one (c .before)) .loop .inv .1 .size
 
 returns-2 : tie.Need-returns-2 Inv-loop μ-loop
 returns-2 c = let l = one (c .before) in let s = two l in
     storing-none (storing-as (pairs-left (word s) (s .loop .i) (more l) (omega (arith, c .before .digit .ensures, c .if2 .taken))) (s .loop .inv .1))
-
-add-digit : tie.Need-add-digit Inv-loop μ-loop
-add-digit c = search needs
-
-shared-slice-read-digit-2 : tie.Need-shared-slice-read-digit-2 Inv-loop μ-loop
-shared-slice-read-digit-2 c = search needs
-
-digit-requires-2 : tie.Need-digit-requires-2 Inv-loop μ-loop
-digit-requires-2 c κs = search needs
 
 -- the first digit is one
 left : (c : tie.Else2 Inv-loop μ-loop) → let s = two (one (c .before)) in digitOf (getD (word s) (s .loop .i) 0) ≤ 15
@@ -97,24 +79,6 @@ same-length-4 c = due (c .before) .size
 returns-4 : tie.Need-returns-4 Inv-loop μ-loop
 returns-4 c = storing-full (due (c .before)) (c .if4 .taken)
 
-mul-room : tie.Need-mul-room Inv-loop μ-loop
-mul-room c = search needs
-
-add-room : tie.Need-add-room Inv-loop μ-loop
-add-room c = search needs
-
-slice-write-room : tie.Need-slice-write-room Inv-loop μ-loop
-slice-write-room c = search needs
-
-add-n : tie.Need-add-n Inv-loop μ-loop
-add-n c = search needs
-
-add-i : tie.Need-add-i Inv-loop μ-loop
-add-i c = search needs
-
-loop-less : tie.Need-loop-less Inv-loop μ-loop
-loop-less c = search needs
-
 loop-again : tie.Need-loop-again Inv-loop μ-loop
 loop-again c = (omega (arith, more (one (next (c .before .before) .before))), storing-next (due (c .before)) (c .if4 .left))
 
@@ -131,26 +95,26 @@ pairs-spec =
     Inv-loop
     μ-loop
     loop-holds
-    sub-if1
+    (λ c. search needs)
     same-length
     returns
-    shared-slice-read-digit
-    digit-requires
+    (λ c. search needs)
+    (λ c κs. search needs)
     same-length-2
     returns-2
-    add-digit
-    shared-slice-read-digit-2
-    digit-requires-2
+    (λ c. search needs)
+    (λ c. search needs)
+    (λ c κs. search needs)
     same-length-3
     returns-3
     same-length-4
     returns-4
-    mul-room
-    add-room
-    slice-write-room
-    add-n
-    add-i
-    loop-less
+    (λ c. search needs)
+    (λ c. search needs)
+    (λ c. search needs)
+    (λ c. search needs)
+    (λ c. search needs)
+    (λ c. search needs)
     loop-again
     same-length-5
     returns-5)

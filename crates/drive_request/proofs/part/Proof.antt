@@ -19,24 +19,6 @@ abbrev μ-loop : tie.MeasureT-loop
 abbrev text : tie.At-loop Inv-loop μ-loop → List ℕ
 text s = s .before .before .args .text .now
 
-loop-holds : tie.Need-loop-holds Inv-loop μ-loop
-loop-holds c = search needs
-
-word-end-requires : tie.Need-word-end-requires Inv-loop μ-loop
-word-end-requires c κs = search needs
-
-sub-is-part : tie.Need-sub-is-part Inv-loop μ-loop
-sub-is-part c = search needs
-
-part-is-part-start : tie.Need-part-is-part-start Inv-loop μ-loop
-part-is-part-start c = search needs
-
-part-is-part-end : tie.Need-part-is-part-end Inv-loop μ-loop
-part-is-part-end c = search needs
-
-is-part-requires : tie.Need-is-part-requires Inv-loop μ-loop
-is-part-requires c κs = search needs
-
 returns : tie.Need-returns Inv-loop μ-loop
 returns c = let w = c .before .before .before in
     let s = w .before .before in (
@@ -45,12 +27,6 @@ returns c = let w = c .before .before .before in
           ∙ s .loop .inv .0,
       s .loop .inv .1,
     )
-
-add-at : tie.Need-add-at Inv-loop μ-loop
-add-at c = search needs
-
-loop-less : tie.Need-loop-less Inv-loop μ-loop
-loop-less c = search needs
 
 loop-again : tie.Need-loop-again Inv-loop μ-loop
 loop-again c = let w = c .before .before .before in
@@ -70,14 +46,14 @@ part-spec =
     (tie.spec
     Inv-loop
     μ-loop
-    loop-holds
-    word-end-requires
-    sub-is-part
-    part-is-part-start
-    part-is-part-end
-    is-part-requires
+    (λ c. search needs)
+    (λ c κs. search needs)
+    (λ c. search needs)
+    (λ c. search needs)
+    (λ c. search needs)
+    (λ c κs. search needs)
     returns
-    add-at
-    loop-less
+    (λ c. search needs)
+    (λ c. search needs)
     loop-again
     returns-2)

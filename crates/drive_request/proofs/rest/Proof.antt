@@ -8,15 +8,6 @@ use borrow.Author.Needs.{needs}
 use Rattle.drive_request.proofs.rest.Statement.{statement}
 use Rattle.drive_request.proofs.rest.Tie as tie
 
-word-end-requires : tie.Need-word-end-requires
-word-end-requires c κs = search needs
-
-add-from : tie.Need-add-from
-add-from c = search needs
-
-from-requires : tie.Need-from-requires
-from-requires c κs = search needs
-
 returns : tie.Need-returns
 returns c =
     let t = c .before .before .before .args .text .now in
@@ -24,4 +15,4 @@ returns c =
     c .from .ensures ∙ ap (λ k. drop (k + 1) t) e
 
 pub rest-spec : {M : Type 1} → statement M
-rest-spec = tie.close (tie.spec word-end-requires add-from from-requires returns)
+rest-spec = tie.close (tie.spec (λ c κs. search needs) (λ c. search needs) (λ c κs. search needs) returns)

@@ -6,17 +6,8 @@ use borrow.Author.Needs.{needs}
 use Rattle.drive_request.proofs.tail.Statement.{statement}
 use Rattle.drive_request.proofs.tail.Tie as tie
 
-part-requires : tie.Need-part-requires
-part-requires c κs = search needs
-
-add-from : tie.Need-add-from
-add-from c = search needs
-
-from-requires : tie.Need-from-requires
-from-requires c κs = search needs
-
 returns : tie.Need-returns
 returns c = c .from .ensures ∙ ap (λ k. drop (k + 2) (c .before .before .before .args .text .now)) (c .before .part .ensures .0)
 
 pub tail-spec : {M : Type 1} → statement M
-tail-spec = tie.close (tie.spec part-requires add-from from-requires returns)
+tail-spec = tie.close (tie.spec (λ c κs. search needs) (λ c. search needs) (λ c κs. search needs) returns)

@@ -11,9 +11,6 @@ returns c = sym (led-none _ (c .if1 .taken))
 returns-2 : tie.Need-returns-2
 returns-2 c = sym (led-one _ (c .before .if1 .left) (c .if2 .taken))
 
-shared-slice-read-if3 : tie.Need-shared-slice-read-if3
-shared-slice-read-if3 c = search needs
-
 returns-3 : tie.Need-returns-3
 returns-3 c = sym (led-zero (c .before .before .before .before .args .word .now) (c .before .before .if2 .left) (c .if3 .taken))
 
@@ -21,4 +18,4 @@ returns-4 : tie.Need-returns-4
 returns-4 c = sym (led-more (c .before .before .before .before .args .word .now) (c .before .before .if2 .left) (c .if3 .left))
 
 pub well-led-spec : {M : Type 1} → statement M
-well-led-spec = tie.close (tie.spec returns returns-2 shared-slice-read-if3 returns-3 returns-4)
+well-led-spec = tie.close (tie.spec returns returns-2 (λ c. search needs) returns-3 returns-4)

@@ -5,12 +5,9 @@ use borrow.Author.Needs.{needs}
 use Rattle.drive_request.proofs.word_end.Statement.{statement}
 use Rattle.drive_request.proofs.word_end.Tie as tie
 
-find-requires : tie.Need-find-requires
-find-requires c κs = search needs
-
 returns : tie.Need-returns
 unfolding slice
 returns c = (rw take-length at (c .find .ensures .0), c .find .ensures .1)
 
 pub word-end-spec : {M : Type 1} → statement M
-word-end-spec = tie.close (tie.spec find-requires returns)
+word-end-spec = tie.close (tie.spec (λ c κs. search needs) returns)

@@ -10,22 +10,10 @@ returns c = λ t g h. rw (cube-early g h _ (c .if1 .taken))
 returns-2 : tie.Need-returns-2
 returns-2 c = λ t g h. rw (cube-early-too g h _ (c .if2 .taken))
 
-cube-line-requires : tie.Need-cube-line-requires
-cube-line-requires c κs = search needs
-
-enum-known-cube : tie.Need-enum-known-cube
-enum-known-cube c = search needs
-
-enum-told : tie.Need-enum-told
-enum-told c = search needs
-
 returns-3 : tie.Need-returns-3
 returns-3 c =
     let l = c .before .before in
     λ t g h. rw (cube-other g h _ (l .before .before .before .if1 .left) (l .before .if2 .left) (l .cube-line .ensures) (c .enum-told .given .1))
-
-sub-if3 : tie.Need-sub-if3
-sub-if3 c = search needs
 
 returns-4 : tie.Need-returns-4
 returns-4 c =
@@ -35,15 +23,6 @@ returns-4 c =
     let o = l .before .if2 .left in
     λ t g h. let b = cube-behind g h _ i o (l .cube-line .ensures) _ _ _ (k .cube .given .1) in
     rw (cube-over g h _ i o b (c .if3 .taken))
-
-keep-line-requires : tie.Need-keep-line-requires
-keep-line-requires c κs = search needs
-
-same-length : tie.Need-same-length
-same-length c = search needs
-
-same-length-2 : tie.Need-same-length-2
-same-length-2 c = search needs
 
 returns-5 : tie.Need-returns-5
 returns-5 c =
@@ -63,13 +42,13 @@ add-line-spec =
     (tie.spec
     returns
     returns-2
-    cube-line-requires
-    enum-known-cube
-    enum-told
+    (λ c κs. search needs)
+    (λ c. search needs)
+    (λ c. search needs)
     returns-3
-    sub-if3
+    (λ c. search needs)
     returns-4
-    keep-line-requires
-    same-length
-    same-length-2
+    (λ c κs. search needs)
+    (λ c. search needs)
+    (λ c. search needs)
     returns-5)

@@ -32,9 +32,6 @@ loop-holds : tie.Need-loop-holds Inv-loop μ-loop
 unfolding from
 loop-holds c = (omega arith, length-replicate {A = ℕ} wordSlots 0, laid-none)
 
-slice-aggregate-fill-output : tie.Need-slice-aggregate-fill-output Inv-loop μ-loop
-slice-aggregate-fill-output c = search needs
-
 fill-output-requires : tie.Need-fill-output-requires Inv-loop μ-loop
 fill-output-requires c κs =
     let h = c .before .before in
@@ -42,18 +39,6 @@ fill-output-requires c κs =
 
 sub-counts : tie.Need-sub-counts Inv-loop μ-loop
 sub-counts c = omega (arith, c .before .fill-output .ensures .next)
-
-mul-counts : tie.Need-mul-counts Inv-loop μ-loop
-mul-counts c = search needs
-
-array-write-counts : tie.Need-array-write-counts Inv-loop μ-loop
-array-write-counts c = search needs
-
-add-j : tie.Need-add-j Inv-loop μ-loop
-add-j c = search needs
-
-loop-less : tie.Need-loop-less Inv-loop μ-loop
-loop-less c = search needs
 
 loop-again : tie.Need-loop-again Inv-loop μ-loop
 loop-again c =
@@ -71,12 +56,12 @@ build-spec =
     Inv-loop
     μ-loop
     loop-holds
-    slice-aggregate-fill-output
+    (λ c. search needs)
     fill-output-requires
     sub-counts
-    mul-counts
-    array-write-counts
-    add-j
-    loop-less
+    (λ c. search needs)
+    (λ c. search needs)
+    (λ c. search needs)
+    (λ c. search needs)
     loop-again
     returns)

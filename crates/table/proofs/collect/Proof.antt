@@ -28,21 +28,6 @@ turn m = m .before .before .before
 loop-holds : tie.Need-loop-holds Inv-loop μ-loop
 loop-holds c = (omega arith, pick-none _ (c .before .before .before .pre .source) _ _, refl)
 
-mul-is-marked : tie.Need-mul-is-marked Inv-loop μ-loop
-mul-is-marked c = search needs
-
-shared-slice-read-is-marked : tie.Need-shared-slice-read-is-marked Inv-loop μ-loop
-shared-slice-read-is-marked c = search needs
-
-is-marked-requires : tie.Need-is-marked-requires Inv-loop μ-loop
-is-marked-requires c κs = search needs
-
-cube-at-requires : tie.Need-cube-at-requires Inv-loop μ-loop
-cube-at-requires c κs = search needs
-
-put-cube-requires : tie.Need-put-cube-requires Inv-loop μ-loop
-put-cube-requires c κs = search needs
-
 add-to : tie.Need-add-to Inv-loop μ-loop
 add-to c =
     let w = c .before .before .before .before .before in
@@ -51,12 +36,6 @@ add-to c =
     let s = start h in
     let r = pick-room _ (s .pre .source) (h .loop .i) (omega arith) (h .loop .inv .1) (sym (m .is-marked .ensures) ∙ w .if1 .taken) (s .pre .fits) in
     record { fits = omega (arith, spare-length (s .args .out .now)) }
-
-add-i : tie.Need-add-i Inv-loop μ-loop
-add-i c = search needs
-
-loop-less : tie.Need-loop-less Inv-loop μ-loop
-loop-less c = search needs
 
 loop-again : tie.Need-loop-again Inv-loop μ-loop
 loop-again c =
@@ -77,9 +56,6 @@ loop-again c =
       )
     ]
 
-same-length : tie.Need-same-length Inv-loop μ-loop
-same-length c = search needs
-
 returns : tie.Need-returns Inv-loop μ-loop
 returns c =
     let h = c .before in
@@ -94,14 +70,14 @@ collect-spec =
     Inv-loop
     μ-loop
     loop-holds
-    mul-is-marked
-    shared-slice-read-is-marked
-    is-marked-requires
-    cube-at-requires
-    put-cube-requires
+    (λ c. search needs)
+    (λ c. search needs)
+    (λ c κs. search needs)
+    (λ c κs. search needs)
+    (λ c κs. search needs)
     add-to
-    add-i
-    loop-less
+    (λ c. search needs)
+    (λ c. search needs)
     loop-again
-    same-length
+    (λ c. search needs)
     returns)

@@ -20,12 +20,6 @@ absorbed t = t .before .before .before .before
 abbrev sorted : tie.After-clear → tie.After-sort-part
 sorted d = d .before .before .before .before
 
-collect-requires : tie.Need-collect-requires
-collect-requires c κs = search needs
-
-absorb-part-requires : tie.Need-absorb-part-requires
-absorb-part-requires c κs = search needs
-
 -- no more cubes are left than were put
 few : (b : tie.After-absorb-part) → start (collected b) .args .at + b .absorb-part .result ≤ collected b .collect .result
 few b = let o = collected b in kept-few (start o .pre) (o .collect .ensures) (b .absorb-part .ensures .0) (b .absorb-part .ensures .1)
@@ -36,15 +30,6 @@ add-to c =
     let o = collected b in
     let s = start o in
     record { fits = omega (arith, few b, end-inside (s .pre) (o .collect .ensures), spare-length (s .args .out .now)) }
-
-sort-part-requires : tie.Need-sort-part-requires
-sort-part-requires c κs = search needs
-
-clear-requires : tie.Need-clear-requires
-clear-requires c κs = search needs
-
-same-length : tie.Need-same-length
-same-length c = search needs
 
 returns : tie.Need-returns
 returns c =
@@ -58,10 +43,10 @@ pub fill-output-spec : {M : Type 1} → statement M
 fill-output-spec =
     tie.close
     (tie.spec
-    collect-requires
-    absorb-part-requires
+    (λ c κs. search needs)
+    (λ c κs. search needs)
     add-to
-    sort-part-requires
-    clear-requires
-    same-length
+    (λ c κs. search needs)
+    (λ c κs. search needs)
+    (λ c. search needs)
     returns)

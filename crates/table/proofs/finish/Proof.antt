@@ -32,9 +32,6 @@ returns-3 c =
       agrees-unstated g h (c .if3 .taken),
     ) h
 
-sub-if4 : tie.Need-sub-if4
-sub-if4 c = search needs
-
 returns-4 : tie.Need-returns-4
 unfolding finish
 returns-4 c =
@@ -57,4 +54,4 @@ returns-5 c =
     ) h
 
 pub finish-spec : {M : Type 1} → statement M
-finish-spec = tie.close (tie.spec returns returns-2 returns-3 sub-if4 returns-4 returns-5)
+finish-spec = tie.close (tie.spec returns returns-2 returns-3 (λ c. search needs) returns-4 returns-5)

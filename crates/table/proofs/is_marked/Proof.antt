@@ -4,11 +4,8 @@ use borrow.Author.Needs.{needs}
 use Rattle.table.proofs.is_marked.Statement.{statement}
 use Rattle.table.proofs.is_marked.Tie as tie
 
-shr-result : tie.Need-shr-result
-shr-result c = search needs
-
 returns : tie.Need-returns
 returns c = bit-test _ _
 
 pub is-marked-spec : {M : Type 1} → statement M
-is-marked-spec = tie.close (tie.spec shr-result returns)
+is-marked-spec = tie.close (tie.spec (λ c. search needs) returns)

@@ -12,29 +12,11 @@ use borrow.Author.Needs.{needs}
 use Rattle.table.proofs.read.Statement.{statement}
 use Rattle.table.proofs.read.Tie as tie
 
-refused-requires : tie.Need-refused-requires
-refused-requires c κs = search needs
-
 returns : tie.Need-returns
 returns c = subst (λ (o : Outcome). Told o (c .refused .result)) (sym (text-long _ (c .before .if1 .taken))) (c .refused .ensures)
 
-slice-aggregate-scan : tie.Need-slice-aggregate-scan
-slice-aggregate-scan c = search needs
-
-slice-aggregate-scan-2 : tie.Need-slice-aggregate-scan-2
-slice-aggregate-scan-2 c = search needs
-
 scan-requires : tie.Need-scan-requires
 scan-requires c κs = record { short = search needs; places = room-cubes _ mostRows (search needs); masks = search needs }
-
-enum-told : tie.Need-enum-told
-enum-told c = search needs
-
-enum-told-2 : tie.Need-enum-told-2
-enum-told-2 c = search needs
-
-refused-requires-2 : tie.Need-refused-requires-2
-refused-requires-2 c κs = search needs
 
 -- the states of the walk: what was scanned, and that it was read
 abbrev start : tie.After-scan → tie.Start
@@ -51,12 +33,6 @@ returns-2 c =
     let n = c .before .before .before .before .before in
     text-refused _ _ (start n .args .text .now) (n .before .before .before .if1 .left) (n .scan .result) (n .scan .ensures) (c .refused2 .result) _
     (c .before .enum-told2 .given .1) (c .refused2 .ensures)
-
-slice-aggregate-build : tie.Need-slice-aggregate-build
-slice-aggregate-build c = search needs
-
-slice-aggregate-build-2 : tie.Need-slice-aggregate-build-2
-slice-aggregate-build-2 c = search needs
 
 -- what was read, of which the outcome is made
 read-in : (q : tie.After-enum-told) → let n = scanned q in (t : State) × (readText (start n .args .text .now) ≡ accepted t)
@@ -82,16 +58,16 @@ pub read-spec : {M : Type 1} → statement M
 read-spec =
     tie.close
     (tie.spec
-    refused-requires
+    (λ c κs. search needs)
     returns
-    slice-aggregate-scan
-    slice-aggregate-scan-2
+    (λ c. search needs)
+    (λ c. search needs)
     scan-requires
-    enum-told
-    enum-told-2
-    refused-requires-2
+    (λ c. search needs)
+    (λ c. search needs)
+    (λ c κs. search needs)
     returns-2
-    slice-aggregate-build
-    slice-aggregate-build-2
+    (λ c. search needs)
+    (λ c. search needs)
     build-requires
     returns-3)

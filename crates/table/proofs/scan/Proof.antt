@@ -51,9 +51,6 @@ gone c = c .before .before .before .before .before .before .before
 loop-holds : tie.Need-loop-holds Inv-loop μ-loop
 loop-holds c = (omega arith, omega arith, refl, refl, reading-first _ _ _)
 
-line-end-requires : tie.Need-line-end-requires Inv-loop μ-loop
-line-end-requires c κs = search needs
-
 -- a line ends no sooner than it begins, and within the text
 ends : (c : tie.After-line-end Inv-loop μ-loop)
     → (turn c .loop .at ≤ c .line-end .result) × (c .line-end .result ≤ length (start (turn c) .args .text .now))
@@ -64,14 +61,8 @@ ends c =
 sub-content-of : tie.Need-sub-content-of Inv-loop μ-loop
 sub-content-of c = let e = ends c in omega arith
 
-part-content-of-start : tie.Need-part-content-of-start Inv-loop μ-loop
-part-content-of-start c = search needs
-
 part-content-of-end : tie.Need-part-content-of-end Inv-loop μ-loop
 part-content-of-end c = ends c .1
-
-content-of-requires : tie.Need-content-of-requires Inv-loop μ-loop
-content-of-requires c κs = search needs
 
 -- what is left of a line stands within the text
 module _ (c : tie.After-content-of Inv-loop μ-loop) where
@@ -114,18 +105,6 @@ take-line-requires c κs =
     reading-roomy (h .loop .inv .4) (omega (arith, s .pre .short, e .before .loop-test .taken))
     (same-room (h .loop .words) (s .args .words .now) (h .loop .inv .2) ∙ s .pre .places) (h .loop .inv .3 ∙ s .pre .masks)
 
-enum-known-turn : tie.Need-enum-known-turn Inv-loop μ-loop
-enum-known-turn c = search needs
-
-stopped-requires : tie.Need-stopped-requires Inv-loop μ-loop
-stopped-requires c κs = search needs
-
-same-length : tie.Need-same-length Inv-loop μ-loop
-same-length c = search needs
-
-same-length-2 : tie.Need-same-length-2 Inv-loop μ-loop
-same-length-2 c = search needs
-
 -- a line that is not the first variant does not go on
 not-next : (p : Turn) → (tagOf the-type p ≡ 1) ⊎ (tagOf the-type p ≡ 2) → (s : State) → p ≡ Next s → ⊥
 not-next p (inl k) s i = omega (arith, ap (tagOf the-type) i)
@@ -166,12 +145,6 @@ loop-again c =
           (c .before .turn .given .1),
     )
 
-same-length-3 : tie.Need-same-length-3 Inv-loop μ-loop
-same-length-3 c = search needs
-
-same-length-4 : tie.Need-same-length-4 Inv-loop μ-loop
-same-length-4 c = search needs
-
 returns-2 : tie.Need-returns-2 Inv-loop μ-loop
 returns-2 c = reading-over (c .before .loop .inv .4) (c .loop-test .left)
 
@@ -182,26 +155,26 @@ scan-spec =
     Inv-loop
     μ-loop
     loop-holds
-    line-end-requires
+    (λ c κs. search needs)
     sub-content-of
-    part-content-of-start
+    (λ c. search needs)
     part-content-of-end
-    content-of-requires
+    (λ c κs. search needs)
     add-from
     add-to
     sub-take-line
     part-take-line-start
     part-take-line-end
     take-line-requires
-    enum-known-turn
-    stopped-requires
-    same-length
-    same-length-2
+    (λ c. search needs)
+    (λ c κs. search needs)
+    (λ c. search needs)
+    (λ c. search needs)
     returns
     add-at
     add-line
     loop-less
     loop-again
-    same-length-3
-    same-length-4
+    (λ c. search needs)
+    (λ c. search needs)
     returns-2)

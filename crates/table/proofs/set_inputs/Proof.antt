@@ -6,9 +6,6 @@ use borrow.Author.Needs.{needs}
 use Rattle.table.proofs.set_inputs.Statement.{statement}
 use Rattle.table.proofs.set_inputs.Tie as tie
 
-number-line-requires : tie.Need-number-line-requires
-number-line-requires c κs = search needs
-
 returns : tie.Need-returns
 unfolding setWide
 returns c =
@@ -16,4 +13,4 @@ returns c =
     (record { wide = refl; tall = h .tall; stated = h .stated; lines = h .lines; rows = h .rows; kept = h .kept; cubes = h .cubes; masks = h .masks })
 
 pub set-inputs-spec : {M : Type 1} → statement M
-set-inputs-spec = tie.close (tie.spec number-line-requires returns)
+set-inputs-spec = tie.close (tie.spec (λ c κs. search needs) returns)

@@ -6,9 +6,6 @@ use borrow.Author.Needs.{needs}
 use Rattle.table.proofs.set_outputs.Statement.{statement}
 use Rattle.table.proofs.set_outputs.Tie as tie
 
-number-line-requires : tie.Need-number-line-requires
-number-line-requires c κs = search needs
-
 returns : tie.Need-returns
 unfolding setTall
 returns c =
@@ -16,4 +13,4 @@ returns c =
     (record { wide = h .wide; tall = refl; stated = h .stated; lines = h .lines; rows = h .rows; kept = h .kept; cubes = h .cubes; masks = h .masks })
 
 pub set-outputs-spec : {M : Type 1} → statement M
-set-outputs-spec = tie.close (tie.spec number-line-requires returns)
+set-outputs-spec = tie.close (tie.spec (λ c κs. search needs) returns)

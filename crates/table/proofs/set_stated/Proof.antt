@@ -7,12 +7,6 @@ use borrow.Author.Needs.{needs}
 use Rattle.table.proofs.set_stated.Statement.{statement}
 use Rattle.table.proofs.set_stated.Tie as tie
 
-add-t : tie.Need-add-t
-add-t c = search needs
-
-number-line-requires : tie.Need-number-line-requires
-number-line-requires c κs = search needs
-
 returns : tie.Need-returns
 unfolding setStated
 returns c =
@@ -20,4 +14,4 @@ returns c =
     (record { wide = h .wide; tall = h .tall; stated = refl; lines = h .lines; rows = h .rows; kept = h .kept; cubes = h .cubes; masks = h .masks }))
 
 pub set-stated-spec : {M : Type 1} → statement M
-set-stated-spec = tie.close (tie.spec add-t number-line-requires returns)
+set-stated-spec = tie.close (tie.spec (λ c. search needs) (λ c κs. search needs) returns)

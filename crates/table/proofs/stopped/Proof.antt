@@ -6,15 +6,6 @@ use borrow.Author.Needs.{needs}
 use Rattle.table.proofs.stopped.Statement.{statement}
 use Rattle.table.proofs.stopped.Tie as tie
 
-enum-known-turn : tie.Need-enum-known-turn
-enum-known-turn c = search needs
-
-enum-known-turn-2 : tie.Need-enum-known-turn-2
-enum-known-turn-2 c = search needs
-
-enum-known-turn-3 : tie.Need-enum-known-turn-3
-enum-known-turn-3 c = search needs
-
 returns : tie.Need-returns
 returns c = let a = c .before .before .before .args in sym (ap (λ (p : Turn). stoppedAt p (a .line) (a .s)) (c .before .turn .given .1))
 
@@ -27,4 +18,4 @@ returns-3 c = let a = c .before .before .before .args in sym (ap (λ (p : Turn).
 pub stopped-spec : {M : Type 1} → statement M
 stopped-spec =
     tie.close
-    (tie.spec enum-known-turn enum-known-turn-2 enum-known-turn-3 returns returns-2 returns-3)
+    (tie.spec (λ c. search needs) (λ c. search needs) (λ c. search needs) returns returns-2 returns-3)

@@ -4,42 +4,6 @@ use borrow.Author.Needs.{needs}
 use Rattle.table.proofs.take_line.Statement.{statement}
 use Rattle.table.proofs.take_line.Tie as tie
 
-kind-of-requires : tie.Need-kind-of-requires
-kind-of-requires c κs = search needs
-
-enum-told : tie.Need-enum-told
-enum-told c = search needs
-
-enum-known-kind : tie.Need-enum-known-kind
-enum-known-kind c = search needs
-
-set-inputs-requires : tie.Need-set-inputs-requires
-set-inputs-requires c κs = search needs
-
-enum-known-kind-2 : tie.Need-enum-known-kind-2
-enum-known-kind-2 c = search needs
-
-set-outputs-requires : tie.Need-set-outputs-requires
-set-outputs-requires c κs = search needs
-
-enum-known-kind-3 : tie.Need-enum-known-kind-3
-enum-known-kind-3 c = search needs
-
-set-stated-requires : tie.Need-set-stated-requires
-set-stated-requires c κs = search needs
-
-enum-told-2 : tie.Need-enum-told-2
-enum-told-2 c = search needs
-
-finish-requires : tie.Need-finish-requires
-finish-requires c κs = search needs
-
-enum-told-3 : tie.Need-enum-told-3
-enum-told-3 c = search needs
-
-add-line-requires : tie.Need-add-line-requires
-add-line-requires c κs = search needs
-
 returns : tie.Need-returns
 returns c = λ t g h. rw (sym (c .before .before .kind-of .ensures) ∙ c .enum-told .given .1) (h)
 
@@ -55,12 +19,6 @@ returns-4 c = λ t g h. rw (sym (c .before .before .before .before .kind-of .ens
 returns-5 : tie.Need-returns-5
 returns-5 c = λ t g h. rw (sym (c .before .before .before .kind-of .ensures) ∙ c .before .enum-told2 .given .1) (c .finish .ensures t _ _ g h)
 
-same-length : tie.Need-same-length
-same-length c = search needs
-
-same-length-2 : tie.Need-same-length-2
-same-length-2 c = search needs
-
 returns-6 : tie.Need-returns-6
 returns-6 c =
     let d = c .before .before .before .before in
@@ -71,23 +29,23 @@ pub take-line-spec : {M : Type 1} → statement M
 take-line-spec =
     tie.close
     (tie.spec
-    kind-of-requires
-    enum-told
-    enum-known-kind
-    set-inputs-requires
-    enum-known-kind-2
-    set-outputs-requires
-    enum-known-kind-3
-    set-stated-requires
-    enum-told-2
-    finish-requires
-    enum-told-3
-    add-line-requires
+    (λ c κs. search needs)
+    (λ c. search needs)
+    (λ c. search needs)
+    (λ c κs. search needs)
+    (λ c. search needs)
+    (λ c κs. search needs)
+    (λ c. search needs)
+    (λ c κs. search needs)
+    (λ c. search needs)
+    (λ c κs. search needs)
+    (λ c. search needs)
+    (λ c κs. search needs)
     returns
     returns-2
     returns-3
     returns-4
     returns-5
-    same-length
-    same-length-2
+    (λ c. search needs)
+    (λ c. search needs)
     returns-6)

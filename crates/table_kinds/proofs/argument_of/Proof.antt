@@ -7,15 +7,9 @@ use borrow.Author.Needs.{needs}
 use Rattle.table_kinds.proofs.argument_of.Statement.{statement}
 use Rattle.table_kinds.proofs.argument_of.Tie as tie
 
-trim-front-requires : tie.Need-trim-front-requires
-trim-front-requires c κs = search needs
-
 returns : tie.Need-returns
 returns c = let d = c .before in
     argument-solid (d .before .before .args .t .now) (ap length (sym (d .trim-front .ensures)) ∙ c .if1 .taken)
-
-decimal-of-requires : tie.Need-decimal-of-requires
-decimal-of-requires c κs = search needs
 
 returns-2 : tie.Need-returns-2
 returns-2 c = let d = c .before .before in
@@ -23,4 +17,4 @@ returns-2 c = let d = c .before .before in
     ∙ argument-read (d .before .before .args .t .now) (λ e. c .before .if1 .left (ap length (d .trim-front .ensures) ∙ e))
 
 pub argument-of-spec : {M : Type 1} → statement M
-argument-of-spec = tie.close (tie.spec trim-front-requires returns decimal-of-requires returns-2)
+argument-of-spec = tie.close (tie.spec (λ c κs. search needs) returns (λ c κs. search needs) returns-2)

@@ -30,9 +30,6 @@ loop-holds : tie.Need-loop-holds Inv-loop μ-loop
 loop-holds c = let t = c .before .before .before .args .t .now in
     (omega arith, omega arith, ltb-false 5 (length t) (c .if2 .left), omega arith, refl, refl)
 
-shared-slice-read-b : tie.Need-shared-slice-read-b Inv-loop μ-loop
-shared-slice-read-b c = search needs
-
 returns-2 : tie.Need-returns-2 Inv-loop μ-loop
 returns-2 c = let h = c .before .before .before in
     let t = h .before .before .before .before .args .t .now in
@@ -47,20 +44,11 @@ mul-n : tie.Need-mul-n Inv-loop μ-loop
 mul-n c = let h = c .before .before .before .before in
     record { fits = omega (arith, digits-few (h .loop .i) (h .loop .n) (omega arith) (h .loop .inv .3)) }
 
-digit-requires : tie.Need-digit-requires Inv-loop μ-loop
-digit-requires c κs = search needs
-
 add-n : tie.Need-add-n Inv-loop μ-loop
 add-n c = let h = c .before .before .before .before .before in
     let t = h .before .before .before .before .args .t .now in
     let d = ltb-false 57 (getD t (h .loop .i) 0) (c .before .if4 .left) in
     record { fits = omega (arith, digits-few (h .loop .i) (h .loop .n) (omega arith) (h .loop .inv .3), c .digit .ensures) }
-
-add-i : tie.Need-add-i Inv-loop μ-loop
-add-i c = search needs
-
-loop-less : tie.Need-loop-less Inv-loop μ-loop
-loop-less c = search needs
 
 loop-again : tie.Need-loop-again Inv-loop μ-loop
 loop-again c = let h = c .before .before .before .before .before in
@@ -95,12 +83,12 @@ decimal-of-spec =
     μ-loop
     returns
     loop-holds
-    shared-slice-read-b
+    (λ c. search needs)
     returns-2
     mul-n
-    digit-requires
+    (λ c κs. search needs)
     add-n
-    add-i
-    loop-less
+    (λ c. search needs)
+    (λ c. search needs)
     loop-again
     returns-3)

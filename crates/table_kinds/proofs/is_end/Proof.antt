@@ -5,20 +5,8 @@ use borrow.Author.Needs.{needs}
 use Rattle.table_kinds.proofs.is_end.Statement.{statement}
 use Rattle.table_kinds.proofs.is_end.Tie as tie
 
-slice-aggregate-equal : tie.Need-slice-aggregate-equal
-slice-aggregate-equal c = search needs
-
-equal-requires : tie.Need-equal-requires
-equal-requires c κs = search needs
-
 returns : tie.Need-returns
 returns c = ends-short (c .before .before .before .before .args .c .now) (sym (c .before .equal .ensures) ∙ c .if1 .taken)
-
-slice-aggregate-equal-2 : tie.Need-slice-aggregate-equal-2
-slice-aggregate-equal-2 c = search needs
-
-equal-requires-2 : tie.Need-equal-requires-2
-equal-requires-2 c κs = search needs
 
 returns-2 : tie.Need-returns-2
 returns-2 c = let d = c .before .before in
@@ -28,9 +16,9 @@ pub is-end-spec : {M : Type 1} → statement M
 is-end-spec =
     tie.close
     (tie.spec
-    slice-aggregate-equal
-    equal-requires
+    (λ c. search needs)
+    (λ c κs. search needs)
     returns
-    slice-aggregate-equal-2
-    equal-requires-2
+    (λ c. search needs)
+    (λ c κs. search needs)
     returns-2)

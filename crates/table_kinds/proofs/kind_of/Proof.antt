@@ -8,19 +8,13 @@ use Rattle.table_kinds.proofs.kind_of.Tie as tie
 returns : tie.Need-returns
 returns c = kind-empty (c .before .before .args .c .now) (c .if1 .taken)
 
-is-end-requires : tie.Need-is-end-requires
-is-end-requires c κs = search needs
-
 returns-2 : tie.Need-returns-2
 returns-2 c = let d = c .before .before in
     kind-end (d .before .before .args .c .now) (d .if1 .left) (sym (c .before .is-end .ensures) ∙ c .if2 .taken)
-
-named-of-requires : tie.Need-named-of-requires
-named-of-requires c κs = search needs
 
 returns-3 : tie.Need-returns-3
 returns-3 c = let d = c .before .before .before in
     c .named-of .ensures ∙ kind-named (d .before .before .args .c .now) (d .if1 .left) (sym (c .before .before .is-end .ensures) ∙ c .before .if2 .left)
 
 pub kind-of-spec : {M : Type 1} → statement M
-kind-of-spec = tie.close (tie.spec returns is-end-requires returns-2 named-of-requires returns-3)
+kind-of-spec = tie.close (tie.spec returns (λ c κs. search needs) returns-2 (λ c κs. search needs) returns-3)

@@ -8,12 +8,6 @@ use borrow.Author.Needs.{needs}
 use Rattle.table_kinds.proofs.lettered.Statement.{statement}
 use Rattle.table_kinds.proofs.lettered.Tie as tie
 
-enum-known-a : tie.Need-enum-known-a
-enum-known-a c = search needs
-
-enum-told : tie.Need-enum-told
-enum-told c = search needs
-
 returns : tie.Need-returns
 returns c = let a = c .before .before .args in
     lettered-none (a .b) ∙ ap (λ k. lettered (a .b) (numberIn k)) (sym (c .enum-told .given .1))
@@ -45,8 +39,8 @@ pub lettered-spec : {M : Type 1} → statement M
 lettered-spec =
     tie.close
     (tie.spec
-    enum-known-a
-    enum-told
+    (λ c. search needs)
+    (λ c. search needs)
     returns
     returns-2
     returns-3

@@ -12,29 +12,8 @@ use Rattle.table_kinds.proofs.named_of.Tie as tie
 returns : tie.Need-returns
 returns c = named-short (c .before .before .args .c .now) (c .if1 .taken)
 
-shared-slice-read-if2 : tie.Need-shared-slice-read-if2
-shared-slice-read-if2 c = search needs
-
 returns-2 : tie.Need-returns-2
 returns-2 c = named-plain (c .before .before .before .before .args .c .now) (c .if2 .taken)
-
-shared-slice-read-lettered : tie.Need-shared-slice-read-lettered
-shared-slice-read-lettered c = search needs
-
-sub-argument-of : tie.Need-sub-argument-of
-sub-argument-of c = search needs
-
-part-argument-of-start : tie.Need-part-argument-of-start
-part-argument-of-start c = search needs
-
-part-argument-of-end : tie.Need-part-argument-of-end
-part-argument-of-end c = search needs
-
-argument-of-requires : tie.Need-argument-of-requires
-argument-of-requires c κs = search needs
-
-lettered-requires : tie.Need-lettered-requires
-lettered-requires c κs = search needs
 
 returns-3 : tie.Need-returns-3
 returns-3 c = let d = c .before .before .before .before in
@@ -47,12 +26,12 @@ named-of-spec =
     tie.close
     (tie.spec
     returns
-    shared-slice-read-if2
+    (λ c. search needs)
     returns-2
-    shared-slice-read-lettered
-    sub-argument-of
-    part-argument-of-start
-    part-argument-of-end
-    argument-of-requires
-    lettered-requires
+    (λ c. search needs)
+    (λ c. search needs)
+    (λ c. search needs)
+    (λ c. search needs)
+    (λ c κs. search needs)
+    (λ c κs. search needs)
     returns-3)

@@ -7,20 +7,8 @@ use borrow.Author.Needs.{needs}
 use Rattle.table_lines.proofs.content_of.Statement.{statement}
 use Rattle.table_lines.proofs.content_of.Tie as tie
 
-uncomment-requires : tie.Need-uncomment-requires
-uncomment-requires c κs = search needs
-
-trim-front-requires : tie.Need-trim-front-requires
-trim-front-requires c κs = search needs
-
 sub-start : tie.Need-sub-start
 sub-start c = omega (arith, front-le (c .before .uncomment .result .now), ap length (c .trim-front .ensures))
-
-trim-end-requires : tie.Need-trim-end-requires
-trim-end-requires c κs = search needs
-
-add-t7 : tie.Need-add-t7
-add-t7 c = search needs
 
 returns : tie.Need-returns
 returns c = rw (c .trim-end .ensures, c .before .trim-front .ensures, c .before .before .uncomment .ensures)
@@ -28,4 +16,4 @@ returns c = rw (c .trim-end .ensures, c .before .trim-front .ensures, c .before 
 pub content-of-spec : {M : Type 1} → statement M
 content-of-spec =
     tie.close
-    (tie.spec uncomment-requires trim-front-requires sub-start trim-end-requires add-t7 returns)
+    (tie.spec (λ c κs. search needs) (λ c κs. search needs) sub-start (λ c κs. search needs) (λ c. search needs) returns)

@@ -5,11 +5,8 @@ use borrow.Author.Needs.{needs}
 use Rattle.table_lines.proofs.line_end.Statement.{statement}
 use Rattle.table_lines.proofs.line_end.Tie as tie
 
-find-requires : tie.Need-find-requires
-find-requires c κs = search needs
-
 returns : tie.Need-returns
 returns c = c .find .ensures ∙ rw (← line-upto)
 
 pub line-end-spec : {M : Type 1} → statement M
-line-end-spec = tie.close (tie.spec find-requires returns)
+line-end-spec = tie.close (tie.spec (λ c κs. search needs) returns)

@@ -7,9 +7,6 @@ use borrow.Author.Needs.{needs}
 use Rattle.table_lines.proofs.uncomment.Statement.{statement}
 use Rattle.table_lines.proofs.uncomment.Tie as tie
 
-find-requires : tie.Need-find-requires
-find-requires c κs = search needs
-
 slice-aggregate-result : tie.Need-slice-aggregate-result
 slice-aggregate-result c = let l = c .before .before .before .args .l .now in
     sym (length-take-le (c .before .find .result) l (omega (arith, c .before .find .ensures, upto-le 35 l)))
@@ -18,4 +15,4 @@ returns : tie.Need-returns
 returns c = uncommented-take (c .before .before .before .args .l .now) (c .before .find .result) (c .before .find .ensures)
 
 pub uncomment-spec : {M : Type 1} → statement M
-uncomment-spec = tie.close (tie.spec find-requires slice-aggregate-result returns)
+uncomment-spec = tie.close (tie.spec (λ c κs. search needs) slice-aggregate-result returns)

@@ -22,12 +22,6 @@ abbrev μ-loop : tie.MeasureT-loop
 loop-holds : tie.Need-loop-holds Inv-loop μ-loop
 loop-holds c = (omega arith, c .before .pre, refl)
 
-shared-slice-read-is-sign : tie.Need-shared-slice-read-is-sign Inv-loop μ-loop
-shared-slice-read-is-sign c = search needs
-
-is-sign-requires : tie.Need-is-sign-requires Inv-loop μ-loop
-is-sign-requires c κs = search needs
-
 -- the byte that is tested is the next of the first n
 next : (l : List ℕ) (n i : ℕ) → i < n → n ≤ length l → (i < length (take n l)) × (getD (take n l) i 0 ≡ getD l i 0)
 next l n i h k = let q : length (take n l) ≡ n = length-take-le n l k in (omega arith, getD-take n l i 0 h)
@@ -38,12 +32,6 @@ returns c = let h = c .before .before .before .before in
     let w = next (a .l .now) (a .n) (h .loop .i) (omega arith) (h .loop .inv .1) in
     sym (all-stop (take (a .n) (a .l .now)) (h .loop .i) 0 (w .0) (isSign (a .dash))
     (ap (isSign (a .dash)) (w .1) ∙ sym (c .before .is-sign .ensures) ∙ not-true _ (c .if1 .taken))) ∙ h .loop .inv .2
-
-add-i : tie.Need-add-i Inv-loop μ-loop
-add-i c = search needs
-
-loop-less : tie.Need-loop-less Inv-loop μ-loop
-loop-less c = search needs
 
 loop-again : tie.Need-loop-again Inv-loop μ-loop
 loop-again c = let h = c .before .before .before .before in
@@ -68,10 +56,10 @@ all-of-spec =
     Inv-loop
     μ-loop
     loop-holds
-    shared-slice-read-is-sign
-    is-sign-requires
+    (λ c. search needs)
+    (λ c κs. search needs)
     returns
-    add-i
-    loop-less
+    (λ c. search needs)
+    (λ c. search needs)
     loop-again
     returns-2)

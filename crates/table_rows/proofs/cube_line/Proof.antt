@@ -14,9 +14,6 @@ use borrow.Author.Needs.{needs}
 use Rattle.table_rows.proofs.cube_line.Statement.{statement}
 use Rattle.table_rows.proofs.cube_line.Tie as tie
 
-has-room-requires : tie.Need-has-room-requires
-has-room-requires c κs = search needs
-
 returns : tie.Need-returns
 returns c = let a = c .before .before .before .args in
     rw (← parsing-parts (a .n) (a .m) (a .c .now), sym (c .before .has-room .ensures) ∙ not-true _ (c .if1 .taken))
@@ -51,12 +48,6 @@ sub-trim-front c = let k = bounds (c .before .before) .2 in search needs
 part-trim-front-start : tie.Need-part-trim-front-start
 part-trim-front-start c = let k = bounds (c .before .before) .2 in search needs
 
-part-trim-front-end : tie.Need-part-trim-front-end
-part-trim-front-end c = search needs
-
-trim-front-requires : tie.Need-trim-front-requires
-trim-front-requires c κs = search needs
-
 marked-requires : tie.Need-marked-requires
 marked-requires c κs = bounds (c .before .before .before .before)
 
@@ -71,13 +62,13 @@ pub cube-line-spec : {M : Type 1} → statement M
 cube-line-spec =
     tie.close
     (tie.spec
-    has-room-requires
+    (λ c κs. search needs)
     returns
     all-of-requires
     returns-2
     sub-trim-front
     part-trim-front-start
-    part-trim-front-end
-    trim-front-requires
+    (λ c. search needs)
+    (λ c κs. search needs)
     marked-requires
     returns-3)

@@ -17,27 +17,9 @@ Inv-loop p n c₀ v₀ i₀ c v i = (i ≤ n) × (n ≤ mostPlaces) × (n ≤ le
 abbrev μ-loop : tie.MeasureT-loop
 μ-loop p n c₀ v₀ i₀ c v i = n - i
 
-empty-requires : tie.Need-empty-requires Inv-loop μ-loop
-empty-requires c κs = search needs
-
 loop-holds : tie.Need-loop-holds Inv-loop μ-loop
 unfolding cubeFrom
 loop-holds c = (omega arith, c .before .before .pre .0, c .before .before .pre .1, refl, c .empty .ensures)
-
-shared-slice-read-with-place : tie.Need-shared-slice-read-with-place Inv-loop μ-loop
-shared-slice-read-with-place c = search needs
-
-with-place-requires : tie.Need-with-place-requires Inv-loop μ-loop
-with-place-requires c κs = search needs
-
-add-v : tie.Need-add-v Inv-loop μ-loop
-add-v c = search needs
-
-add-i : tie.Need-add-i Inv-loop μ-loop
-add-i c = search needs
-
-loop-less : tie.Need-loop-less Inv-loop μ-loop
-loop-less c = search needs
 
 loop-again : tie.Need-loop-again Inv-loop μ-loop
 loop-again c = let h = c .before .before .before in
@@ -64,12 +46,12 @@ cube-of-spec =
     (tie.spec
     Inv-loop
     μ-loop
-    empty-requires
+    (λ c κs. search needs)
     loop-holds
-    shared-slice-read-with-place
-    with-place-requires
-    add-v
-    add-i
-    loop-less
+    (λ c. search needs)
+    (λ c κs. search needs)
+    (λ c. search needs)
+    (λ c. search needs)
+    (λ c. search needs)
     loop-again
     returns)

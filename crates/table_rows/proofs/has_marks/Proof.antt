@@ -10,13 +10,10 @@ returns : tie.Need-returns
 returns c = let a = c .before .before .args in
     marks-other (a .m) (a .o .now) (c .if1 .taken)
 
-all-of-requires : tie.Need-all-of-requires
-all-of-requires c κs = search needs
-
 returns-2 : tie.Need-returns-2
 returns-2 c = let e = c .before in
     let a = e .before .before .args in
     c .all-of .ensures ∙ all-marks (take (a .m) (a .o .now)) ∙ marks-read (a .m) (a .o .now) (e .if1 .left)
 
 pub has-marks-spec : {M : Type 1} → statement M
-has-marks-spec = tie.close (tie.spec returns all-of-requires returns-2)
+has-marks-spec = tie.close (tie.spec returns (λ c κs. search needs) returns-2)

@@ -9,9 +9,6 @@ use borrow.Author.Needs.{needs}
 use Rattle.table_rows.proofs.marked.Statement.{statement}
 use Rattle.table_rows.proofs.marked.Tie as tie
 
-has-marks-requires : tie.Need-has-marks-requires
-has-marks-requires c κs = search needs
-
 returns : tie.Need-returns
 returns c = rw (sym (c .before .has-marks .ensures) ∙ not-true _ (c .if1 .taken))
 
@@ -27,9 +24,6 @@ marks-of-requires : tie.Need-marks-of-requires
 marks-of-requires c κs = let s = c .before .before .before .before .before in
     omega (arith, s .pre .1, marks-length (s .args .m) (s .args .o .now) (whole (c .before)))
 
-counted-requires : tie.Need-counted-requires
-counted-requires c κs = search needs
-
 returns-2 : tie.Need-returns-2
 returns-2 c = rw (whole (c .before .before .before)) (c .counted .ensures ∙ ap₂ entered (c .before .before .cube-of .ensures) (c .before .marks-of .ensures))
 
@@ -37,9 +31,9 @@ pub marked-spec : {M : Type 1} → statement M
 marked-spec =
     tie.close
     (tie.spec
-    has-marks-requires
+    (λ c κs. search needs)
     returns
     cube-of-requires
     marks-of-requires
-    counted-requires
+    (λ c κs. search needs)
     returns-2)

@@ -24,22 +24,13 @@ loop-holds : tie.Need-loop-holds Inv-loop μ-loop
 unfolding packed
 loop-holds c = (omega arith, omega arith, rw (drop-length (c .args .o .now)))
 
-sub-i : tie.Need-sub-i Inv-loop μ-loop
-sub-i c = search needs
-
 mul-mask : tie.Need-mul-mask Inv-loop μ-loop
 mul-mask c = let h = c .before in
     record { fits = omega (arith, marks-lt (h .before .args .o .now) (h .loop .i) (omega arith)) }
 
-shared-slice-read-if1 : tie.Need-shared-slice-read-if1 Inv-loop μ-loop
-shared-slice-read-if1 c = search needs
-
 add-mask : tie.Need-add-mask Inv-loop μ-loop
 add-mask c = let h = c .before .before .before in
     record { fits = omega (arith, marks-lt (h .before .args .o .now) (h .loop .i) (omega arith)) }
-
-loop-less : tie.Need-loop-less Inv-loop μ-loop
-loop-less c = search needs
 
 loop-again : tie.Need-loop-again Inv-loop μ-loop
 loop-again c = let h = c .before .before .before in
@@ -49,9 +40,6 @@ loop-again c = let h = c .before .before .before in
       rw (marks-next o (h .loop .i) (omega arith) (omega arith), eq-eqb 49 (getD o (h .loop .i - 1) 0) (sym (c .if1 .taken)))
           (omega arith),
     )
-
-loop-less-2 : tie.Need-loop-less-2 Inv-loop μ-loop
-loop-less-2 c = search needs
 
 loop-again-2 : tie.Need-loop-again-2 Inv-loop μ-loop
 loop-again-2 c = let h = c .before .before .before in
@@ -75,12 +63,12 @@ marks-of-spec =
     Inv-loop
     μ-loop
     loop-holds
-    sub-i
+    (λ c. search needs)
     mul-mask
-    shared-slice-read-if1
+    (λ c. search needs)
     add-mask
-    loop-less
+    (λ c. search needs)
     loop-again
-    loop-less-2
+    (λ c. search needs)
     loop-again-2
     returns)

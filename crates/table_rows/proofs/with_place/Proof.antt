@@ -6,22 +6,10 @@ use borrow.Author.Needs.{needs}
 use Rattle.table_rows.proofs.with_place.Statement.{statement}
 use Rattle.table_rows.proofs.with_place.Tie as tie
 
-plain-requires : tie.Need-plain-requires
-plain-requires c κs = search needs
-
-with-requires : tie.Need-with-requires
-with-requires c κs = search needs
-
 returns : tie.Need-returns
 returns c = let a = c .before .before .before .args in
     c .with .ensures ∙ placed-plain (a .v) (a .b) (c .before .plain .result .0) (lits (a .c)) (c .before .before .before .pre) (c .before .before .if1 .taken)
     (c .before .plain .ensures)
-
-negated-requires : tie.Need-negated-requires
-negated-requires c κs = search needs
-
-with-requires-2 : tie.Need-with-requires-2
-with-requires-2 c κs = search needs
 
 returns-2 : tie.Need-returns-2
 returns-2 c = let a = c .before .before .before .before .args in
@@ -36,10 +24,10 @@ pub with-place-spec : {M : Type 1} → statement M
 with-place-spec =
     tie.close
     (tie.spec
-    plain-requires
-    with-requires
+    (λ c κs. search needs)
+    (λ c κs. search needs)
     returns
-    negated-requires
-    with-requires-2
+    (λ c κs. search needs)
+    (λ c κs. search needs)
     returns-2
     returns-3)

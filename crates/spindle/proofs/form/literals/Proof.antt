@@ -24,15 +24,6 @@ tells n a e = ap told e ∙ go (rules n)
     go true = refl
     go false = refl
 
-literals-requires : tie.Need-literals-requires
-literals-requires c κs = search needs
-
-enum-known-a : tie.Need-enum-known-a
-enum-known-a c = search needs
-
-enum-told : tie.Need-enum-told
-enum-told c = search needs
-
 returns : tie.Need-returns
 returns c = ap told (sym (c .before .a .given .1)) ∙ tells _ _ (c .before .before .before .literals .ensures)
 
@@ -40,4 +31,4 @@ returns-2 : tie.Need-returns-2
 returns-2 c = ap told (sym (c .enum-told .given .1)) ∙ tells _ _ (c .before .before .literals .ensures)
 
 pub literals-spec : {M : Type 1} → statement M
-literals-spec = tie.close (tie.spec literals-requires enum-known-a enum-told returns returns-2)
+literals-spec = tie.close (tie.spec (λ c κs. search needs) (λ c. search needs) (λ c. search needs) returns returns-2)

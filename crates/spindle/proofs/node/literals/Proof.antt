@@ -6,21 +6,9 @@ use Rattle.expression.specs.Answers.{capped}
 use Rattle.spindle.proofs.node.literals.Statement.{statement}
 use Rattle.spindle.proofs.node.literals.Tie as tie
 
-slice-aggregate-node : tie.Need-slice-aggregate-node
-slice-aggregate-node c = search needs
-
-slice-aggregate-node-2 : tie.Need-slice-aggregate-node-2
-slice-aggregate-node-2 c = search needs
-
-node-requires : tie.Need-node-requires
-node-requires c κs = search needs
-
-literals-requires : tie.Need-literals-requires
-literals-requires c κs = search needs
-
 returns : tie.Need-returns
 returns c = c .literals .ensures ∙ ap (λ f. capped (literalsOf f)) (c .before .node .ensures .0)
 
 pub literals-spec : {M : Type 1} → statement M
 literals-spec =
-    tie.close (tie.spec slice-aggregate-node slice-aggregate-node-2 node-requires literals-requires returns)
+    tie.close (tie.spec (λ c. search needs) (λ c. search needs) (λ c κs. search needs) (λ c κs. search needs) returns)
