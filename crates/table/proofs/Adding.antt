@@ -34,67 +34,45 @@ module _ {t : table.State} {s : State} {words marks : List ℕ} (h : Stands t s 
   more : (rowsIn l ≡ 0 → ⊥) → marked (t .lines ++ (l ∷ [])) ≡ marked (t .lines) ++ (l ∷ [])
   more f = keep-append (λ (c : CubeLine). ltb 0 (rowsIn c)) (t .lines) (l ∷ []) ∙ rw (lt-ltb 0 (rowsIn l) (omega arith))
 
-  longer : s .lines + 1 ≡ length (t .lines ++ (l ∷ []))
-  longer = ap (_+ 1) (h .lines) ∙ sym (length-append (t .lines) (l ∷ []))
+  -- what stands for one line more, of so many rows, with so many cubes and masks kept
+  abbrev grown : ℕ → ℕ → State
+  grown rows kept = record { inputs = s .inputs; outputs = s .outputs; stated = s .stated; lines = s .lines + 1; rows = s .rows + rows; kept = kept }
 
-  further : (rows : ℕ) → rows ≡ rowsIn l → s .rows + rows ≡ total rowsIn (t .lines ++ (l ∷ []))
-  further rows e = sym (total-append rowsIn (t .lines) (l ∷ []) ∙ omega (arith, h .rows))
+  grow : {words' marks' : List ℕ} (rows kept : ℕ) → rows ≡ rowsIn l → kept ≡ length (marked (t .lines ++ (l ∷ [])))
+      → take kept (cubesOf words') ≡ map cubeOf (marked (t .lines ++ (l ∷ [])))
+      → take kept marks' ≡ map (λ (c : CubeLine). packed (c .marks)) (marked (t .lines ++ (l ∷ [])))
+      → Stands (table.withLine t l) (grown rows kept) words' marks'
+  grow rows kept e n c m = record {
+    wide = h .wide;
+    tall = h .tall;
+    stated = h .stated;
+    lines = ap (_+ 1) (h .lines) ∙ sym (length-append (t .lines) (l ∷ []));
+    rows = sym (total-append rowsIn (t .lines) (l ∷ []) ∙ omega (arith, h .rows));
+    kept = n;
+    cubes = c;
+    masks = m;
+  }
 
   -- a line that makes no row
-  pub stands-plain : (rows : ℕ) → rows ≡ rowsIn l → rows ≡ 0
-      → Stands (table.withLine t l) (record {
-        inputs = s .inputs;
-        outputs = s .outputs;
-        stated = s .stated;
-        lines = s .lines + 1;
-        rows = s .rows + rows;
-        kept = s .kept;
-      }) words marks
-  stands-plain rows e z =
-      let m = plain (sym e ∙ z) in
-      record {
-        wide = h .wide;
-        tall = h .tall;
-        stated = h .stated;
-        lines = longer;
-        rows = further rows e;
-        kept = h .kept ∙ ap length (sym m);
-        cubes = h .cubes ∙ ap (map cubeOf) (sym m);
-        masks = h .masks ∙ ap (map (λ (c : CubeLine). packed (c .marks))) (sym m);
-      }
+  pub stands-plain : (rows : ℕ) → rows ≡ rowsIn l → rows ≡ 0 → Stands (table.withLine t l) (grown rows (s .kept)) words marks
+  stands-plain rows e z = grow rows (s .kept) e (rw (plain (sym e ∙ z)) (h .kept)) (rw (plain (sym e ∙ z)) (h .cubes)) (rw (plain (sym e ∙ z)) (h .masks))
 
   -- one that makes some
   pub stands-kept : {words' : List ℕ} {cube : List ℕ} (rows mask : ℕ) → rows ≡ rowsIn l → (rows ≡ 0 → ⊥) → s .kept < length (cubesOf words)
       → s .kept < length marks
       → cube ≡ cubeOf l → mask ≡ packed (l .marks) → Put words words' (s .kept) cube
-      → Stands (table.withLine t l) (record {
-        inputs = s .inputs;
-        outputs = s .outputs;
-        stated = s .stated;
-        lines = s .lines + 1;
-        rows = s .rows + rows;
-        kept = s .kept + 1;
-      }) words' (set marks (s .kept) mask)
+      → Stands (table.withLine t l) (grown rows (s .kept + 1)) words' (set marks (s .kept) mask)
   stands-kept {words'} {cube} rows mask e f a b c k p =
       let m = more (λ z. f (e ∙ z)) in
-      record {
-        wide = h .wide;
-        tall = h .tall;
-        stated = h .stated;
-        lines = longer;
-        rows = further rows e;
-        kept = ap (_+ 1) (h .kept) ∙ sym (ap length m ∙ length-append (marked (t .lines)) (l ∷ []));
-        cubes =
-            ap₂ take (add-one (s .kept)) (p .cubes)
-            ∙ take-suc-set (cubesOf words) (s .kept) cube a
-            ∙ ap₂ (λ (x : List (List ℕ)) (y : List ℕ). x ++ (y ∷ [])) (h .cubes) c
-            ∙ sym (ap (map cubeOf) m ∙ map-append cubeOf (marked (t .lines)) (l ∷ []));
-        masks =
-            ap (λ (n : ℕ). take n (set marks (s .kept) mask)) (add-one (s .kept))
-            ∙ take-suc-set marks (s .kept) mask b
-            ∙ ap₂ (λ (x : List ℕ) (y : ℕ). x ++ (y ∷ [])) (h .masks) k
-            ∙ sym (ap (map (λ (d : CubeLine). packed (d .marks))) m ∙ map-append (λ (d : CubeLine). packed (d .marks)) (marked (t .lines)) (l ∷ []));
-      }
+      grow rows (s .kept + 1) e (ap (_+ 1) (h .kept) ∙ sym (ap length m ∙ length-append (marked (t .lines)) (l ∷ [])))
+      (ap₂ take (add-one (s .kept)) (p .cubes)
+      ∙ take-suc-set (cubesOf words) (s .kept) cube a
+      ∙ ap₂ (λ (x : List (List ℕ)) (y : List ℕ). x ++ (y ∷ [])) (h .cubes) c
+      ∙ sym (ap (map cubeOf) m ∙ map-append cubeOf (marked (t .lines)) (l ∷ [])))
+      (ap (λ (n : ℕ). take n (set marks (s .kept) mask)) (add-one (s .kept))
+      ∙ take-suc-set marks (s .kept) mask b
+      ∙ ap₂ (λ (x : List ℕ) (y : ℕ). x ++ (y ∷ [])) (h .masks) k
+      ∙ sym (ap (map (λ (d : CubeLine). packed (d .marks))) m ∙ map-append (λ (d : CubeLine). packed (d .marks)) (marked (t .lines)) (l ∷ [])))
 
 -- ---- what the reading of a cube line says
 

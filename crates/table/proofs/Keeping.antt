@@ -99,8 +99,8 @@ module _ (s : State) (n m : ℕ) (c : Complete s n m) where
   through-none (itself {e = e} i j d) = List·Memᴰ·not-nil (subst (λ (l : List Node). e ∈ l) no-divisors i)
   through-none (others {e = e} i j d t) = List·Memᴰ·not-nil (subst (λ (l : List Node). e ∈ l) no-divisors i)
 
-  reads : (f : List (List ℕ)) → f ∈ (tableNet s) .outputs → (k : List ℕ) → k ∈ f → (x : ℕ) → x ∈ k → x / 2 < n
-  reads f i k j x d = let o = outputs-are s f i in
+  within-inputs : (f : List (List ℕ)) → f ∈ (tableNet s) .outputs → (k : List ℕ) → k ∈ f → (x : ℕ) → x ∈ k → x / 2 < n
+  within-inputs f i k j x d = let o = outputs-are s f i in
       output-reads n (s .lines) (o .0) (λ l e. c .shaped l e .places) k (subst (λ (g : List (List ℕ)). k ∈ g) (o .1) j) x d
 
   -- the network of an accepted table is by the rules
@@ -115,7 +115,7 @@ module _ (s : State) (n m : ℕ) (c : Complete s n m) where
         within = record { variables = omega (arith, c .inputs); cubes = omega (arith, table-cubes); literals = table-literals };
         good = record {
           expressions = λ f i. outputs-ordered s f (in-outputs f i) .0;
-          known = λ f i v d. omega (arith, reads f (in-outputs f i) (d .0) (d .1) (d .2 .0) (d .2 .1), d .2 .2);
+          known = λ f i v d. omega (arith, within-inputs f (in-outputs f i) (d .0) (d .1) (d .2 .0) (d .2 .1), d .2 .2);
           inTurn = no-divisors ∙ sym (ap (λ (l : List Node). numbered ((tableNet s) .inputs) (map (λ (e : Node). e .cubes) l)) no-divisors);
           acyclic = λ v t. through-none t;
         };
@@ -133,40 +133,40 @@ module _ (s : State) (n m : ℕ) (c : Complete s n m) where
 -- ---- what reading a table hands back
 
 module _ (t : List ℕ) (r : Table) (o : Told (readText t) r) (e : r .answer ≡ Read) where
-  state : State
-  state = told-accepted r (readText t) o e .0
+  final : State
+  final = told-accepted r (readText t) o e .0
 
-  is : readText t ≡ accepted state
-  unfolding state
+  is : readText t ≡ accepted final
+  unfolding final
   is = told-accepted r (readText t) o e .1
 
-  says : Says t state
-  says = read-lines t state is
+  written : Says t final
+  written = read-lines t final is
 
-  whole : Complete state (inputsOf t) (outputsOf t)
-  whole = let c = accepted-complete t state is .2 in
-      subst (λ (k : ℕ). Complete state k (outputsOf t)) (same (c .wide) (says .wide)) (subst (Complete state _) (same (c .tall) (says .tall)) c)
+  whole : Complete final (inputsOf t) (outputsOf t)
+  whole = let c = accepted-complete t final is .2 in
+      subst (λ (k : ℕ). Complete final k (outputsOf t)) (same (c .wide) (written .wide)) (subst (Complete final _) (same (c .tall) (written .tall)) c)
     where
       same : {p : Option ℕ} {i j : ℕ} → p ≡ some i → p ≡ some j → i ≡ j
       same h k = cc
 
-  holds : Holds (r .network) (tableNet state)
+  holds : Holds (r .network) (tableNet final)
   holds = (subst (λ (z : Outcome). Told z r) is o) .1
 
-  net : netOf (r .network) ≡ tableNet state
-  net = table-net state (inputsOf t) (outputsOf t) whole (r .network) holds
+  net : netOf (r .network) ≡ tableNet final
+  net = table-net final (inputsOf t) (outputsOf t) whole (r .network) holds
 
   -- its network is that of the table
   pub read-net : (s : State) × (readText t ≡ accepted s) × (netOf (r .network) ≡ tableNet s)
-  read-net = (state, is, net)
+  read-net = (final, is, net)
 
   -- as many inputs and outputs as `.i` and `.o` say
   pub read-sizes : (r .network .inputs ≡ inputsOf t) × (r .network .outputs ≡ outputsOf t)
-  read-sizes = (holds .inputs ∙ table-inputs state (inputsOf t) (outputsOf t) whole, holds .outputs ∙ outputs-number state (inputsOf t) (outputsOf t) whole)
+  read-sizes = (holds .inputs ∙ table-inputs final (inputsOf t) (outputsOf t) whole, holds .outputs ∙ outputs-number final (inputsOf t) (outputsOf t) whole)
 
   -- it keeps the rules
   pub read-rules : rules (r .network) ≡ true
-  read-rules = table-rules state (inputsOf t) (outputsOf t) whole (r .network) holds
+  read-rules = table-rules final (inputsOf t) (outputsOf t) whole (r .network) holds
 
   -- the answer has output j at bit j: on exactly when some cube line of the text with a `1` for output j covers the setting; other bits are zero
   pub read-outputs : (x : ℕ) → (y : ℕ) × (evaluated (r .network) x ≡ Is y)
@@ -174,12 +174,12 @@ module _ (t : List ℕ) (r : Table) (o : Told (readText t) r) (e : r .answer ≡
       × ((j : ℕ) → outputsOf t ≤ j → bit y j ≡ false)
   unfolding evaluated
   read-outputs x = (
-    evaluate (tableNet state) x,
+    evaluate (tableNet final) x,
     rw read-rules (ap (λ (k : Net). Is (evaluate k x)) net),
-    λ j h. outputs-rows state (inputsOf t) (outputsOf t) whole x j h ∙ ap (λ (l : List CubeLine). someCovers l x j) (says .lines),
-    λ j h. evaluate-past (tableNet state) x j (omega (arith, outputs-number state (inputsOf t) (outputsOf t) whole)),
+    λ j h. outputs-rows final (inputsOf t) (outputsOf t) whole x j h ∙ ap (λ (l : List CubeLine). someCovers l x j) (written .lines),
+    λ j h. evaluate-past (tableNet final) x j (omega (arith, outputs-number final (inputsOf t) (outputsOf t) whole)),
   )
 
   -- its cubes stand in cube order
   pub read-ordered : (f : List (List ℕ)) → f ∈ nodes (netOf (r .network)) → ordered f ≡ true
-  read-ordered f i = outputs-ordered state f (in-outputs state (inputsOf t) (outputsOf t) whole f (subst (λ (k : Net). f ∈ nodes k) net i)) .1
+  read-ordered f i = outputs-ordered final f (in-outputs final (inputsOf t) (outputsOf t) whole f (subst (λ (k : Net). f ∈ nodes k) net i)) .1

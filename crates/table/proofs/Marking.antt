@@ -114,9 +114,9 @@ marked-few (c ∷ l) = go (ltb 0 (rowsIn c)) refl (marked-few l)
     go false e h = omega arith
 
 -- the cubes kept of a table that is accepted can be built from
-pub buildable : {t : table.State} {n m : ℕ} {s : State} {words marks : List ℕ} → Complete t n m → Stands t s words marks
+pub kept-buildable : {t : table.State} {n m : ℕ} {s : State} {words marks : List ℕ} → Complete t n m → Stands t s words marks
     → length (cubesOf words) ≡ mostRows → length marks ≡ mostRows → Buildable words marks (s .kept) (s .outputs)
-buildable {t} {n} {m} {s} {words} {marks} c h p q =
+kept-buildable {t} {n} {m} {s} {words} {marks} c h p q =
     let k : s .kept ≤ s .rows = omega (arith, h .kept, h .rows, marked-few (t .lines)) in
     let e : s .outputs ≡ m = h .tall ∙ ap orZero (c .tall) in
     record {

@@ -20,7 +20,7 @@ use Rattle.table_kinds.specs.declared.Kind.{Kind}
 use Rattle.table_kinds.specs.declared.Kind.the-variants.{Empty, Inputs, Outputs, Products, End, Other}
 use Rattle.table.specs.Table.{State, Turn, next, done, refuse, inTime, missing, rightCount, numberLine, setWide, setTall, setStated}
 use Rattle.table.specs.Table.{withLine, finish, addLine, cubeLine, byKind, readLine, mostProducts, mostRows}
-use Rattle.table.specs.Meaning.{Timely, Goes, blank, inputs, outputs, products, cube, Late, Early, Closes, isLine, Does, goes, closes, refuses}
+use Rattle.table.specs.Meaning.{Timely, Goes, blank, inputs, outputs, products, cube, Late, Early, Closes, isLine, Does, going, closing, refusing}
 use Rattle.table.specs.Meaning.{Refuses, lateInputs, lateOutputs, lateProducts, earlyEnd, earlyCube, noKind, outInputs, outOutputs, outProducts}
 use Rattle.table.specs.Meaning.{differs, over}
 
@@ -65,14 +65,14 @@ module _ (s : State) (c : List ℕ) where
       → (Timely o (s .lines) → b ≡ false → Refuses s c 3) → Does s c (numberLine (inTime o (s .lines)) b t)
   number-does o b {t} f g h = go (missing o) (isNil (s .lines)) b refl refl refl
     where
-      timely : missing o ≡ true → isNil (s .lines) ≡ true → Timely o (s .lines)
-      timely p q = record { new = is-none o p; first = is-nil (s .lines) q }
+      in-time : missing o ≡ true → isNil (s .lines) ≡ true → Timely o (s .lines)
+      in-time p q = record { new = is-none o p; first = is-nil (s .lines) q }
 
       go : (x y z : Bool) → missing o ≡ x → isNil (s .lines) ≡ y → b ≡ z → Does s c (numberLine (x && y) z t)
-      go true true true p q r = goes (f (timely p q) r)
-      go true true false p q r = refuses (h (timely p q) r)
-      go true false z p q r = refuses (g (inr q))
-      go false y z p q r = refuses (g (inl p))
+      go true true true p q r = going (f (in-time p q) r)
+      go true true false p q r = refusing (h (in-time p q) r)
+      go true false z p q r = refusing (g (inr q))
+      go false y z p q r = refusing (g (inl p))
 
   finish-does : kindOf c ≡ End → Does s c (finish s)
   unfolding finish
@@ -80,30 +80,30 @@ module _ (s : State) (c : List ℕ) where
     where
       go : (a b d : Bool) → missing (s .wide) ≡ a → missing (s .tall) ≡ b → rightCount (s .stated) (s .lines) ≡ d
           → Does s c (cond a (refuse 2) (cond b (refuse 2) (cond d (done s) (refuse 4))))
-      go true b d p q x = refuses (earlyEnd k (inl p))
-      go false true d p q x = refuses (earlyEnd k (inr q))
-      go false false true p q x = closes (record { kind = k; wide = p; tall = q; stated = x })
-      go false false false p q x = let w = differ-out (s .stated) (s .lines) x in refuses (differs (w .0) k p q (w .1) (w .2))
+      go true b d p q x = refusing (earlyEnd k (inl p))
+      go false true d p q x = refusing (earlyEnd k (inr q))
+      go false false true p q x = closing (record { kind = k; wide = p; tall = q; stated = x })
+      go false false false p q x = let w = differ-out (s .stated) (s .lines) x in refusing (differs (w .0) k p q (w .1) (w .2))
 
   added-does : kindOf c ≡ Other → (n m : ℕ) → s .wide ≡ some n → s .tall ≡ some m → (o : Option CubeLine) → cubeLineOf n m c ≡ o → Does s c (addLine o s)
-  added-does k n m p q none x = refuses (noKind n m k p q x)
+  added-does k n m p q none x = refusing (noKind n m k p q x)
   added-does k n m p q (some l) x = go (leb (total rowsIn (s .lines) + rowsIn l) mostRows) refl
     where
       go : (b : Bool) → leb (total rowsIn (s .lines) + rowsIn l) mostRows ≡ b → Does s c (cond b (next (withLine s l)) (refuse 6))
-      go true h = goes (cube n m l k p q x (leb-true (total rowsIn (s .lines) + rowsIn l) mostRows h))
-      go false h = refuses (over n m l k p q x (leb-false (total rowsIn (s .lines) + rowsIn l) mostRows h))
+      go true h = going (cube n m l k p q x (leb-true (total rowsIn (s .lines) + rowsIn l) mostRows h))
+      go false h = refusing (over n m l k p q x (leb-false (total rowsIn (s .lines) + rowsIn l) mostRows h))
 
   cube-does : kindOf c ≡ Other → Does s c (cubeLine (s .wide) (s .tall) c s)
   cube-does k = go (s .wide) (s .tall) refl refl
     where
       go : (w u : Option ℕ) → s .wide ≡ w → s .tall ≡ u → Does s c (cubeLine w u c s)
-      go none u p q = refuses (earlyCube k (inl (ap missing p)))
-      go (some n) none p q = refuses (earlyCube k (inr (ap missing q)))
+      go none u p q = refusing (earlyCube k (inl (ap missing p)))
+      go (some n) none p q = refusing (earlyCube k (inr (ap missing q)))
       go (some n) (some m) p q = added-does k n m p q (cubeLineOf n m c) refl
 
   kind-does : (k : Kind) → kindOf c ≡ k → Does s c (byKind k c s)
   unfolding setWide setTall setStated
-  kind-does Empty q = goes (blank q)
+  kind-does Empty q = going (blank q)
   kind-does (Inputs n) q =
       number-does (s .wide) (upTo mostInputs n) (λ t h. let w = within-out mostInputs n h in inputs n q t (w .0) (w .1)) (lateInputs n q)
       (λ t h. outInputs n q t (range-out mostInputs n h))
@@ -118,10 +118,10 @@ module _ (s : State) (c : List ℕ) where
 
   -- ---- and back
 
-  early : Early s → finish s ≡ refuse 2
+  early-end : Early s → finish s ≡ refuse 2
   unfolding finish
-  early (inl h) = rw h
-  early (inr h) = go (missing (s .wide))
+  early-end (inl h) = rw h
+  early-end (inr h) = go (missing (s .wide))
     where
       go : (b : Bool) → cond b (refuse 2) (cond (missing (s .tall)) (refuse 2) (cond (rightCount (s .stated) (s .lines)) (done s) (refuse 4))) ≡ refuse 2
       go true = refl
@@ -155,7 +155,7 @@ module _ (s : State) (c : List ℕ) where
   refuses-back (lateInputs n k h) = of-kind k (rw (late-in (missing (s .wide)) (isNil (s .lines)) h))
   refuses-back (lateOutputs n k h) = of-kind k (rw (late-in (missing (s .tall)) (isNil (s .lines)) h))
   refuses-back (lateProducts n k h) = of-kind k (rw (late-in (missing (s .stated)) (isNil (s .lines)) h))
-  refuses-back (earlyEnd k h) = of-kind k (early h)
+  refuses-back (earlyEnd k h) = of-kind k (early-end h)
   refuses-back (earlyCube k h) = of-kind k (early-cube h)
   refuses-back (noKind n m k p q x) = of-kind k (cube-at n m none p q x)
   refuses-back (outInputs n k h r) = of-kind k (rw (h .new, h .first, range-in mostInputs n r))
@@ -176,13 +176,13 @@ line-does l s = kind-does s (content l) (kindOf (content l)) refl
 
 module _ {s : State} {c : List ℕ} where
   does-next : {t : State} → Does s c (next t) → Goes s c t
-  does-next (goes g) = g
+  does-next (going g) = g
 
   does-done : {t : State} → Does s c (done t) → (t ≡ s) × Closes s c
-  does-done (closes h) = (refl, h)
+  does-done (closing h) = (refl, h)
 
   does-refuse : {r : ℕ} → Does s c (refuse r) → Refuses s c r
-  does-refuse (refuses h) = h
+  does-refuse (refusing h) = h
 
 -- it goes on exactly when it is empty, a number in time and in range, or a cube line of few enough rows, and to what these leave
 pub next-iff : (l : List ℕ) (s t : State) → (readLine l s ≡ next t) ↔ Goes s (content l) t

@@ -2,7 +2,7 @@
 use Prim.Native.Nat.{ℕ, suc, _+_, _<_, _≤_}
 use mathlib.Core.Path.{_≡_, refl, sym, ap, _∙_, subst}
 use mathlib.Core.Logic.{_⊎_, inl, inr, ⊎-elim, _↔_}
-use mathlib.Core.Bool.{Bool, true, false}
+use mathlib.Core.Bool.{true, false}
 use mathlib.Core.List.{List, [], _∷_, _++_, append-nil}
 use mathlib.Core.Option.{Option, none, some}
 use native.Mathlib.Omega.{arith}
@@ -10,12 +10,12 @@ use lib.Dec.{leb, ltb}
 use lib.ListN.{length, length-append}
 use borrow.Author.Tests.{leb-true, ltb-true, ltb-false, lt-ltb, le-ltb}
 use Rattle.sets.specs.Sets.{mem}
-use Rattle.sets.proofs.Truth.{both, clash}
+use Rattle.sets.proofs.Truth.{both, clash, decided}
 use Rattle.network.specs.Held.{mostInputs, mostOutputs}
 use Rattle.table_lines.specs.Text.{linesOf, content}
 use Rattle.table.specs.Table.{State, start, Turn, next, done, refuse, missing, readLine, Outcome, accepted, refused, refusedAt}
 use Rattle.table.specs.Table.{readLines, readText, mostBytes}
-use Rattle.table.specs.Meaning.{within, Bounded, isLine, Complete, Goes, Closes, Does, goes, closes, refuses}
+use Rattle.table.specs.Meaning.{within, Bounded, isLine, Complete, Goes, Closes, Does, going, closing, refusing, Comes}
 use Rattle.table.specs.Meaning.{Reads, nothing, line, Ended, whole, stopped, short}
 use Rattle.table.specs.declared.Refusal.{Refusal}
 use Rattle.table.proofs.Going.{start-bounded, read-bounded}
@@ -27,25 +27,17 @@ none-one = refl
 
 -- ---- how lines are read in turn
 
-module _ (k : ℕ) (l : List ℕ) (ls : List (List ℕ)) (s : State) where
-  pub lines-on : {t : State} → readLine l s ≡ next t → readLines k (l ∷ ls) s ≡ readLines (suc k) ls t
-  unfolding readLines
-  lines-on e = rw (e, readLines)
-
-  pub lines-done : {t : State} → readLine l s ≡ done t → readLines k (l ∷ ls) s ≡ accepted t
-  unfolding readLines
-  lines-done e = rw (e, readLines)
-
-  pub lines-refuse : {r : ℕ} → readLine l s ≡ refuse r → readLines k (l ∷ ls) s ≡ refusedAt r k
-  unfolding readLines
-  lines-refuse e = rw (e, readLines)
+pub lines-turn : (k : ℕ) (l : List ℕ) (ls : List (List ℕ)) (s : State) {p : Turn} → readLine l s ≡ p
+    → readLines k (l ∷ ls) s ≡ elim p [ next t ↦ readLines (suc k) ls t | done t ↦ accepted t | refuse r ↦ refusedAt r k ]
+unfolding readLines
+lines-turn k l ls s e = rw (e, readLines)
 
 pub lines-end : (k : ℕ) (s : State) → readLines k [] s ≡ refusedAt 5 0
 unfolding readLines
 lines-end k s = refl
 
 pub lines-ended : (k : ℕ) (ls : List (List ℕ)) (s : State) → Ended k s ls (readLines k ls s)
-lines-ended k [] s = subst (Ended k s []) (sym (lines-end k s)) (short [] nothing)
+lines-ended k [] s = rw lines-end (short [] nothing)
 lines-ended k (l ∷ ls) s = go (readLine l s) refl (line-does l s) (λ t. lines-ended (suc k) ls t)
   where
     more : {t : State} {ms : List (List ℕ)} {o : Outcome} → Goes s (content l) t → Ended (suc k) t ms o → Ended k s (l ∷ ms) o
@@ -57,22 +49,21 @@ lines-ended k (l ∷ ls) s = go (readLine l s) refl (line-does l s) (λ t. lines
 
     go : (p : Turn) → readLine l s ≡ p → Does s (content l) p → ((t : State) → Ended (suc k) t ls (readLines (suc k) ls t))
         → Ended k s (l ∷ ls) (readLines k (l ∷ ls) s)
-    go (next t) e (goes g) f = subst (Ended k s (l ∷ ls)) (sym (lines-on k l ls s e)) (more g (f t))
-    go (done t) e (closes d) f = subst (Ended k s (l ∷ ls)) (sym (lines-done k l ls s e)) (whole [] l ls nothing d)
-    go (refuse r) e (refuses d) f =
+    go (next t) e (going g) f = rw (lines-turn k l ls s e) (more g (f t))
+    go (done t) e (closing d) f = rw (lines-turn k l ls s e) (whole [] l ls nothing d)
+    go (refuse r) e (refusing d) f =
         let c : k + 0 ≡ k = omega arith in
-        subst (Ended k s (l ∷ ls)) (sym (lines-refuse k l ls s e))
-        (subst (λ (z : ℕ). Ended k s (l ∷ ls) (refusedAt r z)) c (stopped [] l ls nothing d))
+        rw (lines-turn k l ls s e) (subst (λ (z : ℕ). Ended k s (l ∷ ls) (refusedAt r z)) c (stopped [] l ls nothing d))
 
 -- and there is no other outcome
 reads-on : (k : ℕ) {s t : State} (ls ms : List (List ℕ)) → Reads s ls t → readLines k (ls ++ ms) s ≡ readLines (k + length ls) ms t
 reads-on k ls ms nothing = let e : k + 0 ≡ k = omega arith in rw e
 reads-on k (l ∷ ls) ms (line {s = s} {t = t} {u = u} g r) = let c : suc k + length ls ≡ k + length (l ∷ ls) = omega arith in
-    lines-on k l (ls ++ ms) s ((next-iff l s t) .1 g) ∙ reads-on (suc k) ls ms r ∙ ap (λ (z : ℕ). readLines z ms u) c
+    lines-turn k l (ls ++ ms) s ((next-iff l s t) .1 g) ∙ reads-on (suc k) ls ms r ∙ ap (λ (z : ℕ). readLines z ms u) c
 
 pub ended-lines : (k : ℕ) {s : State} {ls : List (List ℕ)} {o : Outcome} → Ended k s ls o → readLines k ls s ≡ o
-ended-lines k (whole a l b {t = t} r d) = reads-on k a (l ∷ b) r ∙ lines-done (k + length a) l b t ((done-iff l t t) .1 (refl, d))
-ended-lines k (stopped a l b {t = t} {r = q} r d) = reads-on k a (l ∷ b) r ∙ lines-refuse (k + length a) l b t ((refuse-iff l t q) .1 d)
+ended-lines k (whole a l b {t = t} r d) = reads-on k a (l ∷ b) r ∙ lines-turn (k + length a) l b t ((done-iff l t t) .1 (refl, d))
+ended-lines k (stopped a l b {t = t} {r = q} r d) = reads-on k a (l ∷ b) r ∙ lines-turn (k + length a) l b t ((refuse-iff l t q) .1 d)
 ended-lines k {s = s} (short a {t = t} r) =
     ap (λ (z : List (List ℕ)). readLines k z s) (sym (append-nil a)) ∙ reads-on k a [] r ∙ lines-end (k + length a) t
 
@@ -86,10 +77,28 @@ pub text-lines : (t : List ℕ) → length t ≤ mostBytes → readText t ≡ re
 unfolding readText
 text-lines t h = rw (le-ltb mostBytes (length t) h)
 
-pub text-ended : (t : List ℕ) → length t ≤ mostBytes → Ended 1 start (linesOf t) (readText t)
-text-ended t h = subst (Ended 1 start (linesOf t)) (sym (text-lines t h)) (lines-ended 1 (linesOf t) start)
+-- 1 is tested first, then lines in turn
+pub outcome-iff : (t : List ℕ) (o : Outcome) → (readText t ≡ o) ↔ Comes t o
+outcome-iff t o = (into, back)
+  where
+    into : readText t ≡ o → Comes t o
+    into e = elim (decided (ltb mostBytes (length t))) [
+      | inl h ↦ (let k = ltb-true mostBytes (length t) h in inl (k, sym e ∙ text-long t k))
+      | inr h ↦ (let k = ltb-false mostBytes (length t) h in
+          inr (k, subst (Ended 1 start (linesOf t)) (sym (text-lines t k) ∙ e) (lines-ended 1 (linesOf t) start)))
+    ]
+
+    back : Comes t o → readText t ≡ o
+    back (inl (h, e)) = text-long t h ∙ sym e
+    back (inr (h, e)) = text-lines t h ∙ ended-lines 1 e
 
 -- ---- what is accepted
+
+pub accepted-ended : (t : List ℕ) (s : State) → readText t ≡ accepted s → Ended 1 start (linesOf t) (accepted s)
+accepted-ended t s e = elim ((outcome-iff t (accepted s)) .0 e) [
+  | inl (h, p) ↦ (let z : _≡_ {A = ℕ} 0 1 = cc in absurd (omega arith))
+  | inr (h, p) ↦ p
+]
 
 there : (most : ℕ) (o : Option ℕ) → missing o ≡ false → within most o ≡ true → (n : ℕ) × (o ≡ some n) × (1 ≤ n) × (n ≤ most)
 there most none e h = clash refl e
@@ -113,78 +122,35 @@ done-complete c s g d =
       },
     )
 
-ended-complete : {k : ℕ} {s : State} {ls : List (List ℕ)} {o : Outcome} → Bounded s → Ended k s ls o
-    → (t : State) → o ≡ accepted t → (n : ℕ) × (m : ℕ) × Complete t n m
-ended-complete g (whole a l b {t = u} r d) t e = let q : u ≡ t = cc in
-    subst (λ (z : State). (n : ℕ) × (m : ℕ) × Complete z n m) q (done-complete (content l) u (read-bounded r g) d)
-ended-complete g (stopped a l b r d) t e = let z : _≡_ {A = ℕ} 0 1 = cc in absurd (omega arith)
-ended-complete g (short a r) t e = let z : _≡_ {A = ℕ} 0 1 = cc in absurd (omega arith)
+ended-complete : {k : ℕ} {s t : State} {ls : List (List ℕ)} → Bounded s → Ended k s ls (accepted t) → (n : ℕ) × (m : ℕ) × Complete t n m
+ended-complete {t = t} g (whole a l b r d) = done-complete (content l) t (read-bounded r g) d
 
 -- a table that is accepted has its inputs and outputs, few enough rows, and cube lines of that many places and marks
 pub accepted-complete : (t : List ℕ) (s : State) → readText t ≡ accepted s → (n : ℕ) × (m : ℕ) × Complete s n m
-accepted-complete t s e = go (ltb mostBytes (length t)) refl
-  where
-    go : (b : Bool) → ltb mostBytes (length t) ≡ b → (n : ℕ) × (m : ℕ) × Complete s n m
-    go true h = let q = text-long t (ltb-true mostBytes (length t) h) in let z : _≡_ {A = ℕ} 0 1 = cc in absurd (omega arith)
-    go false h = ended-complete start-bounded (text-ended t (ltb-false mostBytes (length t) h)) s e
+accepted-complete t s e = ended-complete start-bounded (accepted-ended t s e)
 
 -- ---- what each number is given for
 
--- 1 is tested first, then lines in turn
-abbrev Comes : List ℕ → Outcome → Type 0
-Comes t o = ((mostBytes < length t) × (o ≡ refusedAt 1 0)) ⊎ ((length t ≤ mostBytes) × Ended 1 start (linesOf t) o)
-
-pub outcome-iff : (t : List ℕ) (o : Outcome) → (readText t ≡ o) ↔ Comes t o
-outcome-iff t o = (into, back)
-  where
-    into : readText t ≡ o → Comes t o
-    into e = go (ltb mostBytes (length t)) refl
-      where
-        go : (b : Bool) → ltb mostBytes (length t) ≡ b → Comes t o
-        go true h = let k = ltb-true mostBytes (length t) h in inl (k, sym e ∙ text-long t k)
-        go false h = let k = ltb-false mostBytes (length t) h in inr (k, subst (Ended 1 start (linesOf t)) e (text-ended t k))
-
-    back : Comes t o → readText t ≡ o
-    back (inl (h, e)) = text-long t h ∙ sym e
-    back (inr (h, e)) = text-lines t h ∙ ended-lines 1 e
-
--- the number and the line of a refusal, where the text is not too long
-data Known (k : ℕ) (ls : List (List ℕ)) : Outcome → Type 0 where
-  good : (s : State) → Known k ls (accepted s)
-  bad : (r n : ℕ) → isLine r ≡ true → k ≤ n → n < k + length ls → Known k ls (refusedAt r n)
-  five : Known k ls (refusedAt 5 0)
-
-known : {k : ℕ} {s : State} {ls : List (List ℕ)} {o : Outcome} → Ended k s ls o → Known k ls o
-known (whole a l b {t = t} r d) = good t
-known {k} (stopped a l b {r = q} r d) = bad q (k + length a) (refuses-line d) (omega arith) (omega (arith, length-append a (l ∷ b)))
-known (short a r) = five
-
--- a refusal that is known
-refused-inj : {p q : Refusal} → refused p ≡ refused q → p ≡ q
-refused-inj e = cc
-
-known-refused : {k : ℕ} {ls : List (List ℕ)} {o : Outcome} → Known k ls o → (q : Refusal) → o ≡ refused q
+-- where the text is not too long: 5 at line 0, or another number at its line
+ended-refused : {k : ℕ} {s : State} {ls : List (List ℕ)} {q : Refusal} → Ended k s ls (refused q)
     → ((q .number ≡ 5) × (q .line ≡ 0)) ⊎ ((isLine (q .number) ≡ true) × (k ≤ q .line) × (q .line < k + length ls))
-known-refused (good s) q e = let z : _≡_ {A = ℕ} 0 1 = cc in absurd (omega arith)
-known-refused {k} {ls} (bad r n i a b) q e =
-    subst (λ (z : Refusal). ((z .number ≡ 5) × (z .line ≡ 0)) ⊎ ((isLine (z .number) ≡ true) × (k ≤ z .line) × (z .line < k + length ls))) (refused-inj e)
-    (inr (i, a, b))
-known-refused five q e = let w = refused-inj e in inl (sym (ap (λ (z : Refusal). z .number) w), sym (ap (λ (z : Refusal). z .line) w))
+ended-refused (stopped a l b r d) = inr (refuses-line d, omega arith, omega (arith, length-append a (l ∷ b)))
+ended-refused (short a r) = inl (refl, refl)
 
 -- 1 and 5 report line 0, the others their line, from 1 to the last of a text that is not too long
 pub refused-line : (t : List ℕ) (q : Refusal) → readText t ≡ refused q → ((q .number ≡ 1) × (q .line ≡ 0))
     ⊎ (((q .number ≡ 5) × (q .line ≡ 0)) ⊎ ((isLine (q .number) ≡ true) × (1 ≤ q .line) × (q .line ≤ length (linesOf t)) × (length t ≤ mostBytes)))
-refused-line t q e = go ((outcome-iff t (refused q)) .0 e)
-  where
-    go : Comes t (refused q) → ((q .number ≡ 1) × (q .line ≡ 0))
-        ⊎ (((q .number ≡ 5) × (q .line ≡ 0)) ⊎ ((isLine (q .number) ≡ true) × (1 ≤ q .line) × (q .line ≤ length (linesOf t)) × (length t ≤ mostBytes)))
-    go (inl (h, p)) = let w = refused-inj p in inl (ap (λ (z : Refusal). z .number) w, ap (λ (z : Refusal). z .line) w)
-    go (inr (h, p)) = inr (⊎-elim (λ k. inl k) (λ k. inr (k .0, k .1, omega (arith, k .2), h)) (known-refused (known p) q refl))
+refused-line t q e = elim ((outcome-iff t (refused q)) .0 e) [
+  | inl (h, p) ↦ (let w : q ≡ record { number = 1; line = 0 } = cc in inl (ap (λ (z : Refusal). z .number) w, ap (λ (z : Refusal). z .line) w))
+  | inr (h, p) ↦ inr (⊎-elim (λ k. inl k) (λ k. inr (k .0, k .1, omega (arith, k .2), h)) (ended-refused p))
+]
 
 -- 1: text over 65,536 bytes
 pub refused-one : (t : List ℕ) → (readText t ≡ refusedAt 1 0) ↔ (mostBytes < length t)
-refused-one t = (λ e. into ((outcome-iff t (refusedAt 1 0)) .0 e), text-long t)
+refused-one t = (into, text-long t)
   where
-    into : Comes t (refusedAt 1 0) → mostBytes < length t
-    into (inl (h, p)) = h
-    into (inr (h, p)) = absurd (⊎-elim (λ k. omega (arith, k .0)) (λ k. clash (k .0) none-one) (known-refused (known p) (record { number = 1; line = 0 }) refl))
+    into : readText t ≡ refusedAt 1 0 → mostBytes < length t
+    into e = elim ((outcome-iff t (refusedAt 1 0)) .0 e) [
+      | inl (h, p) ↦ h
+      | inr (h, p) ↦ absurd (⊎-elim (λ k. omega (arith, k .0)) (λ k. clash (k .0) none-one) (ended-refused p))
+    ]

@@ -31,7 +31,7 @@ use Rattle.table.specs.Answers.{Told}
 use Rattle.table.proofs.Marking.{marked-few}
 use Rattle.table.proofs.Reasons.{next-iff}
 use Rattle.table.proofs.Going.{start-bounded, goes-bounded, goes-more}
-use Rattle.table.proofs.Refusals.{lines-on, lines-done, lines-refuse, lines-end, text-lines}
+use Rattle.table.proofs.Refusals.{lines-turn, lines-end, text-lines}
 
 -- ---- the lines of a text, from a byte on
 
@@ -54,27 +54,28 @@ module _ (text : List ℕ) (at : ℕ) where
     line-part e q = let n : e - at ≡ length (lineOf rest) = omega arith in ap (λ (k : ℕ). take k rest) n ∙ sym (line-take rest)
 
   -- what is left of the line stands at its span in the text too
-  module _ (h : at ≤ length text) {e : ℕ} (q : e ≡ stop) {z : Span} (w : z ≡ contentSpan (take (e - at) rest)) where
-    span-ends : z .end ≤ e - at
-    span-ends =
-        let k : length (take (e - at) rest) ≡ e - at = ap length (line-part h e q) ∙ omega arith in
-        omega (arith, ap (λ (s : Span). s .end) w, span-inside (take (e - at) rest), k)
+  pub record Remains (e : ℕ) (z : Span) : Type 0 where
+    pub ordered : z .start ≤ z .end
+    pub within : at + z .end ≤ length text
+    pub part : take ((at + z .end) - (at + z .start)) (drop (at + z .start) text) ≡ content (take (e - at) rest)
 
-    pub span-within : at + z .end ≤ length text
-    span-within = omega (arith, span-ends, stop-le h)
-
-    pub span-ordered : z .start ≤ z .end
-    span-ordered = omega (arith, ap (λ (s : Span). s .start) w, ap (λ (s : Span). s .end) w)
-
-    pub span-part : take ((at + z .end) - (at + z .start)) (drop (at + z .start) text) ≡ content (take (e - at) rest)
-    span-part =
-        let p = take (e - at) rest in
-        let s = contentSpan p in
-        let k : (at + z .end) - (at + z .start) ≡ s .end - s .start = omega (arith, ap (λ (x : Span). x .start) w, ap (λ (x : Span). x .end) w) in
-        ap₂ take k (ap (λ (x : Span). drop (at + x .start) text) w ∙ sym (drop-drop (s .start) at text)
-        ∙ ap (drop (s .start)) (sym (take-append-drop (e - at) rest)))
-        ∙ part-front p (drop (e - at) rest) (s .start) (s .end) (omega arith) (span-inside p)
-        ∙ span-content p
+  pub left-there : {e : ℕ} {z : Span} → at ≤ length text → e ≡ stop → z ≡ contentSpan (take (e - at) rest) → Remains e z
+  left-there {e} {z} h q w =
+      let p = take (e - at) rest in
+      let s = contentSpan p in
+      let i : z .start ≡ s .start = ap (λ (x : Span). x .start) w in
+      let j : z .end ≡ s .end = ap (λ (x : Span). x .end) w in
+      let n : length p ≡ e - at = ap length (line-part h e q) ∙ omega arith in
+      let k : (at + z .end) - (at + z .start) ≡ s .end - s .start = omega arith in
+      record {
+        ordered = omega arith;
+        within = omega (arith, span-inside p, stop-le h);
+        part =
+            ap₂ take k (ap (λ (x : Span). drop (at + x .start) text) w ∙ sym (drop-drop (s .start) at text)
+            ∙ ap (drop (s .start)) (sym (take-append-drop (e - at) rest)))
+            ∙ part-front p (drop (e - at) rest) (s .start) (s .end) (omega arith) (span-inside p)
+            ∙ span-content p;
+      }
 
   from-next : (e : ℕ) → e ≡ stop → at ≤ length text → linesFrom text at ≡ lineOf rest ∷ linesFrom text (e + 1)
   from-next e q h = ap (λ (b : Bool). cond b (linesOf rest) []) (le-leb at (length text) h) ∙ go (stand e (length text))
@@ -130,7 +131,7 @@ module _ {text words marks : List ℕ} {s : State} {line at : ℕ} (r : Reading 
   reading-over h =
       let e : readLines 1 (linesOf text) start ≡ table.refusedAt 5 0 =
       sym (r .left) ∙ ap (λ (l : List (List ℕ)). readLines line l (r .now)) (from-over text at h) ∙ lines-end line (r .now) in
-      subst (λ (o : table.Outcome). Scans o (record { answer = answer.Refused (record { number = 5; line = 0 }); state = s }) words marks) (sym e) refl
+      rw e
 
   abbrev here : List ℕ
   here = lineOf (drop at text)
@@ -144,14 +145,11 @@ module _ {text words marks : List ℕ} {s : State} {line at : ℕ} (r : Reading 
     turned = subst (λ (l : List ℕ). LineTurned (byKind (kindOf l) l (r .now)) p words' marks') (k ∙ ap content (line-part text at h e q))
         (f (r .now) (r .good) (r .stands))
 
-    turned-as : {z : Turn} → p ≡ z → LineTurned (readLine here (r .now)) z words' marks'
-    turned-as i = subst (λ (z : Turn). LineTurned (readLine here (r .now)) z words' marks') i turned
-
     whole : readLines line (here ∷ linesFrom text (e + 1)) (r .now) ≡ readLines 1 (linesOf text) start
     whole = ap (λ (l : List (List ℕ)). readLines line l (r .now)) (sym (from-next text at e q h)) ∙ r .left
 
     pub reading-next : (s' : State) → p ≡ Next s' → Reading text words' marks' s' (line + 1) (e + 1)
-    reading-next s' i = go (readLine here (r .now)) refl (turned-as i)
+    reading-next s' i = go (readLine here (r .now)) refl (rw i at turned)
       where
         go : (x : table.Turn) → readLine here (r .now) ≡ x → LineTurned x (Next s') words' marks' → Reading text words' marks' s' (line + 1) (e + 1)
         go (table.next t) y z = let g = (next-iff here (r .now) t) .0 y in record {
@@ -159,43 +157,33 @@ module _ {text words marks : List ℕ} {s : State} {line at : ℕ} (r : Reading 
           good = goes-bounded (r .good) g;
           stands = z;
           few = omega (arith, r .few, goes-more g);
-          left = ap (λ (n : ℕ). readLines n (linesFrom text (e + 1)) t) (add-one line) ∙ sym (lines-on line here (linesFrom text (e + 1)) (r .now) y) ∙ whole;
+          left = ap (λ (n : ℕ). readLines n (linesFrom text (e + 1)) t) (add-one line) ∙ sym (lines-turn line here (linesFrom text (e + 1)) (r .now) y) ∙ whole;
         }
         go (table.done t) y z = absurd z
         go (table.refuse n) y z = absurd z
 
-    reading-done : (s' : State) → p ≡ Done s' → Scans (readLines 1 (linesOf text) start) (record { answer = answer.Read; state = s' }) words' marks'
-    reading-done s' i = go (readLine here (r .now)) refl (turned-as i)
-      where
-        go : (x : table.Turn) → readLine here (r .now) ≡ x → LineTurned x (Done s') words' marks'
-            → Scans (readLines 1 (linesOf text) start) (record { answer = answer.Read; state = s' }) words' marks'
-        go (table.next t) y z = absurd z
-        go (table.done t) y z =
-            subst (λ (o : table.Outcome). Scans o (record { answer = answer.Read; state = s' }) words' marks')
-            (sym (lines-done line here (linesFrom text (e + 1)) (r .now) y) ∙ whole) (refl, z)
-        go (table.refuse n) y z = absurd z
-
-    reading-refuse : (n : ℕ) → p ≡ Refused n → Scans (readLines 1 (linesOf text) start)
-        (record { answer = answer.Refused (record { number = n; line = line }); state = s }) words' marks'
-    reading-refuse n i = go (readLine here (r .now)) refl (turned-as i)
-      where
-        go : (x : table.Turn) → readLine here (r .now) ≡ x → LineTurned x (Refused n) words' marks'
-            → Scans (readLines 1 (linesOf text) start) (record { answer = answer.Refused (record { number = n; line = line }); state = s }) words' marks'
-        go (table.next t) y z = absurd z
-        go (table.done t) y z = absurd z
-        go (table.refuse m) y z =
-            subst (λ (o : table.Outcome). Scans o (record { answer = answer.Refused (record { number = n; line = line }); state = s }) words' marks')
-            (sym (lines-refuse line here (linesFrom text (e + 1)) (r .now) y) ∙ whole)
-            (ap (λ (v : ℕ). answer.Refused (record { number = v; line = line })) z)
-
     -- a line that does not go on gives the outcome
     pub reading-stop : ((s' : State) → p ≡ Next s' → ⊥) → Scans (readLines 1 (linesOf text) start) (stoppedAt p line s) words' marks'
-    reading-stop f = go p refl
+    reading-stop f = go (readLine here (r .now)) refl p refl turned
       where
-        go : (z : Turn) → p ≡ z → Scans (readLines 1 (linesOf text) start) (stoppedAt z line s) words' marks'
-        go (Next s') i = absurd (f s' i)
-        go (Done s') i = reading-done s' i
-        go (Refused n) i = reading-refuse n i
+        came : {x : table.Turn} → readLine here (r .now) ≡ x → readLines 1 (linesOf text) start
+            ≡ elim x [
+              | table.next t ↦ readLines (suc line)
+                  (linesFrom text (e + 1)) t
+              | table.done t ↦ table.accepted t
+              | table.refuse n ↦ table.refusedAt n line
+            ]
+        came y = sym whole ∙ lines-turn line here (linesFrom text (e + 1)) (r .now) y
+
+        go : (x : table.Turn) → readLine here (r .now) ≡ x → (z : Turn) → p ≡ z → LineTurned x z words' marks'
+            → Scans (readLines 1 (linesOf text) start) (stoppedAt z line s) words' marks'
+        go x y (Next s') i d = absurd (f s' i)
+        go (table.next t) y (Done s') i d = absurd d
+        go (table.next t) y (Refused n) i d = absurd d
+        go (table.done t) y (Done s') i d = rw (came y) (refl, d)
+        go (table.done t) y (Refused n) i d = absurd d
+        go (table.refuse m) y (Done s') i d = absurd d
+        go (table.refuse m) y (Refused n) i d = rw (came y) (ap (λ (v : ℕ). answer.Refused (record { number = v; line = line })) d)
 
 -- ---- the answer to a whole text
 
@@ -218,4 +206,4 @@ module _ (words marks : List ℕ) where
     text-read e = let r = scans-read (readLines 1 (linesOf text) start) x h e in (r .0, text-lines text short ∙ r .1, r .2)
 
     pub text-refused : (r : Table) (q : Refusal) → x .answer ≡ answer.Refused q → (r .answer ≡ x .answer) × Blank (r .network) → Told (readText text) r
-    text-refused r q e b = subst (λ (o : table.Outcome). Told o r) (sym (text-lines text short)) (scans-refused (readLines 1 (linesOf text) start) x r h q e b)
+    text-refused r q e b = rw (text-lines text short) (scans-refused (readLines 1 (linesOf text) start) x r h q e b)

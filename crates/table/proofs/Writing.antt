@@ -1,50 +1,47 @@
 -- What was read of an accepted text is what is written in it: each line adds what it says, and what all say is found in their order. Assumes nothing.
 use Prim.Native.Nat.{ℕ, _≤_}
 use mathlib.Core.Path.{_≡_, refl, sym, ap, _∙_, subst}
-use mathlib.Core.Bool.{Bool, true, false}
+use mathlib.Core.Bool.{false}
 use mathlib.Core.List.{List, [], _∷_, _++_, append-nil, append-assoc}
 use mathlib.Core.Option.{Option, none, some}
 use native.Mathlib.Omega.{arith}
-use lib.Dec.{ltb}
-use lib.ListN.{length, getD}
-use borrow.Author.Tests.{ltb-true, ltb-false}
+use lib.ListN.{getD}
 use Rattle.table_lines.specs.Text.{content}
 use Rattle.table_kinds.specs.Kinds.{kindOf}
-use Rattle.table_kinds.specs.Meaning.{Known, empty, inputs, outputs, products, shortEnd, longEnd, OfKind, known, other}
+use Rattle.table_kinds.specs.Meaning.{Spelled, bare, dotI, dotO, dotP, dotE, dotEnd, OfKind, known, another}
 use Rattle.table_kinds.specs.declared.Kind.{Kind}
 use Rattle.table_kinds.specs.declared.Kind.the-variants.{End, Other}
 use Rattle.table_kinds.proofs.Kinding.{kind-iff}
 use Rattle.table_rows.specs.Lines.{isPlace, cubeLineOf}
 use Rattle.table_rows.proofs.Writing.{line-none}
-use Rattle.table.specs.Table.{State, start, Outcome, accepted, readText, mostBytes}
-use Rattle.table.specs.Written.{isEnd, beforeEnd, linesRead, listed, found, inputsNumber, outputsNumber, productsNumber}
+use Rattle.table.specs.Table.{State, start, accepted, readText}
+use Rattle.table.specs.Written.{isEnd, beforeEnd, listed, found, inputsNumber, outputsNumber, productsNumber}
 use Rattle.table.specs.Written.{inputsIn, outputsIn, inputsOf, outputsOf}
-use Rattle.table.specs.Meaning.{Goes, blank, Reads, nothing, line, Ended, whole, stopped, short, Says}
-use Rattle.table.specs.Meaning as goes
-use Rattle.table.proofs.Refusals.{text-long, text-ended, accepted-complete}
+use Rattle.table.specs.Meaning.{Goes, blank, inputs, outputs, products, cube, Reads, nothing, line, Ended, whole, Says}
+use Rattle.table.proofs.Refusals.{accepted-ended, accepted-complete}
 
 -- ---- a line of a known kind is no cube line
 
-not-place : {c : List ℕ} {k : Kind} → Known c k → (b : ℕ) (t : List ℕ) → c ≡ b ∷ t → isPlace b ≡ false
+not-place : {c : List ℕ} {k : Kind} → Spelled c k → (b : ℕ) (t : List ℕ) → c ≡ b ∷ t → isPlace b ≡ false
 not-place {c} h b t e = go h
   where
     dot : (d : List ℕ) → c ≡ 46 ∷ d → isPlace b ≡ false
     dot d q = let x : 46 ≡ b = cc in subst (λ (z : ℕ). isPlace z ≡ false) x refl
 
-    go : {k : Kind} → Known c k → isPlace b ≡ false
-    go (empty q) = let z : _≡_ {A = ℕ} 0 1 = cc in absurd (omega arith)
-    go (inputs n w) = dot _ (w .text)
-    go (outputs n w) = dot _ (w .text)
-    go (products n w) = dot _ (w .text)
-    go (shortEnd q) = dot _ q
-    go (longEnd q) = dot _ q
+    go : {k : Kind} → Spelled c k → isPlace b ≡ false
+    go (bare q) = let z : _≡_ {A = ℕ} 0 1 = cc in absurd (omega arith)
+    go (dotI n w) = dot _ (w .text)
+    go (dotO n w) = dot _ (w .text)
+    go (dotP n w) = dot _ (w .text)
+    go (dotE q) = dot _ q
+    go (dotEnd q) = dot _ q
 
 no-line : (n m : ℕ) (c : List ℕ) {k : Kind} → kindOf c ≡ k → (k ≡ Other → ⊥) → 1 ≤ n → cubeLineOf n m c ≡ none
 no-line n m c {k} e f h = go ((kind-iff c k) .0 e) f
   where
     go : {j : Kind} → OfKind c j → (j ≡ Other → ⊥) → cubeLineOf n m c ≡ none
     go (known w) f = line-none n m c (not-place w) h
-    go (other w) f = absurd (f refl)
+    go (another w) f = absurd (f refl)
 
 -- ---- what lines add to what was read
 
@@ -59,45 +56,26 @@ module _ {A : Type 0} (view : State → List A) (f : List ℕ → Option A) wher
       ∙ ap (_++ found f ls) (one s v (content l) ls g r)
       ∙ append-assoc (view s) (listed (f (content l))) (found f ls)
 
-module _ {s : State} {c : List ℕ} where
-  goes-wide : {t : State} → Goes s c t → listed (t .wide) ≡ listed (s .wide) ++ listed (inputsNumber (kindOf c))
-  goes-wide (blank k) = rw k (sym (append-nil _))
-  goes-wide (goes.inputs n k h a b) = rw (k, h .new)
-  goes-wide (goes.outputs n k h a b) = rw k (sym (append-nil _))
-  goes-wide (goes.products n k h b) = rw k (sym (append-nil _))
-  goes-wide (goes.cube n m l k p q e h) = rw k (sym (append-nil _))
-
-  goes-tall : {t : State} → Goes s c t → listed (t .tall) ≡ listed (s .tall) ++ listed (outputsNumber (kindOf c))
-  goes-tall (blank k) = rw k (sym (append-nil _))
-  goes-tall (goes.inputs n k h a b) = rw k (sym (append-nil _))
-  goes-tall (goes.outputs n k h a b) = rw (k, h .new)
-  goes-tall (goes.products n k h b) = rw k (sym (append-nil _))
-  goes-tall (goes.cube n m l k p q e h) = rw k (sym (append-nil _))
-
-  goes-stated : {t : State} → Goes s c t → listed (t .stated) ≡ listed (s .stated) ++ listed (productsNumber (kindOf c))
-  goes-stated (blank k) = rw k (sym (append-nil _))
-  goes-stated (goes.inputs n k h a b) = rw k (sym (append-nil _))
-  goes-stated (goes.outputs n k h a b) = rw k (sym (append-nil _))
-  goes-stated (goes.products n k h b) = rw (k, h .new)
-  goes-stated (goes.cube n m l k p q e h) = rw k (sym (append-nil _))
-
-  -- it does not end the table
-  goes-on : {t : State} → Goes s c t → isEnd (kindOf c) ≡ false
-  goes-on (blank k) = rw k
-  goes-on (goes.inputs n k h a b) = rw k
-  goes-on (goes.outputs n k h a b) = rw k
-  goes-on (goes.products n k h b) = rw k
-  goes-on (goes.cube n m l k p q e h) = rw k
+-- a line that goes on adds the number that it says, and does not end the table
+goes-adds : {s t : State} {c : List ℕ} → Goes s c t → (listed (t .wide) ≡ listed (s .wide) ++ listed (inputsNumber (kindOf c)))
+    × (listed (t .tall) ≡ listed (s .tall) ++ listed (outputsNumber (kindOf c)))
+    × (listed (t .stated) ≡ listed (s .stated) ++ listed (productsNumber (kindOf c)))
+    × (isEnd (kindOf c) ≡ false)
+goes-adds (blank k) = rw k (sym (append-nil _), sym (append-nil _), sym (append-nil _), refl)
+goes-adds (inputs n k h a b) = rw (k, h .new) (refl, sym (append-nil _), sym (append-nil _), refl)
+goes-adds (outputs n k h a b) = rw (k, h .new) (sym (append-nil _), refl, sym (append-nil _), refl)
+goes-adds (products n k h b) = rw (k, h .new) (sym (append-nil _), sym (append-nil _), refl, refl)
+goes-adds (cube n m l k p q e h) = rw k (sym (append-nil _), sym (append-nil _), sym (append-nil _), refl)
 
 module _ {s t : State} {ls : List (List ℕ)} (r : Reads s ls t) where
   read-wide : listed (t .wide) ≡ listed (s .wide) ++ found (λ c. inputsNumber (kindOf c)) ls
-  read-wide = read-found (λ (u : State). listed (u .wide)) (λ c. inputsNumber (kindOf c)) r (λ u v c ms g m. goes-wide g)
+  read-wide = read-found (λ (u : State). listed (u .wide)) (λ c. inputsNumber (kindOf c)) r (λ u v c ms g m. goes-adds g .0)
 
   read-tall : listed (t .tall) ≡ listed (s .tall) ++ found (λ c. outputsNumber (kindOf c)) ls
-  read-tall = read-found (λ (u : State). listed (u .tall)) (λ c. outputsNumber (kindOf c)) r (λ u v c ms g m. goes-tall g)
+  read-tall = read-found (λ (u : State). listed (u .tall)) (λ c. outputsNumber (kindOf c)) r (λ u v c ms g m. goes-adds g .1)
 
   read-stated : listed (t .stated) ≡ listed (s .stated) ++ found (λ c. productsNumber (kindOf c)) ls
-  read-stated = read-found (λ (u : State). listed (u .stated)) (λ c. productsNumber (kindOf c)) r (λ u v c ms g m. goes-stated g)
+  read-stated = read-found (λ (u : State). listed (u .stated)) (λ c. productsNumber (kindOf c)) r (λ u v c ms g m. goes-adds g .2)
 
 -- a number that is there is the last
 stays : {o p : Option ℕ} {n k : ℕ} (l : List ℕ) → listed o ≡ listed p ++ l → p ≡ some k → o ≡ some n → k ≡ n
@@ -112,10 +90,10 @@ module _ (n m : ℕ) (t : State) (wide : t .wide ≡ some n) (tall : t .tall ≡
 
       go : {u : State} {ls : List (List ℕ)} → Goes s c u → Reads u ls t → u .lines ≡ s .lines ++ listed (cubeLineOf n m c)
       go (blank k) r = unchanged k (λ e. let z : _≡_ {A = ℕ} 0 1 = cc in omega arith)
-      go (goes.inputs j k h a b) r = unchanged k (λ e. let z : _≡_ {A = ℕ} 0 1 = cc in omega arith)
-      go (goes.outputs j k h a b) r = unchanged k (λ e. let z : _≡_ {A = ℕ} 0 1 = cc in omega arith)
-      go (goes.products j k h b) r = unchanged k (λ e. let z : _≡_ {A = ℕ} 0 1 = cc in omega arith)
-      go (goes.cube i j l k p q e h) r =
+      go (inputs j k h a b) r = unchanged k (λ e. let z : _≡_ {A = ℕ} 0 1 = cc in omega arith)
+      go (outputs j k h a b) r = unchanged k (λ e. let z : _≡_ {A = ℕ} 0 1 = cc in omega arith)
+      go (products j k h b) r = unchanged k (λ e. let z : _≡_ {A = ℕ} 0 1 = cc in omega arith)
+      go (cube i j l k p q e h) r =
           let x : i ≡ n = stays _ (read-wide r) p wide in
           let y : j ≡ m = stays _ (read-tall r) q tall in
           let z : cubeLineOf n m c ≡ some l = subst (λ (d : ℕ). cubeLineOf n d c ≡ some l) y (subst (λ (d : ℕ). cubeLineOf d j c ≡ some l) x e) in
@@ -129,29 +107,18 @@ read-before : {s t : State} {ls : List (List ℕ)} (l : List ℕ) (rest : List (
     → beforeEnd (ls ++ (l ∷ rest)) ≡ ls
 unfolding beforeEnd
 read-before l rest nothing e = rw e
-read-before l rest (line {l = x} g r) e = rw (goes-on g) (ap (λ (z : List (List ℕ)). x ∷ z) (read-before l rest r e))
+read-before l rest (line {l = x} g r) e = rw (goes-adds g .3) (ap (λ (z : List (List ℕ)). x ∷ z) (read-before l rest r e))
 
 -- ---- a whole text
 
 -- of an accepted text the lines before `.e` were read, from nothing on
-ended-accepted : {ls : List (List ℕ)} {o : Outcome} → Ended 1 start ls o → (s : State) → o ≡ accepted s → Reads start (beforeEnd ls) s
-ended-accepted (whole a l b {t = u} r d) s e =
-    let q : u ≡ s = cc in subst (Reads start (beforeEnd (a ++ (l ∷ b)))) q
-    (subst (λ (z : List (List ℕ)). Reads start z u) (sym (read-before l b r (d .kind))) r)
-ended-accepted (stopped a l b r d) s e = let z : _≡_ {A = ℕ} 0 1 = cc in absurd (omega arith)
-ended-accepted (short a r) s e = let z : _≡_ {A = ℕ} 0 1 = cc in absurd (omega arith)
-
-accepted-read : (t : List ℕ) (s : State) → readText t ≡ accepted s → Reads start (linesRead t) s
-accepted-read t s e = go (ltb mostBytes (length t)) refl
-  where
-    go : (b : Bool) → ltb mostBytes (length t) ≡ b → Reads start (linesRead t) s
-    go true h = let q = text-long t (ltb-true mostBytes (length t) h) in let z : _≡_ {A = ℕ} 0 1 = cc in absurd (omega arith)
-    go false h = ended-accepted (text-ended t (ltb-false mostBytes (length t) h)) s e
+ended-read : {ls : List (List ℕ)} {s : State} → Ended 1 start ls (accepted s) → Reads start (beforeEnd ls) s
+ended-read (whole a l b r d) = rw (read-before l b r (d .kind)) r
 
 -- of an accepted text was read what it says
 pub read-lines : (t : List ℕ) (s : State) → readText t ≡ accepted s → Says t s
 read-lines t s e =
-    let r = accepted-read t s e in
+    let r = ended-read (accepted-ended t s e) in
     let c = accepted-complete t s e in
     let w : inputsIn t ≡ c .0 ∷ [] = sym (read-wide r) ∙ ap listed (c .2 .wide) in
     let u : outputsIn t ≡ c .1 ∷ [] = sym (read-tall r) ∙ ap listed (c .2 .tall) in

@@ -9,14 +9,14 @@ use lib.ListN.{length}
 use Rattle.sets.specs.Lists.{total, isNil}
 use Rattle.sets.specs.Sets.{mem}
 use Rattle.network.specs.Held.{mostInputs, mostOutputs, upTo}
-use Rattle.table_lines.specs.Text.{content}
+use Rattle.table_lines.specs.Text.{linesOf, content}
 use Rattle.table_kinds.specs.Kinds.{kindOf}
 use Rattle.table_rows.specs.Lines.{CubeLine, cubeLineOf, rowsIn}
 use Rattle.table_rows.specs.Meaning.{LineOf}
 use Rattle.table_kinds.specs.declared.Kind.the-variants.{Empty, Inputs, Outputs, Products, End, Other}
 use Rattle.table.specs.Written.{listed, inputsIn, outputsIn, productsIn, inputsOf, outputsOf, cubeLinesOf}
 use Rattle.table.specs.Table.{State, Turn, next, done, refuse, missing, rightCount, Outcome, accepted, refusedAt, orZero}
-use Rattle.table.specs.Table.{mostProducts, mostRows}
+use Rattle.table.specs.Table.{start, mostBytes, mostProducts, mostRows}
 
 -- from 1 to the most, where it is there
 abbrev pub within : ℕ → Option ℕ → Bool
@@ -105,9 +105,9 @@ isLine k = mem k (2 ∷ 3 ∷ 4 ∷ 6 ∷ [])
 
 -- what a line does
 pub data Does (s : State) (c : List ℕ) : Turn → Type 0 where
-  goes : {t : State} → Goes s c t → Does s c (next t)
-  closes : Closes s c → Does s c (done s)
-  refuses : {r : ℕ} → Refuses s c r → Does s c (refuse r)
+  going : {t : State} → Goes s c t → Does s c (next t)
+  closing : Closes s c → Does s c (done s)
+  refusing : {r : ℕ} → Refuses s c r → Does s c (refuse r)
 
 -- lines read in turn from s to t, none of which is the last or refused
 pub data Reads : State → List (List ℕ) → State → Type 0 where
@@ -122,6 +122,10 @@ pub data Ended (k : ℕ) (s : State) : List (List ℕ) → Outcome → Type 0 wh
   stopped : (ls : List (List ℕ)) (l : List ℕ) (rest : List (List ℕ)) {t : State} {r : ℕ}
       → Reads s ls t → Refuses t (content l) r → Ended k s (ls ++ (l ∷ rest)) (refusedAt r (k + length ls))
   short : (ls : List (List ℕ)) {t : State} → Reads s ls t → Ended k s ls (refusedAt 5 0)
+
+-- the outcome of a text: 1 is tested first, then lines in turn
+abbrev pub Comes : List ℕ → Outcome → Type 0
+Comes t o = ((mostBytes < length t) × (o ≡ refusedAt 1 0)) ⊎ ((length t ≤ mostBytes) × Ended 1 start (linesOf t) o)
 
 -- ---- what was read is what is written: `.i` and `.o` once each, `.p` at most once, and the cube lines in their order
 

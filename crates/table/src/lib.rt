@@ -19,15 +19,15 @@ ghost use Rattle.table.specs.Parts.{Numbers, Answers, Roomy, Keeps, Leav
 ghost use Rattle.table.specs.Parts.{pick, Room, formed, Buildable, netFrom};
 
 // The limits of a table.
-const BYTES: usize = 65536;
+const MOST_BYTES: usize = 65536;
 
-const INPUTS: u32 = network::INPUTS as u32;
+const MOST_INPUTS: u32 = network::INPUTS as u32;
 
-const OUTPUTS: u32 = network::OUTPUTS as u32;
+const MOST_OUTPUTS: u32 = network::OUTPUTS as u32;
 
-const PRODUCTS: u32 = 32768;
+const MOST_PRODUCTS: u32 = 32768;
 
-const ROWS: u64 = 1024;
+const MOST_ROWS: u64 = 1024;
 
 // The number and the line of a refusal.
 pub struct Refusal {
@@ -90,7 +90,7 @@ fn set_inputs(s: State, n: u32) -> Turn
 {
     let mut t = s;
     t.inputs = n as usize;
-    number_line(t, s.inputs, 1, n, INPUTS)
+    number_line(t, s.inputs, 1, n, MOST_INPUTS)
 }
 
 // `.o N`.
@@ -99,7 +99,7 @@ fn set_outputs(s: State, n: u32) -> Turn
 {
     let mut t = s;
     t.outputs = n as usize;
-    number_line(t, s.outputs, 1, n, OUTPUTS)
+    number_line(t, s.outputs, 1, n, MOST_OUTPUTS)
 }
 
 // `.p N`.
@@ -108,7 +108,7 @@ fn set_stated(s: State, n: u32) -> Turn
 {
     let mut t = s;
     t.stated = n as usize + 1;
-    number_line(t, s.stated, 0, n, PRODUCTS)
+    number_line(t, s.stated, 0, n, MOST_PRODUCTS)
 }
 
 // `.e`.
@@ -170,7 +170,7 @@ fn add_line(c: &[u8], s: State, words: &mut [u64], marks: &mut [u64]) -> Turn
     let Parsed::Line(cube, mask, rows) = table_rows::cube_line(c, s.inputs, s.outputs) else {
         return Turn::Refused(2);
     };
-    if rows > ROWS - s.rows {
+    if rows > MOST_ROWS - s.rows {
         return Turn::Refused(6);
     }
     Turn::Next(keep_line(s, cube, mask, rows, words, marks))
@@ -334,11 +334,11 @@ fn refused(answer: Answer) -> Table
 pub fn read(text: &[u8]) -> Table
     ensures { λ r. ⌜ Told (readText (now (text .entry))) r ⌝ }
 {
-    if text.len() > BYTES {
+    if text.len() > MOST_BYTES {
         return refused(Answer::Refused(Refusal { number: 1, line: 0 }));
     }
-    let mut words = [0u64; expression::WORDS * ROWS as usize];
-    let mut marks = [0u64; ROWS as usize];
+    let mut words = [0u64; expression::WORDS * MOST_ROWS as usize];
+    let mut marks = [0u64; MOST_ROWS as usize];
     let scanned = scan(text, &mut words, &mut marks);
     let answer = scanned.answer;
     let Answer::Read = answer else {

@@ -17,7 +17,7 @@ use Rattle.letters.specs.Meaning.{readBack, isDigit}
 use Rattle.table_lines.specs.Text.{isBlank, startsBlank, trimFront}
 use Rattle.table_lines.proofs.Blanks.{gap-out, gap-in}
 use Rattle.table_kinds.specs.Kinds.{mostDigits, numberOf, argument, withNumber, named, kindOf}
-use Rattle.table_kinds.specs.Meaning.{Numeral, Names, Known, empty, inputs, outputs, products, shortEnd, longEnd, OfKind, known, other}
+use Rattle.table_kinds.specs.Meaning.{Numeral, Names, Spelled, bare, dotI, dotO, dotP, dotE, dotEnd, OfKind, known, another}
 use Rattle.table_kinds.specs.declared.Kind.{Kind}
 use Rattle.table_kinds.specs.declared.Kind.the-variants.{Inputs, Outputs, Products, End, Other}
 
@@ -65,7 +65,7 @@ name-out c x n h e = go (startsBlank (drop 2 c)) refl e
 
 -- ---- a kind
 
-named-out : (c : List ℕ) (k : Kind) → named c ≡ k → (k ≡ Other) ⊎ Known c k
+named-out : (c : List ℕ) (k : Kind) → named c ≡ k → (k ≡ Other) ⊎ Spelled c k
 unfolding named
 named-out c k e = go (same f (46 ∷ 105 ∷ [])) (same f (46 ∷ 111 ∷ [])) (same f (46 ∷ 112 ∷ [])) refl refl refl (argument (drop 2 c)) refl e
   where
@@ -73,51 +73,51 @@ named-out c k e = go (same f (46 ∷ 105 ∷ [])) (same f (46 ∷ 111 ∷ [])) (
     f = take 2 c
 
     go : (x y z : Bool) → same f (46 ∷ 105 ∷ []) ≡ x → same f (46 ∷ 111 ∷ []) ≡ y → same f (46 ∷ 112 ∷ []) ≡ z → (o : Option ℕ) → argument (drop 2 c) ≡ o
-        → cond x (withNumber Inputs o) (cond y (withNumber Outputs o) (cond z (withNumber Products o) Other)) ≡ k → (k ≡ Other) ⊎ Known c k
+        → cond x (withNumber Inputs o) (cond y (withNumber Outputs o) (cond z (withNumber Products o) Other)) ≡ k → (k ≡ Other) ⊎ Spelled c k
     go true y z p q r none a h = inl (sym h)
-    go true y z p q r (some n) a h = inr (subst (Known c) h (inputs n (name-out c 105 n p a)))
+    go true y z p q r (some n) a h = inr (subst (Spelled c) h (dotI n (name-out c 105 n p a)))
     go false true z p q r none a h = inl (sym h)
-    go false true z p q r (some n) a h = inr (subst (Known c) h (outputs n (name-out c 111 n q a)))
+    go false true z p q r (some n) a h = inr (subst (Spelled c) h (dotO n (name-out c 111 n q a)))
     go false false true p q r none a h = inl (sym h)
-    go false false true p q r (some n) a h = inr (subst (Known c) h (products n (name-out c 112 n r a)))
+    go false false true p q r (some n) a h = inr (subst (Spelled c) h (dotP n (name-out c 112 n r a)))
     go false false false p q r o a h = inl (sym h)
 
-kind-out : (c : List ℕ) (k : Kind) → kindOf c ≡ k → (k ≡ Other) ⊎ Known c k
+kind-out : (c : List ℕ) (k : Kind) → kindOf c ≡ k → (k ≡ Other) ⊎ Spelled c k
 unfolding kindOf
-kind-out [] k e = inr (subst (Known []) e (empty refl))
+kind-out [] k e = inr (subst (Spelled []) e (bare refl))
 kind-out (b ∷ t) k e = go (same (b ∷ t) (46 ∷ 101 ∷ [])) (same (b ∷ t) (46 ∷ 101 ∷ 110 ∷ 100 ∷ [])) refl refl e
   where
     go : (x y : Bool) → same (b ∷ t) (46 ∷ 101 ∷ []) ≡ x → same (b ∷ t) (46 ∷ 101 ∷ 110 ∷ 100 ∷ []) ≡ y
-        → cond (x || y) End (named (b ∷ t)) ≡ k → (k ≡ Other) ⊎ Known (b ∷ t) k
-    go true y p q h = inr (subst (Known (b ∷ t)) h (shortEnd (same-eq (b ∷ t) (46 ∷ 101 ∷ []) p)))
-    go false true p q h = inr (subst (Known (b ∷ t)) h (longEnd (same-eq (b ∷ t) (46 ∷ 101 ∷ 110 ∷ 100 ∷ []) q)))
+        → cond (x || y) End (named (b ∷ t)) ≡ k → (k ≡ Other) ⊎ Spelled (b ∷ t) k
+    go true y p q h = inr (subst (Spelled (b ∷ t)) h (dotE (same-eq (b ∷ t) (46 ∷ 101 ∷ []) p)))
+    go false true p q h = inr (subst (Spelled (b ∷ t)) h (dotEnd (same-eq (b ∷ t) (46 ∷ 101 ∷ 110 ∷ 100 ∷ []) q)))
     go false false p q h = named-out (b ∷ t) k h
 
-known-in : {c : List ℕ} {k : Kind} → Known c k → kindOf c ≡ k
+spelled-in : {c : List ℕ} {k : Kind} → Spelled c k → kindOf c ≡ k
 unfolding kindOf named same
-known-in (empty e) = ap kindOf e
-known-in (inputs n h) = ap kindOf (h .text) ∙ rw (argument-in h)
-known-in (outputs n h) = ap kindOf (h .text) ∙ rw (argument-in h)
-known-in (products n h) = ap kindOf (h .text) ∙ rw (argument-in h)
-known-in (shortEnd e) = ap kindOf e
-known-in (longEnd e) = ap kindOf e
+spelled-in (bare e) = ap kindOf e
+spelled-in (dotI n h) = ap kindOf (h .text) ∙ rw (argument-in h)
+spelled-in (dotO n h) = ap kindOf (h .text) ∙ rw (argument-in h)
+spelled-in (dotP n h) = ap kindOf (h .text) ∙ rw (argument-in h)
+spelled-in (dotE e) = ap kindOf e
+spelled-in (dotEnd e) = ap kindOf e
 
-not-other : {c : List ℕ} {k : Kind} → Known c k → k ≡ Other → ⊥
-not-other (empty e) h = let z : _≡_ {A = ℕ} 0 1 = cc in omega arith
-not-other (inputs n e) h = let z : _≡_ {A = ℕ} 0 1 = cc in omega arith
-not-other (outputs n e) h = let z : _≡_ {A = ℕ} 0 1 = cc in omega arith
-not-other (products n e) h = let z : _≡_ {A = ℕ} 0 1 = cc in omega arith
-not-other (shortEnd e) h = let z : _≡_ {A = ℕ} 0 1 = cc in omega arith
-not-other (longEnd e) h = let z : _≡_ {A = ℕ} 0 1 = cc in omega arith
+not-other : {c : List ℕ} {k : Kind} → Spelled c k → k ≡ Other → ⊥
+not-other (bare e) h = let z : _≡_ {A = ℕ} 0 1 = cc in omega arith
+not-other (dotI n e) h = let z : _≡_ {A = ℕ} 0 1 = cc in omega arith
+not-other (dotO n e) h = let z : _≡_ {A = ℕ} 0 1 = cc in omega arith
+not-other (dotP n e) h = let z : _≡_ {A = ℕ} 0 1 = cc in omega arith
+not-other (dotE e) h = let z : _≡_ {A = ℕ} 0 1 = cc in omega arith
+not-other (dotEnd e) h = let z : _≡_ {A = ℕ} 0 1 = cc in omega arith
 
 kind-in : {c : List ℕ} {k : Kind} → OfKind c k → kindOf c ≡ k
-kind-in (known h) = known-in h
-kind-in {c} (other f) = elim (kind-out c (kindOf c) refl) [ inl q ↦ q | inr h ↦ absurd (f (kindOf c) h) ]
+kind-in (known h) = spelled-in h
+kind-in {c} (another f) = elim (kind-out c (kindOf c) refl) [ inl q ↦ q | inr h ↦ absurd (f (kindOf c) h) ]
 
 -- what is left of a line is of a kind exactly when it is written so; of none of these, it is another
 pub kind-iff : (c : List ℕ) (k : Kind) → (kindOf c ≡ k) ↔ OfKind c k
 kind-iff c k = (λ e. into e (kind-out c k e), kind-in)
   where
-    into : kindOf c ≡ k → (k ≡ Other) ⊎ Known c k → OfKind c k
-    into e (inl q) = subst (OfKind c) (sym q) (other (λ j h. not-other h (sym (known-in h) ∙ e ∙ q)))
+    into : kindOf c ≡ k → (k ≡ Other) ⊎ Spelled c k → OfKind c k
+    into e (inl q) = subst (OfKind c) (sym q) (another (λ j h. not-other h (sym (spelled-in h) ∙ e ∙ q)))
     into e (inr h) = known h

@@ -26,16 +26,16 @@ pub record Names (x : ℕ) (c : List ℕ) (n : ℕ) : Type 0 where
   pub between : Blanks blanks
   pub number : Numeral digits n
 
--- empty; `.i N` or `.o N`; `.p N`; `.e` or `.end`
-pub data Known (c : List ℕ) : Kind → Type 0 where
-  empty : c ≡ [] → Known c Empty
-  inputs : (n : ℕ) → Names 105 c n → Known c (Inputs n)
-  outputs : (n : ℕ) → Names 111 c n → Known c (Outputs n)
-  products : (n : ℕ) → Names 112 c n → Known c (Products n)
-  shortEnd : c ≡ 46 ∷ 101 ∷ [] → Known c End
-  longEnd : c ≡ 46 ∷ 101 ∷ 110 ∷ 100 ∷ [] → Known c End
+-- c is spelled as a kind is: empty; `.i N` or `.o N`; `.p N`; `.e` or `.end`
+pub data Spelled (c : List ℕ) : Kind → Type 0 where
+  bare : c ≡ [] → Spelled c Empty
+  dotI : (n : ℕ) → Names 105 c n → Spelled c (Inputs n)
+  dotO : (n : ℕ) → Names 111 c n → Spelled c (Outputs n)
+  dotP : (n : ℕ) → Names 112 c n → Spelled c (Products n)
+  dotE : c ≡ 46 ∷ 101 ∷ [] → Spelled c End
+  dotEnd : c ≡ 46 ∷ 101 ∷ 110 ∷ 100 ∷ [] → Spelled c End
 
 -- one of these, or another
 pub data OfKind (c : List ℕ) : Kind → Type 0 where
-  known : {k : Kind} → Known c k → OfKind c k
-  other : ((k : Kind) → Known c k → ⊥) → OfKind c Other
+  known : {k : Kind} → Spelled c k → OfKind c k
+  another : ((k : Kind) → Spelled c k → ⊥) → OfKind c Other

@@ -25,8 +25,8 @@ abbrev μ-loop : tie.MeasureT-loop
 abbrev start : tie.At-loop Inv-loop μ-loop → tie.Start Inv-loop μ-loop
 start h = h .before .before .before
 
-abbrev turn : tie.After-fill-output Inv-loop μ-loop → tie.At-loop Inv-loop μ-loop
-turn f = f .before .before .before
+abbrev head : tie.After-fill-output Inv-loop μ-loop → tie.At-loop Inv-loop μ-loop
+head f = f .before .before .before
 
 loop-holds : tie.Need-loop-holds Inv-loop μ-loop
 unfolding from
@@ -43,7 +43,7 @@ sub-counts c = omega (arith, c .before .fill-output .ensures .next)
 loop-again : tie.Need-loop-again Inv-loop μ-loop
 loop-again c =
     let f = c .before in
-    let h = turn f in
+    let h = head f in
     (omega arith, search needs, laid-output (start h .pre) (f .before .before .loop-test .taken) (h .loop .inv .2) (f .fill-output .ensures))
 
 returns : tie.Need-returns Inv-loop μ-loop

@@ -22,8 +22,8 @@ abbrev μ-loop : tie.MeasureT-loop
 abbrev start : tie.At-loop Inv-loop μ-loop → tie.Start Inv-loop μ-loop
 start h = h .before .before .before .before
 
-abbrev turn : tie.After-is-marked Inv-loop μ-loop → tie.At-loop Inv-loop μ-loop
-turn m = m .before .before .before
+abbrev head : tie.After-is-marked Inv-loop μ-loop → tie.At-loop Inv-loop μ-loop
+head m = m .before .before .before
 
 loop-holds : tie.Need-loop-holds Inv-loop μ-loop
 loop-holds c = (omega arith, pick-none _ (c .before .before .before .pre .source) _ _, refl)
@@ -32,7 +32,7 @@ add-to : tie.Need-add-to Inv-loop μ-loop
 add-to c =
     let w = c .before .before .before .before .before in
     let m = w .before in
-    let h = turn m in
+    let h = head m in
     let s = start h in
     let r = pick-room _ (s .pre .source) (h .loop .i) (omega arith) (h .loop .inv .1) (sym (m .is-marked .ensures) ∙ w .if1 .taken) (s .pre .fits) in
     record { fits = omega (arith, spare-length (s .args .out .now)) }
@@ -40,7 +40,7 @@ add-to c =
 loop-again : tie.Need-loop-again Inv-loop μ-loop
 loop-again c =
     let m = c .before in
-    let h = turn m in
+    let h = head m in
     let s = start h in
     elim (c .if1 .came) [
       | inl (w, p, q, r, o, k, e, n) ↦ rw (e, n) (

@@ -1,18 +1,16 @@
 -- `table::finish` meets its contract: `.i` and `.o` are there, and `.p` agrees. Assumes nothing.
-use mathlib.Core.Path.{_∙_}
+use Prim.Native.Nat.{ℕ}
+use mathlib.Core.Path.{_≡_, _∙_}
+use mathlib.Core.Bool.{false}
+use mathlib.Core.List.{List}
 use borrow.Author.Tests.{eq-eqb, ne-eqb}
-use Rattle.table.specs.Table.{finish}
+use Rattle.table.specs.Table.{State, missing, finish}
+use Rattle.table.specs.Meaning.{Bounded}
+use Rattle.table.specs.Parts.{Stands}
 use Rattle.table.proofs.Standing.{wide-missing, tall-missing, agrees-unstated, agrees-not, agrees-so}
 use borrow.Author.Needs.{needs}
 use Rattle.table.proofs.finish.Statement.{statement}
 use Rattle.table.proofs.finish.Tie as tie
-
--- the states of the walk, each after a test that lets it go on
-abbrev first : tie.Else2 → tie.Else1
-first d = d .before .before
-
-abbrev second : tie.Else3 → tie.Else2
-second e = e .before .before
 
 returns : tie.Need-returns
 unfolding finish
@@ -22,36 +20,27 @@ returns-2 : tie.Need-returns-2
 unfolding finish
 returns-2 c = λ t words marks g h. rw (wide-missing g h ∙ ne-eqb _ 0 (c .before .before .if1 .left), tall-missing g h ∙ eq-eqb _ 0 (c .if2 .taken))
 
+abbrev start : tie.Else2 → tie.Start
+start d = d .before .before .before .before
+
+-- neither test stops it: `.i` and `.o` are there
+there : (d : tie.Else2) {t : State} {words marks : List ℕ} → Bounded t → Stands t (start d .args .s) words marks
+    → (missing (t .wide) ≡ false) × (missing (t .tall) ≡ false)
+there d g h = (wide-missing g h ∙ ne-eqb _ 0 (d .before .before .if1 .left), tall-missing g h ∙ ne-eqb _ 0 (d .if2 .left))
+
 returns-3 : tie.Need-returns-3
 unfolding finish
-returns-3 c =
-    let d = c .before .before in
-    λ t words marks g h. rw (
-      wide-missing g h ∙ ne-eqb _ 0 (first d .if1 .left),
-      tall-missing g h ∙ ne-eqb _ 0 (d .if2 .left),
-      agrees-unstated g h (c .if3 .taken),
-    ) h
+returns-3 c = λ t words marks g h. let w = there (c .before .before) g h in rw (w .0, w .1, agrees-unstated g h (c .if3 .taken)) h
 
 returns-4 : tie.Need-returns-4
 unfolding finish
-returns-4 c =
-    let e = c .before .before .before in
-    let d = second e in
-    λ t words marks g h. rw (
-      wide-missing g h ∙ ne-eqb _ 0 (first d .if1 .left),
-      tall-missing g h ∙ ne-eqb _ 0 (d .if2 .left),
-      agrees-not g h (e .if3 .left) (c .if4 .taken),
-    )
+returns-4 c = let e = c .before .before .before in
+    λ t words marks g h. let w = there (e .before .before) g h in rw (w .0, w .1, agrees-not g h (e .if3 .left) (c .if4 .taken))
 
 returns-5 : tie.Need-returns-5
 unfolding finish
-returns-5 c =
-    let d = second (c .before .before .before) in
-    λ t words marks g h. rw (
-      wide-missing g h ∙ ne-eqb _ 0 (first d .if1 .left),
-      tall-missing g h ∙ ne-eqb _ 0 (d .if2 .left),
-      agrees-so g h (c .if4 .left),
-    ) h
+returns-5 c = let e = c .before .before .before in
+    λ t words marks g h. let w = there (e .before .before) g h in rw (w .0, w .1, agrees-so g h (c .if4 .left)) h
 
 pub finish-spec : {M : Type 1} → statement M
 finish-spec = tie.close (tie.spec returns returns-2 returns-3 (λ c. search needs) returns-4 returns-5)

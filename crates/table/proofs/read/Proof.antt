@@ -6,7 +6,7 @@ use Rattle.table.specs.Table.{mostRows, State, Outcome, accepted, readTe
 use Rattle.table.specs.Answers.{Told}
 use Rattle.table.specs.Parts.{Stands}
 use Rattle.table.proofs.Refusals.{text-long, accepted-complete}
-use Rattle.table.proofs.Marking.{buildable, net-same}
+use Rattle.table.proofs.Marking.{kept-buildable, net-same}
 use Rattle.table.proofs.Scanning.{text-read, text-refused}
 use borrow.Author.Needs.{needs}
 use Rattle.table.proofs.read.Statement.{statement}
@@ -22,11 +22,11 @@ scan-requires c κs = record { short = search needs; places = room-cubes _ mostR
 abbrev start : tie.After-scan → tie.Start
 start n = n .before .before .before .before .before
 
-abbrev scanned : tie.After-enum-told → tie.After-scan
-scanned q = q .before .before .before .before
+abbrev lines-read : tie.After-enum-told → tie.After-scan
+lines-read q = q .before .before .before .before
 
-abbrev told : tie.After-marks3 → tie.After-enum-told
-told m = m .before .before .before
+abbrev all-read : tie.After-marks3 → tie.After-enum-told
+all-read m = m .before .before .before
 
 returns-2 : tie.Need-returns-2
 returns-2 c =
@@ -35,23 +35,24 @@ returns-2 c =
     (c .before .enum-told2 .given .1) (c .refused2 .ensures)
 
 -- what was read, of which the outcome is made
-read-in : (q : tie.After-enum-told) → let n = scanned q in (t : State) × (readText (start n .args .text .now) ≡ accepted t)
+read-in : (q : tie.After-enum-told) → let n = lines-read q in (t : State) × (readText (start n .args .text .now) ≡ accepted t)
     × Stands t (n .scan .result .state) (n .scan .last .1 .0) (n .scan .last .1 .1 .0)
-read-in q = let n = scanned q in
+read-in q = let n = lines-read q in
     text-read _ _ (start n .args .text .now) (n .before .before .before .if1 .left) (n .scan .result) (n .scan .ensures) (q .enum-told .given .1)
 
 build-requires : tie.Need-build-requires
 build-requires c κs =
-    let q = told c in
-    let n = scanned q in
+    let q = all-read c in
+    let n = lines-read q in
     let r = read-in q in
-    buildable (accepted-complete (start n .args .text .now) (r .0) (r .1) .2) (r .2) (room-cubes (n .scan .last .1 .0) mostRows (search needs)) (search needs)
+    kept-buildable (accepted-complete (start n .args .text .now) (r .0) (r .1) .2) (r .2) (room-cubes (n .scan .last .1 .0) mostRows (search needs))
+    (search needs)
 
 returns-3 : tie.Need-returns-3
 returns-3 c =
-    let q = told (c .before) in
+    let q = all-read (c .before) in
     let r = read-in q in
-    subst (λ (o : Outcome). Told o (record { answer = scanned q .scan .result .answer; network = c .build .result })) (sym (r .1))
+    subst (λ (o : Outcome). Told o (record { answer = lines-read q .scan .result .answer; network = c .build .result })) (sym (r .1))
     (q .enum-told .given .1, subst (Holds (c .build .result)) (net-same (r .2)) (c .build .ensures))
 
 pub read-spec : {M : Type 1} → statement M

@@ -1,13 +1,12 @@
 -- `table::scan` meets its contract. The loop's invariant: what was read stands, and with what is left gives the outcome of all lines. Assumes nothing.
-use Prim.Native.Nat.{ℕ, _+_, _-_, _≤_}
-use mathlib.Core.List.{List}
+use Prim.Native.Nat.{_+_, _-_, _≤_}
 use mathlib.Core.Path.{_≡_, refl, sym, _∙_, ap, subst}
 use mathlib.Core.Logic.{_⊎_, inl, inr}
 use native.Mathlib.Omega.{arith}
-use lib.ListN.{length, take, drop}
+use lib.ListN.{length}
 use denote.Enum.Declared.{tagOf}
 use Rattle.expression.proofs.Words.{same-room}
-use Rattle.table_lines.specs.Text.{linesOf, content}
+use Rattle.table_lines.specs.Text.{linesOf}
 use Rattle.table.specs.Table as table
 use Rattle.table.specs.Table.{readLines}
 use Rattle.table.specs.Parts.{Scans}
@@ -16,7 +15,7 @@ use Rattle.table.specs.declared.Scanned.{Scanned}
 use Rattle.table.specs.declared.Turn.{Turn}
 use Rattle.table.specs.declared.Turn.the-variants.{Next}
 use Rattle.table.proofs.Turn.{the-type}
-use Rattle.table.proofs.Scanning.{stop-le, span-within, span-ordered, span-part}
+use Rattle.table.proofs.Scanning.{stop-le, Remains, left-there}
 use Rattle.table.proofs.Scanning.{Reading, reading-first, reading-roomy, reading-over, reading-next, reading-stop}
 use borrow.Author.Needs.{needs}
 use Rattle.table.proofs.scan.Statement.{statement}
@@ -33,29 +32,32 @@ abbrev μ-loop : tie.MeasureT-loop
 abbrev start : tie.At-loop Inv-loop μ-loop → tie.Start Inv-loop μ-loop
 start h = h .before .before .before .before
 
-abbrev turn : tie.After-line-end Inv-loop μ-loop → tie.At-loop Inv-loop μ-loop
-turn e = e .before .before
+abbrev head : tie.After-line-end Inv-loop μ-loop → tie.At-loop Inv-loop μ-loop
+head e = e .before .before
 
-abbrev ended : tie.After-content-of Inv-loop μ-loop → tie.After-line-end Inv-loop μ-loop
-ended p = p .before .before
+abbrev measured : tie.After-content-of Inv-loop μ-loop → tie.After-line-end Inv-loop μ-loop
+measured p = p .before .before
 
-abbrev spanned : tie.After-take-line Inv-loop μ-loop → tie.After-content-of Inv-loop μ-loop
-spanned t = t .before .before .before .before .before .before
+abbrev spanned : tie.After-struct-known2 Inv-loop μ-loop → tie.After-content-of Inv-loop μ-loop
+spanned d = d .before .before
 
-abbrev last : tie.After-stopped Inv-loop μ-loop → tie.After-take-line Inv-loop μ-loop
-last c = c .before .before .before .before .before .before
+abbrev lent : tie.After-take-line Inv-loop μ-loop → tie.After-struct-known2 Inv-loop μ-loop
+lent t = t .before .before .before .before
+
+abbrev taken : tie.After-slice-known4 Inv-loop μ-loop → tie.After-take-line Inv-loop μ-loop
+taken d = d .before .before .before .before
 
 abbrev gone : tie.After-known-told Inv-loop μ-loop → tie.After-take-line Inv-loop μ-loop
-gone c = c .before .before .before .before .before .before .before
+gone c = taken (c .before .before .before)
 
 loop-holds : tie.Need-loop-holds Inv-loop μ-loop
 loop-holds c = (omega arith, omega arith, refl, refl, reading-first _ _ _)
 
 -- a line ends no sooner than it begins, and within the text
 ends : (c : tie.After-line-end Inv-loop μ-loop)
-    → (turn c .loop .at ≤ c .line-end .result) × (c .line-end .result ≤ length (start (turn c) .args .text .now))
+    → (head c .loop .at ≤ c .line-end .result) × (c .line-end .result ≤ length (start (head c) .args .text .now))
 ends c =
-    let e = stop-le (start (turn c) .args .text .now) (turn c .loop .at) (c .before .loop-test .taken) in
+    let e = stop-le (start (head c) .args .text .now) (head c .loop .at) (c .before .loop-test .taken) in
     (omega (arith, c .line-end .ensures), omega (arith, c .line-end .ensures))
 
 sub-content-of : tie.Need-sub-content-of Inv-loop μ-loop
@@ -65,42 +67,29 @@ part-content-of-end : tie.Need-part-content-of-end Inv-loop μ-loop
 part-content-of-end c = ends c .1
 
 -- what is left of a line stands within the text
-module _ (c : tie.After-content-of Inv-loop μ-loop) where
-  abbrev text : List ℕ
-  text = start (turn (ended c)) .args .text .now
-
-  abbrev at : ℕ
-  at = turn (ended c) .loop .at
-
-  left-ordered : c .content-of .result .start ≤ c .content-of .result .end
-  left-ordered = span-ordered text at (ended c .before .loop-test .taken) (ended c .line-end .ensures) (c .content-of .ensures)
-
-  left-within : at + c .content-of .result .end ≤ length text
-  left-within = span-within text at (ended c .before .loop-test .taken) (ended c .line-end .ensures) (c .content-of .ensures)
-
-  left : take ((at + c .content-of .result .end) - (at + c .content-of .result .start)) (drop (at + c .content-of .result .start) text)
-      ≡ content (take (ended c .line-end .result - at) (drop at text))
-  left = span-part text at (ended c .before .loop-test .taken) (ended c .line-end .ensures) (c .content-of .ensures)
+left : (c : tie.After-content-of Inv-loop μ-loop)
+    → Remains (start (head (measured c)) .args .text .now) (head (measured c) .loop .at) (measured c .line-end .result) (c .content-of .result)
+left c = left-there _ _ (measured c .before .loop-test .taken) (measured c .line-end .ensures) (c .content-of .ensures)
 
 add-from : tie.Need-add-from Inv-loop μ-loop
-add-from c = record { fits = omega (arith, left-within (c .before), left-ordered (c .before)) }
+add-from c = record { fits = omega (arith, left (c .before) .within, left (c .before) .ordered) }
 
 add-to : tie.Need-add-to Inv-loop μ-loop
-add-to c = record { fits = omega (arith, left-within (c .before .before)) }
+add-to c = record { fits = omega (arith, left (spanned c) .within) }
 
 sub-take-line : tie.Need-sub-take-line Inv-loop μ-loop
-sub-take-line c = omega (arith, left-ordered (c .before .before))
+sub-take-line c = omega (arith, left (spanned c) .ordered)
 
 part-take-line-start : tie.Need-part-take-line-start Inv-loop μ-loop
-part-take-line-start c = omega (arith, left-within (c .before .before), left-ordered (c .before .before))
+part-take-line-start c = omega (arith, left (spanned c) .within, left (spanned c) .ordered)
 
 part-take-line-end : tie.Need-part-take-line-end Inv-loop μ-loop
-part-take-line-end c = left-within (c .before .before)
+part-take-line-end c = left (spanned c) .within
 
 take-line-requires : tie.Need-take-line-requires Inv-loop μ-loop
 take-line-requires c κs =
-    let e = ended (c .before .before .before .before .before) in
-    let h = turn e in
+    let e = measured (spanned (c .before .before .before)) in
+    let h = head e in
     let s = start h in
     reading-roomy (h .loop .inv .4) (omega (arith, s .pre .short, e .before .loop-test .taken))
     (same-room (h .loop .words) (s .args .words .now) (h .loop .inv .2) ∙ s .pre .places) (h .loop .inv .3 ∙ s .pre .masks)
@@ -112,36 +101,36 @@ not-next p (inr k) s i = omega (arith, ap (tagOf the-type) i)
 
 returns : tie.Need-returns Inv-loop μ-loop
 returns c =
-    let t = last c in
-    let p = spanned t in
-    let e = ended p in
-    let h = turn e in
+    let t = taken (c .before .before) in
+    let p = spanned (lent t) in
+    let e = measured p in
+    let h = head e in
     subst (λ (x : Scanned). Scans (readLines 1 (linesOf (start h .args .text .now)) table.start) x (t .take-line .last .1 .1 .0)
     (t .take-line .last .1 .1 .1 .0))
     (sym (c .stopped .ensures))
-    (reading-stop (h .loop .inv .4) _ _ (t .take-line .result) (e .before .loop-test .taken) (e .line-end .ensures) (left p) (t .take-line .ensures)
+    (reading-stop (h .loop .inv .4) _ _ (t .take-line .result) (e .before .loop-test .taken) (e .line-end .ensures) (left p .part) (t .take-line .ensures)
     (not-next (t .take-line .result) (c .before .match .keys2)))
 
 add-at : tie.Need-add-at Inv-loop μ-loop
-add-at c = let e = ended (spanned (gone c)) in record { fits = omega (arith, ends e .1, start (turn e) .pre .short) }
+add-at c = let e = measured (spanned (lent (gone c))) in record { fits = omega (arith, ends e .1, start (head e) .pre .short) }
 
 add-line : tie.Need-add-line Inv-loop μ-loop
-add-line c = let e = ended (spanned (gone c)) in record { fits = omega (arith, ends e, start (turn e) .pre .short, turn e .loop .inv .1) }
+add-line c = let e = measured (spanned (lent (gone c))) in record { fits = omega (arith, ends e, start (head e) .pre .short, head e .loop .inv .1) }
 
 loop-less : tie.Need-loop-less Inv-loop μ-loop
-loop-less c = omega (arith, ends (ended (spanned (gone c))))
+loop-less c = omega (arith, ends (measured (spanned (lent (gone c)))))
 
 loop-again : tie.Need-loop-again Inv-loop μ-loop
 loop-again c =
     let t = gone c in
-    let p = spanned t in
-    let e = ended p in
-    let h = turn e in (
+    let p = spanned (lent t) in
+    let e = measured p in
+    let h = head e in (
       omega (arith, ends e),
       omega (arith, ends e, h .loop .inv .1),
       search needs,
       search needs,
-      reading-next (h .loop .inv .4) _ _ (t .take-line .result) (e .before .loop-test .taken) (e .line-end .ensures) (left p) (t .take-line .ensures) _
+      reading-next (h .loop .inv .4) _ _ (t .take-line .result) (e .before .loop-test .taken) (e .line-end .ensures) (left p .part) (t .take-line .ensures) _
           (c .before .turn .given .1),
     )
 
