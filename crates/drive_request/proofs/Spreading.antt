@@ -11,7 +11,7 @@ use borrow.Author.Tests.{not-true}
 use Rattle.sets.specs.Lists.{all, isNil}
 use Rattle.sets.proofs.Truth.{both, clash}
 use Rattle.drive_request.specs.Words.{wordsOf, isPart, ahead, firstGroup, afterGroup}
-use Rattle.drive_request.specs.Meaning.{spread, isClear, isWord}
+use Rattle.drive_request.specs.Meaning.{spread, isClear, isWord, mark, Unparted}
 
 -- ---- words
 
@@ -35,13 +35,6 @@ words-spread (w ∷ v ∷ ws) h = let k = both (isWord w) (all isWord (v ∷ ws)
     word-then w (spread (v ∷ ws)) (both (not (isNil w)) (isClear w) (k .0) .1) ∙ ap (λ l. w ∷ l) (words-spread (v ∷ ws) (k .1))
 
 -- ---- groups
-
-abbrev mark : List ℕ
-mark = 59 ∷ []
-
--- no word of it is a lone `;`
-abbrev Unparted : List (List ℕ) → Type 0
-Unparted g = all (λ v. not (isPart v)) g ≡ true
 
 -- a group, its blank, and what is written from its `;` on
 spread-group : (w : List ℕ) (g h : List (List ℕ)) → spread (w ∷ g ++ (mark ∷ h)) ≡ spread (w ∷ g) ++ (32 ∷ spread (mark ∷ h))

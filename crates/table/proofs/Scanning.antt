@@ -6,7 +6,7 @@ use mathlib.Core.List.{List, [], _∷_}
 use native.Mathlib.Numerals.{add-one}
 use native.Mathlib.Omega.{arith}
 use lib.ListN.{length, take, drop, length-drop, take-append-drop}
-use lib.Seq.{drop-drop, take-length}
+use lib.Seq.{drop-drop}
 use borrow.Author.Tests.{le-leb, lt-leb}
 use Rattle.sets.proofs.Truth.{Stand, below, equal, beyond, stand}
 use Rattle.expression.specs.Words.{cubesOf}
@@ -14,7 +14,7 @@ use Rattle.network.specs.Handed.{Blank}
 use Rattle.table_lines.specs.Text.{lineOf, linesOf, content, contentSpan}
 use Rattle.table_lines.specs.declared.Span.{Span}
 use Rattle.table_kinds.specs.Kinds.{kindOf}
-use Rattle.table_lines.proofs.Lining.{line-take, line-le, lines-next, lines-last}
+use Rattle.table_lines.proofs.Lining.{lines-next, lines-last, line-part, line-ends, line-after}
 use Rattle.table_lines.proofs.Spans.{part-front, span-inside, span-content}
 use Rattle.table.specs.Table as table
 use Rattle.table.specs.Table.{mostBytes, mostRows, start, byKind, readLine, readLines, readText}
@@ -45,14 +45,6 @@ module _ (text : List ℕ) (at : ℕ) where
   pub from-over : length text < at → linesFrom text at ≡ []
   from-over h = rw (lt-leb at (length text) h)
 
-  module _ (h : at ≤ length text) where
-    -- a line ends within the text
-    pub stop-le : stop ≤ length text
-    stop-le = omega (arith, line-le rest, length-drop at text)
-
-    pub line-part : (e : ℕ) → e ≡ stop → take (e - at) rest ≡ lineOf rest
-    line-part e q = let n : e - at ≡ length (lineOf rest) = omega arith in ap (λ (k : ℕ). take k rest) n ∙ sym (line-take rest)
-
   -- what is left of the line stands at its span in the text too
   pub record Remains (e : ℕ) (z : Span) : Type 0 where
     pub ordered : z .start ≤ z .end
@@ -65,11 +57,11 @@ module _ (text : List ℕ) (at : ℕ) where
       let s = contentSpan p in
       let i : z .start ≡ s .start = ap (λ (x : Span). x .start) w in
       let j : z .end ≡ s .end = ap (λ (x : Span). x .end) w in
-      let n : length p ≡ e - at = ap length (line-part h e q) ∙ omega arith in
+      let n : length p ≡ e - at = ap length (line-part text at e q) ∙ omega arith in
       let k : (at + z .end) - (at + z .start) ≡ s .end - s .start = omega arith in
       record {
         ordered = omega arith;
-        within = omega (arith, span-inside p, stop-le h);
+        within = omega (arith, span-inside p, line-ends text at e q h);
         part =
             ap₂ take k (ap (λ (x : Span). drop (at + x .start) text) w ∙ sym (drop-drop (s .start) at text)
             ∙ ap (drop (s .start)) (sym (take-append-drop (e - at) rest)))
@@ -78,21 +70,14 @@ module _ (text : List ℕ) (at : ℕ) where
       }
 
   from-next : (e : ℕ) → e ≡ stop → at ≤ length text → linesFrom text at ≡ lineOf rest ∷ linesFrom text (e + 1)
-  from-next e q h = ap (λ (b : Bool). cond b (linesOf rest) []) (le-leb at (length text) h) ∙ go (stand e (length text))
+  from-next e q h = rw (le-leb at (length text) h) (go (stand e (length text)))
     where
       go : Stand e (length text) → linesOf rest ≡ lineOf rest ∷ linesFrom text (e + 1)
       go (below l _ _) =
-          let n : at + suc (length (lineOf rest)) ≡ e + 1 = omega arith in
           lines-next rest (omega (arith, length-drop at text))
-          ∙ ap (λ (z : List (List ℕ)). lineOf rest ∷ z)
-          (ap linesOf (drop-drop (suc (length (lineOf rest))) at text ∙ ap (λ (k : ℕ). drop k text) n)
-          ∙ sym (ap (λ (b : Bool). cond b (linesOf (drop (e + 1) text)) []) (le-leb (e + 1) (length text) (omega arith))))
-      go (equal l _ _) =
-          let n : length (lineOf rest) ≡ length rest = omega (arith, length-drop at text) in
-          let w : lineOf rest ≡ rest = line-take rest ∙ ap (λ (k : ℕ). take k rest) n ∙ take-length rest in
-          lines-last rest n ∙ ap₂ (λ (x : List ℕ) (z : List (List ℕ)). x ∷ z) (sym w)
-          (sym (ap (λ (b : Bool). cond b (linesOf (drop (e + 1) text)) []) (lt-leb (e + 1) (length text) (omega arith))))
-      go (beyond l _ _) = absurd (omega (arith, stop-le h))
+          ∙ rw (le-leb (e + 1) (length text) (omega arith)) (ap (λ (z : List ℕ). lineOf rest ∷ linesOf z) (line-after text at e q))
+      go (equal l _ _) = lines-last rest (omega (arith, length-drop at text)) ∙ rw (lt-leb (e + 1) (length text) (omega arith))
+      go (beyond l _ _) = absurd (omega (arith, line-ends text at e q h))
 
 from-first : (text : List ℕ) → linesFrom text 0 ≡ linesOf text
 from-first text = ap (λ (b : Bool). cond b (linesOf text) []) (le-leb 0 (length text) (omega arith))
@@ -142,7 +127,7 @@ module _ {text words marks : List ℕ} {s : State} {line at : ℕ} (r : Reading 
       (f : Leaves (byKind (kindOf c) c) s p words marks words' marks') where
     turned : LineTurned (readLine here (r .now)) p words' marks'
     unfolding readLine
-    turned = subst (λ (l : List ℕ). LineTurned (byKind (kindOf l) l (r .now)) p words' marks') (k ∙ ap content (line-part text at h e q))
+    turned = subst (λ (l : List ℕ). LineTurned (byKind (kindOf l) l (r .now)) p words' marks') (k ∙ ap content (line-part text at e q))
         (f (r .now) (r .good) (r .stands))
 
     whole : readLines line (here ∷ linesFrom text (e + 1)) (r .now) ≡ readLines 1 (linesOf text) start

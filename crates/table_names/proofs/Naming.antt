@@ -5,13 +5,12 @@ use mathlib.Core.Bool.{Bool, true, false, cond}
 use mathlib.Core.List.{List, [], _∷_, _++_}
 use native.Mathlib.Omega.{arith}
 use lib.Dec.{ltb}
-use lib.ListN.{length, take, drop, getD, length-drop, drop-of-length-le}
-use lib.Seq.{drop-drop, take-length}
+use lib.ListN.{length, drop, getD, drop-of-length-le}
 use borrow.Author.Tests.{eq-eqb, ne-eqb, lt-ltb, le-ltb}
 use Rattle.sets.specs.Lists.{isNil}
 use Rattle.sets.proofs.Truth.{Stand, below, equal, beyond, stand}
 use Rattle.table_lines.specs.Text.{trimFront, trimEnd, lineOf, linesOf}
-use Rattle.table_lines.proofs.Lining.{line-take, line-le, lines-next, lines-last}
+use Rattle.table_lines.proofs.Lining.{line-le, lines-next, lines-last, line-after}
 use Rattle.table_rows.specs.Lines.{isPlace}
 use Rattle.table_names.specs.Names.{after, afterNumber, nameAfter, named, startsPlace, beginsCube, firstName, nameOf, written}
 
@@ -83,14 +82,6 @@ module _ (i : ℕ) (l : List ℕ) (ls : List (List ℕ)) where
 
 -- ---- the lines of a text, from a byte on
 
-pub line-part : (t : List ℕ) (at e : ℕ) → e ≡ at + length (lineOf (drop at t)) → take (e - at) (drop at t) ≡ lineOf (drop at t)
-line-part t at e q =
-    let n : e - at ≡ length (lineOf (drop at t)) = omega arith in
-    ap (λ (k : ℕ). take k (drop at t)) n ∙ sym (line-take (drop at t))
-
-pub line-ends : (t : List ℕ) (at e : ℕ) → e ≡ at + length (lineOf (drop at t)) → at ≤ length t → e ≤ length t
-line-ends t at e q h = omega (arith, line-le (drop at t), length-drop at t)
-
 pub no-bytes : (l : List ℕ) → length l ≤ 0 → l ≡ []
 no-bytes [] h = refl
 no-bytes (b ∷ t) h = absurd (omega arith)
@@ -125,17 +116,13 @@ module _ (i : ℕ) where
       go : Stand (length (lineOf t)) (length t) → firstName i (linesOf t) ≡ firstName i (lineOf t ∷ linesOf (drop (suc (length (lineOf t))) t))
       go (below h _ _) = ap (firstName i) (lines-next t h)
       go (equal h _ _) =
-          let w : lineOf t ≡ t = line-take t ∙ ap (λ (k : ℕ). take k t) h ∙ take-length t in
-          ap (firstName i) (lines-last t h ∙ ap (λ (l : List ℕ). l ∷ []) (sym w))
+          ap (firstName i) (lines-last t h)
           ∙ later-same (lineOf t) [] (linesOf (drop (suc (length (lineOf t))) t)) (sym (names-over t (suc (length (lineOf t))) (omega arith)))
       go (beyond h _ _) = absurd (omega (arith, line-le t))
 
   pub names-from : (t : List ℕ) (at e : ℕ) → e ≡ at + length (lineOf (drop at t))
       → firstName i (linesOf (drop at t)) ≡ firstName i (lineOf (drop at t) ∷ linesOf (drop (e + 1) t))
-  names-from t at e q =
-      let n : at + suc (length (lineOf (drop at t))) ≡ e + 1 = omega arith in
-      names-first (drop at t)
-      ∙ ap (λ (r : List ℕ). firstName i (lineOf (drop at t) ∷ linesOf r)) (drop-drop (suc (length (lineOf (drop at t)))) at t ∙ ap (λ (k : ℕ). drop k t) n)
+  names-from t at e q = names-first (drop at t) ∙ ap (λ (r : List ℕ). firstName i (lineOf (drop at t) ∷ linesOf r)) (line-after t at e q)
 
   pub name-few : (t : List ℕ) → i < 100 → nameOf i t ≡ firstName i (linesOf t)
   unfolding nameOf

@@ -47,12 +47,6 @@ fits c = let s = c .before .before .before .before in
     hex-fits (s .loop .value) (c .before .digit .result) (s .loop .i) (s .loop .inv .1) (c .if2 .left)
     (omega (arith, c .before .before .before .loop-test .taken, led-length (word s) (led s)))
 
-mul-value : tie.Need-mul-value Inv-loop μ-loop
-mul-value c = omega (arith, fits c)
-
-add-value : tie.Need-add-value Inv-loop μ-loop
-add-value c = omega (arith, fits c)
-
 loop-again : tie.Need-loop-again Inv-loop μ-loop
 loop-again c = let s = c .before .before .before .before in
     let d : c .before .digit .result ≡ digitOf (getD (word s) (s .loop .i) 0) = c .before .digit .ensures in
@@ -80,9 +74,9 @@ number-spec =
     (λ c. search needs)
     (λ c κs. search needs)
     returns-2
-    mul-value
+    (λ c. omega (arith, fits c))
     (λ c. search needs)
-    add-value
+    (λ c. omega (arith, fits c))
     (λ c. search needs)
     (λ c. search needs)
     loop-again

@@ -41,9 +41,6 @@ missing : (c : tie.After-enum-told Inv-loop μ-loop) → let w = c .before .befo
 missing c = let n = c .before .before in let w = n .before .before in let s = w .before .before in
     storing-as (read n ∙ ap (λ k. numberIn k ∷ rest w) (c .enum-told .given .1)) (s .loop .inv .1)
 
-same-length : tie.Need-same-length Inv-loop μ-loop
-same-length c = missing c .size
-
 returns : tie.Need-returns Inv-loop μ-loop
 returns c = storing-none (missing c)
 
@@ -57,18 +54,12 @@ due : (c : tie.After-known-told Inv-loop μ-loop) → let w = word c in let s = 
 due c = let n = c .before .before .before in let w = n .before .before in let s = w .before .before in
     storing-as (read n ∙ ap (λ k. numberIn k ∷ rest w) (c .before .v .given .1)) (s .loop .inv .1)
 
-same-length-2 : tie.Need-same-length-2 Inv-loop μ-loop
-same-length-2 c = due (c .before) .size
-
 returns-2 : tie.Need-returns-2 Inv-loop μ-loop
 returns-2 c = storing-full (due (c .before)) (c .if1 .taken)
 
 loop-again : tie.Need-loop-again Inv-loop μ-loop
 loop-again c = let w = word (c .before) in
     (omega (arith, w .word-end .ensures .1), storing-next (due (c .before)) (c .if1 .left))
-
-same-length-3 : tie.Need-same-length-3 Inv-loop μ-loop
-same-length-3 c = c .before .loop .inv .1 .size
 
 returns-3 : tie.Need-returns-3 Inv-loop μ-loop
 returns-3 c = let s = c .before in
@@ -88,9 +79,9 @@ numbers-spec =
     (λ c κs. search needs)
     (λ c. search needs)
     (λ c. search needs)
-    same-length
+    (λ c. missing c .size)
     returns
-    same-length-2
+    (λ c. due (c .before) .size)
     returns-2
     (λ c. search needs)
     (λ c. search needs)
@@ -98,5 +89,5 @@ numbers-spec =
     (λ c. search needs)
     (λ c. search needs)
     loop-again
-    same-length-3
+    (λ c. c .before .loop .inv .1 .size)
     returns-3)

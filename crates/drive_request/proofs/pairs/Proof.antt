@@ -37,15 +37,9 @@ more c = omega (arith, c .if1 .left, c .before .loop-test .taken)
 loop-holds : tie.Need-loop-holds Inv-loop μ-loop
 loop-holds c = (omega arith, storing-all _ _)
 
-same-length : tie.Need-same-length Inv-loop μ-loop
-same-length c = c .before .before .loop .inv .1 .size
-
 returns : tie.Need-returns Inv-loop μ-loop
 returns c = let s = c .before .before in
     storing-none (storing-as (pairs-odd (word s) (s .loop .i) (c .before .loop-test .taken) (c .if1 .taken)) (s .loop .inv .1))
-
-same-length-2 : tie.Need-same-length-2 Inv-loop μ-loop
-same-length-2 c = two (one (c .before)) .loop .inv .1 .size
 
 returns-2 : tie.Need-returns-2 Inv-loop μ-loop
 returns-2 c = let l = one (c .before) in let s = two l in
@@ -54,9 +48,6 @@ returns-2 c = let l = one (c .before) in let s = two l in
 -- the first digit is one
 left : (c : tie.Else2 Inv-loop μ-loop) → let s = two (one (c .before)) in digitOf (getD (word s) (s .loop .i) 0) ≤ 15
 left c = omega (arith, c .before .digit .ensures, c .if2 .left)
-
-same-length-3 : tie.Need-same-length-3 Inv-loop μ-loop
-same-length-3 c = two (one (next (c .before) .before)) .loop .inv .1 .size
 
 returns-3 : tie.Need-returns-3 Inv-loop μ-loop
 returns-3 c = let f = next (c .before) in let l = one (f .before) in let s = two l in
@@ -73,17 +64,11 @@ due c = let f = next (c .before) in let l = one (f .before) in let s = two l in
     = omega (arith, f .before .digit .ensures, c .before .digit2 .ensures) in
     storing-as (pairs-byte (word s) (s .loop .i) (more l) (left f) b ∙ ap (λ x. some x ∷ pairsOf (drop (s .loop .i + 2) (word s))) v) (s .loop .inv .1)
 
-same-length-4 : tie.Need-same-length-4 Inv-loop μ-loop
-same-length-4 c = due (c .before) .size
-
 returns-4 : tie.Need-returns-4 Inv-loop μ-loop
 returns-4 c = storing-full (due (c .before)) (c .if4 .taken)
 
 loop-again : tie.Need-loop-again Inv-loop μ-loop
 loop-again c = (omega (arith, more (one (next (c .before .before) .before))), storing-next (due (c .before)) (c .if4 .left))
-
-same-length-5 : tie.Need-same-length-5 Inv-loop μ-loop
-same-length-5 c = c .before .loop .inv .1 .size
 
 returns-5 : tie.Need-returns-5 Inv-loop μ-loop
 returns-5 c = let s = c .before in storing-done (storing-as (pairs-done (word s) (s .loop .i) (c .loop-test .left)) (s .loop .inv .1))
@@ -96,18 +81,18 @@ pairs-spec =
     μ-loop
     loop-holds
     (λ c. search needs)
-    same-length
+    (λ c. c .before .before .loop .inv .1 .size)
     returns
     (λ c. search needs)
     (λ c κs. search needs)
-    same-length-2
+    (λ c. two (one (c .before)) .loop .inv .1 .size)
     returns-2
     (λ c. search needs)
     (λ c. search needs)
     (λ c κs. search needs)
-    same-length-3
+    (λ c. two (one (next (c .before) .before)) .loop .inv .1 .size)
     returns-3
-    same-length-4
+    (λ c. due (c .before) .size)
     returns-4
     (λ c. search needs)
     (λ c. search needs)
@@ -116,5 +101,5 @@ pairs-spec =
     (λ c. search needs)
     (λ c. search needs)
     loop-again
-    same-length-5
+    (λ c. c .before .loop .inv .1 .size)
     returns-5)

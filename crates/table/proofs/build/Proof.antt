@@ -37,9 +37,6 @@ fill-output-requires c κs =
     let h = c .before .before in
     laid-room (start h .pre) (c .before .loop-test .taken) (h .loop .inv .2) (room-cubes _ cubeSlots (h .loop .inv .1))
 
-sub-counts : tie.Need-sub-counts Inv-loop μ-loop
-sub-counts c = omega (arith, c .before .fill-output .ensures .next)
-
 loop-again : tie.Need-loop-again Inv-loop μ-loop
 loop-again c =
     let f = c .before in
@@ -58,7 +55,7 @@ build-spec =
     loop-holds
     (λ c. search needs)
     fill-output-requires
-    sub-counts
+    (λ c. omega (arith, c .before .fill-output .ensures .next))
     (λ c. search needs)
     (λ c. search needs)
     (λ c. search needs)

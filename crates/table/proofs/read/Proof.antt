@@ -15,9 +15,6 @@ use Rattle.table.proofs.read.Tie as tie
 returns : tie.Need-returns
 returns c = subst (λ (o : Outcome). Told o (c .refused .result)) (sym (text-long _ (c .before .if1 .taken))) (c .refused .ensures)
 
-scan-requires : tie.Need-scan-requires
-scan-requires c κs = record { short = search needs; places = room-cubes _ mostRows (search needs); masks = search needs }
-
 -- the states of the walk: what was scanned, and that it was read
 abbrev start : tie.After-scan → tie.Start
 start n = n .before .before .before .before .before
@@ -63,7 +60,7 @@ read-spec =
     returns
     (λ c. search needs)
     (λ c. search needs)
-    scan-requires
+    (λ c κs. record { short = search needs; places = room-cubes _ mostRows (search needs); masks = search needs })
     (λ c. search needs)
     (λ c. search needs)
     (λ c κs. search needs)

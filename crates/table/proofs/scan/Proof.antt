@@ -7,6 +7,7 @@ use lib.ListN.{length}
 use denote.Enum.Declared.{tagOf}
 use Rattle.expression.proofs.Words.{same-room}
 use Rattle.table_lines.specs.Text.{linesOf}
+use Rattle.table_lines.proofs.Lining.{line-ends}
 use Rattle.table.specs.Table as table
 use Rattle.table.specs.Table.{readLines}
 use Rattle.table.specs.Parts.{Scans}
@@ -15,7 +16,7 @@ use Rattle.table.specs.declared.Scanned.{Scanned}
 use Rattle.table.specs.declared.Turn.{Turn}
 use Rattle.table.specs.declared.Turn.the-variants.{Next}
 use Rattle.table.proofs.Turn.{the-type}
-use Rattle.table.proofs.Scanning.{stop-le, Remains, left-there}
+use Rattle.table.proofs.Scanning.{Remains, left-there}
 use Rattle.table.proofs.Scanning.{Reading, reading-first, reading-roomy, reading-over, reading-next, reading-stop}
 use borrow.Author.Needs.{needs}
 use Rattle.table.proofs.scan.Statement.{statement}
@@ -56,35 +57,12 @@ loop-holds c = (omega arith, omega arith, refl, refl, reading-first _ _ _)
 -- a line ends no sooner than it begins, and within the text
 ends : (c : tie.After-line-end Inv-loop μ-loop)
     → (head c .loop .at ≤ c .line-end .result) × (c .line-end .result ≤ length (start (head c) .args .text .now))
-ends c =
-    let e = stop-le (start (head c) .args .text .now) (head c .loop .at) (c .before .loop-test .taken) in
-    (omega (arith, c .line-end .ensures), omega (arith, c .line-end .ensures))
-
-sub-content-of : tie.Need-sub-content-of Inv-loop μ-loop
-sub-content-of c = let e = ends c in omega arith
-
-part-content-of-end : tie.Need-part-content-of-end Inv-loop μ-loop
-part-content-of-end c = ends c .1
+ends c = line-ends _ _ _ (c .line-end .ensures) (c .before .loop-test .taken)
 
 -- what is left of a line stands within the text
 left : (c : tie.After-content-of Inv-loop μ-loop)
     → Remains (start (head (measured c)) .args .text .now) (head (measured c) .loop .at) (measured c .line-end .result) (c .content-of .result)
 left c = left-there _ _ (measured c .before .loop-test .taken) (measured c .line-end .ensures) (c .content-of .ensures)
-
-add-from : tie.Need-add-from Inv-loop μ-loop
-add-from c = record { fits = omega (arith, left (c .before) .within, left (c .before) .ordered) }
-
-add-to : tie.Need-add-to Inv-loop μ-loop
-add-to c = record { fits = omega (arith, left (spanned c) .within) }
-
-sub-take-line : tie.Need-sub-take-line Inv-loop μ-loop
-sub-take-line c = omega (arith, left (spanned c) .ordered)
-
-part-take-line-start : tie.Need-part-take-line-start Inv-loop μ-loop
-part-take-line-start c = omega (arith, left (spanned c) .within, left (spanned c) .ordered)
-
-part-take-line-end : tie.Need-part-take-line-end Inv-loop μ-loop
-part-take-line-end c = left (spanned c) .within
 
 take-line-requires : tie.Need-take-line-requires Inv-loop μ-loop
 take-line-requires c κs =
@@ -117,9 +95,6 @@ add-at c = let e = measured (spanned (lent (gone c))) in record { fits = omega (
 add-line : tie.Need-add-line Inv-loop μ-loop
 add-line c = let e = measured (spanned (lent (gone c))) in record { fits = omega (arith, ends e, start (head e) .pre .short, head e .loop .inv .1) }
 
-loop-less : tie.Need-loop-less Inv-loop μ-loop
-loop-less c = omega (arith, ends (measured (spanned (lent (gone c)))))
-
 loop-again : tie.Need-loop-again Inv-loop μ-loop
 loop-again c =
     let t = gone c in
@@ -145,15 +120,15 @@ scan-spec =
     μ-loop
     loop-holds
     (λ c κs. search needs)
-    sub-content-of
+    (λ c. let e = ends c in omega arith)
     (λ c. search needs)
-    part-content-of-end
+    (λ c. ends c .1)
     (λ c κs. search needs)
-    add-from
-    add-to
-    sub-take-line
-    part-take-line-start
-    part-take-line-end
+    (λ c. record { fits = omega (arith, left (c .before) .within, left (c .before) .ordered) })
+    (λ c. record { fits = omega (arith, left (spanned c) .within) })
+    (λ c. omega (arith, left (spanned c) .ordered))
+    (λ c. omega (arith, left (spanned c) .within, left (spanned c) .ordered))
+    (λ c. left (spanned c) .within)
     take-line-requires
     (λ c. search needs)
     (λ c κs. search needs)
@@ -162,7 +137,7 @@ scan-spec =
     returns
     add-at
     add-line
-    loop-less
+    (λ c. omega (arith, ends (measured (spanned (lent (gone c))))))
     loop-again
     (λ c. search needs)
     (λ c. search needs)

@@ -7,13 +7,12 @@ use borrow.Author.Needs.{needs}
 use Rattle.table_lines.proofs.content_of.Statement.{statement}
 use Rattle.table_lines.proofs.content_of.Tie as tie
 
-sub-start : tie.Need-sub-start
-sub-start c = omega (arith, front-le (c .before .uncomment .result .now), ap length (c .trim-front .ensures))
-
 returns : tie.Need-returns
 returns c = rw (c .trim-end .ensures, c .before .trim-front .ensures, c .before .before .uncomment .ensures)
 
 pub content-of-spec : {M : Type 1} → statement M
 content-of-spec =
     tie.close
-    (tie.spec (λ c κs. search needs) (λ c κs. search needs) sub-start (λ c κs. search needs) (λ c. search needs) returns)
+    (tie.spec (λ c κs. search needs) (λ c κs. search needs)
+    (λ c. omega (arith, front-le (c .before .uncomment .result .now), ap length (c .trim-front .ensures))) (λ c κs. search needs)
+    (λ c. search needs) returns)

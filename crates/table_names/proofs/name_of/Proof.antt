@@ -5,8 +5,9 @@ use mathlib.Core.List.{List, [], _∷_}
 use native.Mathlib.Omega.{arith}
 use lib.ListN.{length, take, drop}
 use Rattle.table_lines.specs.Text.{lineOf, linesOf}
+use Rattle.table_lines.proofs.Lining.{line-part, line-ends}
 use Rattle.table_names.specs.Names.{named, beginsCube, firstName, nameOf}
-use Rattle.table_names.proofs.Naming.{no-bytes, line-part, line-ends, name-found, name-closed, name-later, names-from, names-over, name-few, name-many}
+use Rattle.table_names.proofs.Naming.{no-bytes, name-found, name-closed, name-later, names-from, names-over, name-few, name-many}
 use borrow.Author.Needs.{needs}
 use Rattle.table_names.proofs.name_of.Statement.{statement}
 use Rattle.table_names.proofs.name_of.Tie as tie
@@ -48,9 +49,7 @@ unnamed : (c : tie.Else2 Inv-loop μ-loop) → named (input (turn (c .before))) 
 unnamed c = sym (name (c .before)) ∙ no-bytes _ (c .if2 .left)
 
 ends : (c : tie.After-line-end Inv-loop μ-loop) → let h = c .before .before in (h .loop .at ≤ c .line-end .result) × (c .line-end .result ≤ length (table h))
-ends c =
-    let h = c .before .before in
-    (omega (arith, c .line-end .ensures), line-ends (table h) (h .loop .at) _ (c .line-end .ensures) (omega (arith, c .before .loop-test .taken)))
+ends c = line-ends _ _ _ (c .line-end .ensures) (omega (arith, c .before .loop-test .taken))
 
 -- ---- the needs
 
@@ -60,12 +59,6 @@ returns c = c .nothing .ensures ∙ sym (name-many _ _ (c .before .if1 .taken))
 loop-holds : tie.Need-loop-holds Inv-loop μ-loop
 loop-holds c = (omega arith, omega arith, name-few _ _ (omega arith))
 
-sub-line : tie.Need-sub-line Inv-loop μ-loop
-sub-line c = ends c .0
-
-part-line-end : tie.Need-part-line-end Inv-loop μ-loop
-part-line-end c = ends c .1
-
 returns-2 : tie.Need-returns-2 Inv-loop μ-loop
 returns-2 c = name (c .before) ∙ sym (left (c .before) ∙ name-found _ _ _ (omega (arith, c .if2 .taken, ap length (name (c .before)))))
 
@@ -74,12 +67,6 @@ returns-3 c =
     let e = c .before .before .before in
     let cube = ap beginsCube (sym (whole (e .before))) ∙ sym (c .before .before .begins-cube .ensures) ∙ c .before .if3 .taken in
     c .nothing2 .ensures ∙ sym (left (e .before) ∙ name-closed _ _ _ (unnamed e) cube)
-
-add-at : tie.Need-add-at Inv-loop μ-loop
-add-at c = let e = ends (c .before .before .before .before .before) in omega arith
-
-loop-less : tie.Need-loop-less Inv-loop μ-loop
-loop-less c = let e = ends (c .before .before .before .before .before) in omega arith
 
 loop-again : tie.Need-loop-again Inv-loop μ-loop
 loop-again c =
@@ -101,16 +88,16 @@ name-of-spec =
     returns
     loop-holds
     (λ c κs. search needs)
-    sub-line
+    (λ c. ends c .0)
     (λ c. search needs)
-    part-line-end
+    (λ c. ends c .1)
     (λ c κs. search needs)
     returns-2
     (λ c κs. search needs)
     (λ c κs. search needs)
     returns-3
-    add-at
-    loop-less
+    (λ c. let e = ends (c .before .before .before .before .before) in omega arith)
+    (λ c. let e = ends (c .before .before .before .before .before) in omega arith)
     loop-again
     (λ c κs. search needs)
     returns-4)

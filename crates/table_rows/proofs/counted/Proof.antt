@@ -7,11 +7,8 @@ use borrow.Author.Needs.{needs}
 use Rattle.table_rows.proofs.counted.Statement.{statement}
 use Rattle.table_rows.proofs.counted.Tie as tie
 
-cast-t4 : tie.Need-cast-t4
-cast-t4 c = record { fits = omega (arith, ones-le markBits (c .args .marks) (search needs)) }
-
 returns : tie.Need-returns
 returns c = refl
 
 pub counted-spec : {M : Type 1} → statement M
-counted-spec = tie.close (tie.spec cast-t4 returns)
+counted-spec = tie.close (tie.spec (λ c. record { fits = omega (arith, ones-le markBits (c .args .marks) (search needs)) }) returns)

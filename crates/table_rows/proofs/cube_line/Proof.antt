@@ -28,9 +28,6 @@ bounds : (c : tie.Else1)
 bounds c = let a = c .before .before .before .args in
     roomy-bounds (length (a .c .now)) (a .n) (a .m) (room c)
 
-all-of-requires : tie.Need-all-of-requires
-all-of-requires c κs = bounds c .2
-
 -- what the test of the places says
 placed : (c : tie.After-all-of) → all isPlace (take (c .before .before .before .before .args .n) (c .before .before .before .before .args .c .now))
     ≡ c .all-of .result
@@ -41,15 +38,6 @@ returns-2 : tie.Need-returns-2
 returns-2 c = let e = c .before .before in
     let a = e .before .before .before .args in
     rw (← parsing-parts (a .n) (a .m) (a .c .now), room e, placed (c .before) ∙ not-true _ (c .if2 .taken))
-
-sub-trim-front : tie.Need-sub-trim-front
-sub-trim-front c = let k = bounds (c .before .before) .2 in search needs
-
-part-trim-front-start : tie.Need-part-trim-front-start
-part-trim-front-start c = let k = bounds (c .before .before) .2 in search needs
-
-marked-requires : tie.Need-marked-requires
-marked-requires c κs = bounds (c .before .before .before .before)
 
 returns-3 : tie.Need-returns-3
 returns-3 c = let f = c .before .before .before in
@@ -64,11 +52,11 @@ cube-line-spec =
     (tie.spec
     (λ c κs. search needs)
     returns
-    all-of-requires
+    (λ c κs. bounds c .2)
     returns-2
-    sub-trim-front
-    part-trim-front-start
+    (λ c. let k = bounds (c .before .before) .2 in search needs)
+    (λ c. let k = bounds (c .before .before) .2 in search needs)
     (λ c. search needs)
     (λ c κs. search needs)
-    marked-requires
+    (λ c κs. bounds (c .before .before .before .before))
     returns-3)
