@@ -137,8 +137,11 @@ fn wanted_of(head: &[u8]) -> Wanted {
 
 fn answer_net(w: Wanted, n: Network, out: &mut [u8]) -> usize {
     match w {
-        Wanted::Literals => wire::put_told(out, nets::told(network_rules::literals(n))),
-        Wanted::Evaluation(v) => wire::put_told(out, nets::told(network_evaluate::evaluate(n, v))),
+        Wanted::Literals => wire::put_told(out, nets::number_told(network_rules::literals(n))),
+        Wanted::Evaluation(v) => wire::put_told(
+            out,
+            nets::number_told(network_evaluate::evaluate(n, v)),
+        ),
         Wanted::Run(v) => runs::on_extract(n, v, out),
         Wanted::Nothing => wire::put_none(out),
     }

@@ -14,17 +14,6 @@ pub struct Given {
     pub network: Network,
 }
 
-struct Sizes {
-    ok: bool,
-    pool: [u64; 3],
-}
-
-fn read_sizes(text: &[u8]) -> Sizes {
-    let mut pool = [0u64; 3];
-    let n = rooms::read_numbers(text, &mut pool);
-    Sizes { ok: n == 3, pool }
-}
-
 fn narrow(pool: [u64; network::NODES]) -> [usize; network::NODES] {
     let mut counts = [0usize; network::NODES];
     let mut i = 0;
@@ -35,52 +24,24 @@ fn narrow(pool: [u64; network::NODES]) -> [usize; network::NODES] {
     counts
 }
 
-struct Counts {
-    ok: bool,
-    pool: [usize; network::NODES],
-}
-
-fn read_counts(text: &[u8]) -> Counts {
-    let mut pool = [0u64; network::NODES];
-    let n = rooms::read_numbers(text, &mut pool);
-    Counts {
-        ok: n <= network::NODES,
-        pool: narrow(pool),
-    }
-}
-
-struct Words {
-    ok: bool,
-    pool: [u64; network::WORDS],
-}
-
-fn read_words(text: &[u8]) -> Words {
-    let mut pool = [0u64; network::WORDS];
-    let n = rooms::read_numbers(text, &mut pool);
-    Words {
-        ok: n <= network::WORDS,
-        pool,
-    }
-}
-
 // The network of the first three groups. Slots that are not given are 0.
 pub fn read_net(text: &[u8]) -> Given {
     let after = drive_request::tail(text);
-    let s = read_sizes(drive_request::head(text));
-    let c = read_counts(drive_request::head(after));
-    let w = read_words(drive_request::head(drive_request::tail(after)));
-    let sizes = s.pool;
-    let counts = c.pool;
-    let words = w.pool;
+    let mut sizes = [0u64; 3];
+    let mut counts = [0u64; network::NODES];
+    let mut words = [0u64; network::WORDS];
+    let s = rooms::read_numbers(drive_request::head(text), &mut sizes);
+    let c = rooms::read_numbers(drive_request::head(after), &mut counts);
+    let w = rooms::read_numbers(drive_request::head(drive_request::tail(after)), &mut words);
     let network = Network {
         inputs: sizes[0] as usize,
         outputs: sizes[1] as usize,
         divisors: sizes[2] as usize,
-        counts,
+        counts: narrow(counts),
         words,
     };
     Given {
-        ok: s.ok && c.ok && w.ok,
+        ok: s == 3 && c <= network::NODES && w <= network::WORDS,
         network,
     }
 }
@@ -125,7 +86,7 @@ pub fn put_handed(out: &mut [u8], t: Told, network: Network) -> usize {
 }
 
 // What a number is told as.
-pub fn told(x: Number) -> Told {
+pub fn number_told(x: Number) -> Told {
     match x {
         Number::Is(v) => wire::found(v),
         Number::No(k) => wire::refused(k, 0),

@@ -2,13 +2,13 @@
 use drive_request::Count;
 
 // The most bytes of a line.
-pub const LINE: usize = 262144;
+pub const LINE_LENGTH: usize = 262144;
 
 // The most numbers, and the most bytes, that a line can write.
-pub const MOST: usize = LINE / 2;
+pub const MOST: usize = LINE_LENGTH / 2;
 
-pub fn line() -> [u8; LINE] {
-    [0; LINE]
+pub fn line() -> [u8; LINE_LENGTH] {
+    [0; LINE_LENGTH]
 }
 
 pub fn numbers() -> [u64; MOST] {

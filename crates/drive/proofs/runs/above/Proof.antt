@@ -16,9 +16,6 @@ not-below : (z : ℤ) → ltZ z (pos 0) ≡ false → T (nonNeg z)
 not-below (pos n) h = tt
 not-below (negsuc n) h = subst T h tt
 
-returns : tie.Need-returns
-returns c = search needs
-
 cast-result : tie.Need-cast-result
 cast-result c = (
   not-below (toZ w32 (ofZ w32 (c .before .args .w))) (c .if1 .left),
@@ -26,8 +23,5 @@ cast-result c = (
       (record { fits = lt-of-le-of-lt (natAbs-le (c .before .args .w) (c .before .fits .w .sfits)) (lit< tt) }),
 )
 
-returns-2 : tie.Need-returns-2
-returns-2 c = search needs
-
 pub above-spec : {M : Type 1} → statement M
-above-spec = tie.close (tie.spec returns cast-result returns-2)
+above-spec = tie.close (tie.spec (λ c. search needs) cast-result (λ c. search needs))
