@@ -12,7 +12,7 @@ ghost use Rattle.libc.specs.Io.{Ended};
 const LAST: usize = PATH_MAX - 1;
 
 // Room for a path and `.new`.
-const NAME: usize = PATH_MAX + 4;
+const NEW_PATH: usize = PATH_MAX + 4;
 
 // ---- reading
 
@@ -173,10 +173,10 @@ fn replace_by(new: &[u8], path: &[u8], bytes: &[u8]) -> bool {
 
 // The bytes become the file, whole; on a failure, which is said, the file is as it was.
 pub fn replace(path: &[u8], bytes: &[u8]) -> bool {
-    let mut new = [0u8; NAME];
+    let mut new = [0u8; NEW_PATH];
     let at = letters::put_bytes(&mut new, 0, path);
     let n = letters::put_bytes(&mut new, at, b".new");
-    if n > NAME {
+    if n > NEW_PATH {
         complain(path, b": the name is too long");
         return false;
     }

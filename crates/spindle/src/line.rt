@@ -3,6 +3,9 @@ use libc::STDERR_FILENO;
 use libc::STDOUT_FILENO;
 use std::num;
 
+// The most blanks in a row.
+const MOST_BLANKS: usize = 64;
+
 // ---- columns: each of these writes to standard output, and answers the column after
 
 pub fn put(at: usize, text: &[u8]) -> usize {
@@ -54,9 +57,9 @@ pub fn put_name(at: usize, letter: u8, i: usize) -> usize {
     put_number(put_byte(at, letter), i as u64)
 }
 
-// So many blanks, 64 at most.
+// So many blanks; none where they are too many.
 fn blanks(at: usize, count: usize) -> usize {
-    let row = [b' '; 64];
+    let row = [b' '; MOST_BLANKS];
     put_front(at, &row, count)
 }
 

@@ -2,6 +2,7 @@
 use crate::form;
 use crate::line;
 use crate::node;
+use crate::node::Name;
 use network::Network;
 use network::OUTPUTS;
 use network::VARIABLES;
@@ -196,38 +197,50 @@ fn end_list(at: usize) {
     line::new();
 }
 
-// The name and the text of node i, up to the last column.
-fn put_node(n: Network, i: usize, letter: u8, number: usize, wide: usize) {
-    let at = put_name(letter, number);
-    line::column(form::put_text(at, n, i), wide);
+// Whether the node named hangs together with number i of the others.
+fn is_listed(cells: &[bool; CELLS], name: Name, i: usize) -> bool {
+    if name.letter == b'y' {
+        return hangs(cells, name.number, i);
+    }
+    hangs(cells, i, name.number)
 }
 
-// ---- the conditions
-
-// The orchards that hang on the variable v.
-fn put_orchards(cells: &[bool; CELLS], v: usize) -> usize {
+fn put_list(cells: &[bool; CELLS], name: Name, letter: u8, most: usize) -> usize {
     let mut at = 0;
-    let mut j = 0;
-    while j < OUTPUTS {
-        at = put_item(at, hangs(cells, j, v), b'y', j);
-        j += 1;
+    let mut i = 0;
+    while i < most {
+        at = put_item(at, is_listed(cells, name, i), letter, i);
+        i += 1;
     }
     at
 }
 
-fn print_condition(n: Network, i: usize, cells: &[bool; CELLS], wide: usize) {
-    let v = num::wrapping_add_usize(n.inputs, i);
-    put_node(n, num::wrapping_add_usize(n.outputs, i), b'x', v, wide);
-    end_list(put_orchards(cells, v));
+// The conditions that an orchard hangs on, or the orchards that hang on a condition.
+fn put_others(cells: &[bool; CELLS], name: Name) -> usize {
+    if name.letter == b'y' {
+        return put_list(cells, name, b'x', VARIABLES);
+    }
+    put_list(cells, name, b'y', OUTPUTS)
 }
 
-fn print_each_condition(n: Network, cells: &[bool; CELLS], wide: usize) {
+// The name and the text of node i, up to the last column, and its list.
+fn print_node(n: Network, i: usize, cells: &[bool; CELLS], wide: usize) {
+    let name = node::name_of(n, i);
+    let at = put_name(name.letter, name.number);
+    line::column(form::put_text(at, n, i), wide);
+    end_list(put_others(cells, name));
+}
+
+// So many nodes from one on.
+fn print_nodes(n: Network, from: usize, count: usize, cells: &[bool; CELLS], wide: usize) {
     let mut i = 0;
-    while i < n.divisors {
-        print_condition(n, i, cells, wide);
+    while i < count {
+        print_node(n, num::wrapping_add_usize(from, i), cells, wide);
         i += 1;
     }
 }
+
+// ---- the titles
 
 fn print_conditions(divisors: usize, wide: usize) {
     if divisors == 0 {
@@ -235,32 +248,6 @@ fn print_conditions(divisors: usize, wide: usize) {
         return;
     }
     print_title(b"CONDITIONS", b"the orchards that hang on it", wide);
-}
-
-// ---- the orchards
-
-// The conditions that output j hangs on.
-fn put_conditions(cells: &[bool; CELLS], j: usize) -> usize {
-    let mut at = 0;
-    let mut v = 0;
-    while v < VARIABLES {
-        at = put_item(at, hangs(cells, j, v), b'x', v);
-        v += 1;
-    }
-    at
-}
-
-fn print_orchard(n: Network, j: usize, cells: &[bool; CELLS], wide: usize) {
-    put_node(n, j, b'y', j, wide);
-    end_list(put_conditions(cells, j));
-}
-
-fn print_each_orchard(n: Network, cells: &[bool; CELLS], wide: usize) {
-    let mut j = 0;
-    while j < n.outputs {
-        print_orchard(n, j, cells, wide);
-        j += 1;
-    }
 }
 
 fn print_orchards(wide: usize) {
@@ -282,9 +269,9 @@ fn print_lists(n: Network) {
     let wide = list_column(n);
     let cells = network_map::cells(n);
     print_conditions(n.divisors, wide);
-    print_each_condition(n, &cells, wide);
+    print_nodes(n, n.outputs, n.divisors, &cells, wide);
     print_orchards(wide);
-    print_each_orchard(n, &cells, wide);
+    print_nodes(n, 0, n.outputs, &cells, wide);
 }
 
 // The map of the network; the text of its table, or nothing for an image, may name the inputs.

@@ -1,4 +1,4 @@
-// The nodes of a network for printing: the literals and the length of each.
+// The nodes of a network for printing: the name, the literals and the length of each.
 use letters::Wrote;
 use network::Network;
 use std::num;
@@ -12,7 +12,27 @@ ghost use Rattle.expression.specs.Answers.{capped};
 ghost use Rattle.network_nodes.specs.Nodes.{cut};
 
 // The longest text that widens a column.
-const COLUMN: usize = 40;
+const LONGEST: usize = 40;
+
+// The name of a node: a letter and a number.
+pub struct Name {
+    pub letter: u8,
+    pub number: usize,
+}
+
+// Outputs come first, by `y`; divisors follow, by `x`, numbered on from the inputs.
+pub fn name_of(n: Network, i: usize) -> Name {
+    if i < n.outputs {
+        return Name {
+            letter: b'y',
+            number: i,
+        };
+    }
+    Name {
+        letter: b'x',
+        number: num::wrapping_add_usize(n.inputs, i - n.outputs),
+    }
+}
 
 // The literals of node i.
 pub fn literals(n: Network, i: usize) -> u64
@@ -27,12 +47,12 @@ pub fn literals(n: Network, i: usize) -> u64
 fn length_of(f: &[u64]) -> usize
     ensures { λ r. ⌜ r ≤ 40 ⌝ }
 {
-    let mut room = [0u8; COLUMN];
+    let mut room = [0u8; LONGEST];
     let a = factor::factored(f, &mut room);
     let Wrote::Bytes(n) = a else {
         return 0;
     };
-    if n > COLUMN {
+    if n > LONGEST {
         return 0;
     }
     n

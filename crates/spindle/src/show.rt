@@ -37,31 +37,20 @@ fn put_head(letter: u8, number: usize, width: usize) {
     line::put(0, b" = ");
 }
 
-// `x15 = x3+x5  literals 2`: node i, by the name of a letter and a number.
-fn print_node(n: Network, i: usize, letter: u8, number: usize) {
-    put_head(letter, number, name_width(n));
+// `x15 = x3+x5  literals 2`: node i.
+fn print_node(n: Network, i: usize) {
+    let name = node::name_of(n, i);
+    put_head(name.letter, name.number, name_width(n));
     form::put_text(0, n, i);
     line::put_labelled(0, b"  literals ", node::literals(n, i));
     line::new();
 }
 
-fn print_divisors(n: Network) {
+// So many nodes from one on.
+fn print_nodes(n: Network, from: usize, count: usize) {
     let mut i = 0;
-    while i < n.divisors {
-        print_node(
-            n,
-            num::wrapping_add_usize(n.outputs, i),
-            b'x',
-            num::wrapping_add_usize(n.inputs, i),
-        );
-        i += 1;
-    }
-}
-
-fn print_outputs(n: Network) {
-    let mut i = 0;
-    while i < n.outputs {
-        print_node(n, i, b'y', i);
+    while i < count {
+        print_node(n, num::wrapping_add_usize(from, i));
         i += 1;
     }
 }
@@ -69,8 +58,8 @@ fn print_outputs(n: Network) {
 // The counts, then a line for each divisor and each output.
 pub fn show(n: Network) {
     print_counts(n);
-    print_divisors(n);
-    print_outputs(n);
+    print_nodes(n, n.outputs, n.divisors);
+    print_nodes(n, 0, n.outputs);
 }
 
 // ---- one setting
