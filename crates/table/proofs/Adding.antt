@@ -23,7 +23,7 @@ use Rattle.table.specs.Table as table
 use Rattle.table.specs.Meaning.{Bounded}
 use Rattle.table.specs.Parts.{marked, Stands}
 use Rattle.table.specs.declared.State.{State}
-use Rattle.table.proofs.Standing.{wide-none, tall-none, wide-some, tall-some, wide-most, tall-most}
+use Rattle.table.proofs.Standing.{wide-stored, tall-stored}
 
 -- ---- one more cube line
 
@@ -99,10 +99,10 @@ module _ {t : table.State} {s : State} {words marks : List ℕ} (g : Bounded t) 
   result = table.cubeLine (t .wide) (t .tall) c t
 
   pub cube-early : s .inputs ≡ 0 → result ≡ table.refuse 2
-  cube-early e = ap (λ (o : Option ℕ). table.cubeLine o (t .tall) c t) (wide-none g h e)
+  cube-early e = ap (λ (o : Option ℕ). table.cubeLine o (t .tall) c t) (wide-stored g h .absent e)
 
   pub cube-early-too : s .outputs ≡ 0 → result ≡ table.refuse 2
-  cube-early-too e = ap (λ (o : Option ℕ). table.cubeLine (t .wide) o c t) (tall-none g h e) ∙ go (t .wide)
+  cube-early-too e = ap (λ (o : Option ℕ). table.cubeLine (t .wide) o c t) (tall-stored g h .absent e) ∙ go (t .wide)
     where
       go : (o : Option ℕ) → table.cubeLine o none c t ≡ table.refuse 2
       go none = refl
@@ -110,11 +110,11 @@ module _ {t : table.State} {s : State} {words marks : List ℕ} (g : Bounded t) 
 
   module _ (i : s .inputs ≡ 0 → ⊥) (o : s .outputs ≡ 0 → ⊥) where
     cube-there : result ≡ table.addLine (cubeLineOf (s .inputs) (s .outputs) c) t
-    cube-there = ap₂ (λ (a b : Option ℕ). table.cubeLine a b c t) (wide-some g h i) (tall-some g h o)
+    cube-there = ap₂ (λ (a b : Option ℕ). table.cubeLine a b c t) (wide-stored g h .present i) (tall-stored g h .present o)
 
     parsing-there : parsing (s .inputs) (s .outputs) c ≡ entryOf (cubeLineOf (s .inputs) (s .outputs) c)
     unfolding parsing
-    parsing-there = rw (le-leb (s .inputs) mostPlaces (wide-most g h), le-leb (s .outputs) mostPlaces (tall-most g h))
+    parsing-there = rw (le-leb (s .inputs) mostPlaces (wide-stored g h .few), le-leb (s .outputs) mostPlaces (tall-stored g h .few))
 
     module _ {p : Parsed} (e : parsedOf p ≡ parsing (s .inputs) (s .outputs) c) where
       pub cube-other : p ≡ Nothing → result ≡ table.refuse 2

@@ -27,7 +27,7 @@ use Rattle.network.proofs.Evaluating.{evaluate-past}
 use Rattle.network.proofs.Handing.{holds-net}
 use Rattle.network.proofs.Ruling.{holds-lawful}
 use Rattle.table_rows.specs.Lines.{CubeLine}
-use Rattle.table.specs.Table.{mostRows, State, cubesFor, outputFor, tableNet, orZero, Outcome, accepted, readText}
+use Rattle.table.specs.Table.{mostRows, State, cubesFor, outputFor, tableNet, orZero, accepted, readText}
 use Rattle.table.specs.Written.{inputsOf, outputsOf, cubeLinesOf, someCovers}
 use Rattle.table.specs.Answers.{Told}
 use Rattle.table.specs.Meaning.{Complete, Says}
@@ -39,7 +39,7 @@ use Rattle.table.proofs.Writing.{read-lines}
 use Rattle.table.proofs.Telling.{told-accepted}
 use Rattle.table.proofs.Outputs.{output-reads, output-literals, outputs-are, outputs-ordered, outputs-rows}
 
-module _ (s : State) (n m : ℕ) (c : Complete s n m) where
+module _ {s : State} {n m : ℕ} (c : Complete s n m) where
   tall : orZero (s .tall) ≡ m
   tall = ap orZero (c .tall)
 
@@ -151,10 +151,10 @@ module _ (t : List ℕ) (r : Table) (o : Told (readText t) r) (e : r .answer ≡
       same h k = cc
 
   holds : Holds (r .network) (tableNet final)
-  holds = (subst (λ (z : Outcome). Told z r) is o) .1
+  holds = (rw is at o) .1
 
   net : netOf (r .network) ≡ tableNet final
-  net = table-net final (inputsOf t) (outputsOf t) whole (r .network) holds
+  net = table-net whole (r .network) holds
 
   -- its network is that of the table
   pub read-net : (s : State) × (readText t ≡ accepted s) × (netOf (r .network) ≡ tableNet s)
@@ -162,11 +162,11 @@ module _ (t : List ℕ) (r : Table) (o : Told (readText t) r) (e : r .answer ≡
 
   -- as many inputs and outputs as `.i` and `.o` say
   pub read-sizes : (r .network .inputs ≡ inputsOf t) × (r .network .outputs ≡ outputsOf t)
-  read-sizes = (holds .inputs ∙ table-inputs final (inputsOf t) (outputsOf t) whole, holds .outputs ∙ outputs-number final (inputsOf t) (outputsOf t) whole)
+  read-sizes = (holds .inputs ∙ table-inputs whole, holds .outputs ∙ outputs-number whole)
 
   -- it keeps the rules
   pub read-rules : rules (r .network) ≡ true
-  read-rules = table-rules final (inputsOf t) (outputsOf t) whole (r .network) holds
+  read-rules = table-rules whole (r .network) holds
 
   -- the answer has output j at bit j: on exactly when some cube line of the text with a `1` for output j covers the setting; other bits are zero
   pub read-outputs : (x : ℕ) → (y : ℕ) × (evaluated (r .network) x ≡ Is y)
@@ -176,10 +176,10 @@ module _ (t : List ℕ) (r : Table) (o : Told (readText t) r) (e : r .answer ≡
   read-outputs x = (
     evaluate (tableNet final) x,
     rw read-rules (ap (λ (k : Net). Is (evaluate k x)) net),
-    λ j h. outputs-rows final (inputsOf t) (outputsOf t) whole x j h ∙ ap (λ (l : List CubeLine). someCovers l x j) (written .lines),
-    λ j h. evaluate-past (tableNet final) x j (omega (arith, outputs-number final (inputsOf t) (outputsOf t) whole)),
+    λ j h. outputs-rows whole x j h ∙ ap (λ (l : List CubeLine). someCovers l x j) (written .lines),
+    λ j h. evaluate-past (tableNet final) x j (omega (arith, outputs-number whole)),
   )
 
   -- its cubes stand in cube order
   pub read-ordered : (f : List (List ℕ)) → f ∈ nodes (netOf (r .network)) → ordered f ≡ true
-  read-ordered f i = outputs-ordered final f (in-outputs final (inputsOf t) (outputsOf t) whole f (subst (λ (k : Net). f ∈ nodes k) net i)) .1
+  read-ordered f i = outputs-ordered final f (in-outputs whole f (subst (λ (k : Net). f ∈ nodes k) net i)) .1

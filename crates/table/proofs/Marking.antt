@@ -10,7 +10,7 @@ use borrow.Author.Tests.{lt-ltb, ltb-true}
 use Rattle.sets.specs.Lists.{keep, total, from}
 use Rattle.sets.specs.Masks.{bit, packed}
 use Rattle.sets.proofs.Truth.{clash}
-use Rattle.sets.proofs.Lists.{_∈_, keep-keep, total-cong, total-sum, total-map, map-cong}
+use Rattle.sets.proofs.Lists.{_∈_, keep-keep, total-cong, total-sum, total-times, total-map, map-cong}
 use Rattle.expression.specs.Words.{cubesOf}
 use Rattle.expression.specs.Expression.{sort, absorbed}
 use Rattle.table_rows.specs.Lines.{CubeLine, rowsIn, cubeOf}
@@ -88,13 +88,9 @@ marks-total (b ∷ l) =
     go true = omega arith
     go false = omega arith
 
-nothing : (l : List ℕ) → total (λ j. 0) l ≡ 0
-nothing [] = refl
-nothing (x ∷ l) = omega (arith, nothing l)
-
 pub rows-exchange : (m : ℕ) (l : List CubeLine) → ((c : CubeLine) → c ∈ l → length (c .marks) ≡ m)
     → total (λ j. length (cubesFor j l)) (from 0 m) ≡ total rowsIn l
-rows-exchange m [] h = nothing (from 0 m)
+rows-exchange m [] h = omega (arith, total-times (λ j. 0) 0 (from 0 m))
 rows-exchange m (c ∷ l) h =
     total-sum (λ j. length (cubesFor j (c ∷ l))) (λ j. one (has j c)) (λ j. length (cubesFor j l)) (from 0 m) (λ j i. go j (has j c))
     ∙ ap₂ _+_ (ap (λ (k : ℕ). total (λ j. one (has j c)) (from 0 k)) (sym (h c (here refl))) ∙ marks-total (c .marks))

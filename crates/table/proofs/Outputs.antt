@@ -119,9 +119,9 @@ unfolding tableNet listing listMore settle
 settled s a = refl
 
 -- output j is on exactly when some row of output j, as written, covers the setting
-pub outputs-rows : (s : State) (n m : ℕ) → Complete s n m → (x j : ℕ) → j < m
+pub outputs-rows : {s : State} {n m : ℕ} → Complete s n m → (x j : ℕ) → j < m
     → bit (evaluate (tableNet s) x) j ≡ someCovers (s .lines) x j
-outputs-rows s n m c x j h =
+outputs-rows {s} {n} {m} c x j h =
     evaluate-bit (tableNet s) x j
     ∙ ap₂ (λ (a : ℕ → Bool) (f : List (List ℕ)). value (lit a) f) (settled s (bit x)) (net-output s j (subst (λ (o : ℕ). j < o) (sym (ap orZero (c .tall))) h))
     ∙ output-value n m (s .lines) j (c .shaped) (bit x)

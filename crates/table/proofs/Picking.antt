@@ -16,6 +16,7 @@ onto true c f g = refl
 onto false c f g = refl
 
 module _ (j : ℕ) where
+  -- one more place
   next : (f : List (List ℕ)) (ms : List ℕ) (i : ℕ) → i < length f → i < length ms
       → picked j (take (suc i) f) (take (suc i) ms) ≡ picked j (take i f) (take i ms) ++ cond (bit (getD ms i 0) j) (getD f i [] ∷ []) []
   unfolding picked
@@ -24,11 +25,6 @@ module _ (j : ℕ) where
   next (c ∷ f) (m ∷ ms) zero h k = refl
   next (c ∷ f) (m ∷ ms) (suc i) h k = rw (next f ms i (omega arith) (omega arith))
       (onto (bit m j) c (picked j (take i f) (take i ms)) (cond (bit (getD ms i 0) j) (getD f i [] ∷ []) []))
-
-  -- one more place
-  picked-next : (f : List (List ℕ)) (ms : List ℕ) (i : ℕ) → i < length f → i < length ms
-      → picked j (take (i + 1) f) (take (i + 1) ms) ≡ picked j (take i f) (take i ms) ++ cond (bit (getD ms i 0) j) (getD f i [] ∷ []) []
-  picked-next f ms i h k = rw add-one (next f ms i h k)
 
   -- from fewer places no more are picked
   pub picked-fewer : (f : List (List ℕ)) (ms : List ℕ) (i k : ℕ) → i ≤ k → length (picked j (take i f) (take i ms)) ≤ length (picked j (take k f) (take k ms))
@@ -54,9 +50,7 @@ module _ (j : ℕ) {words marks : List ℕ} {kept : ℕ} (o : Stock words marks 
 
   module _ (i : ℕ) {old mid : List ℕ} {a to : ℕ} (h : i < kept) (t : Appends old mid a (pick j words marks i) to) where
     more : {b : Bool} → bit (getD marks i 0) j ≡ b → pick j words marks (i + 1) ≡ pick j words marks i ++ cond b (getD (cubesOf words) i [] ∷ []) []
-    more e =
-        picked-next j (cubesOf words) marks i (omega (arith, o .cubes)) (omega (arith, o .masks))
-        ∙ ap (λ (b : Bool). pick j words marks i ++ cond b (getD (cubesOf words) i [] ∷ []) []) e
+    more e = rw (add-one, next j (cubesOf words) marks i (omega (arith, o .cubes)) (omega (arith, o .masks)), e)
 
     pub pick-skip : bit (getD marks i 0) j ≡ false → Appends old mid a (pick j words marks (i + 1)) to
     pick-skip e = appends-as (sym (more e ∙ append-nil (pick j words marks i))) t

@@ -21,9 +21,19 @@ use Rattle.table.proofs.Reasons.{is-none}
 
 -- ---- a number from 1 on stands for itself, 0 for a missing one
 
-zero-missing : (most : ℕ) (o : Option ℕ) → within most o ≡ true → missing o ≡ eqb (orZero o) 0
-zero-missing most none h = refl
-zero-missing most (some n) h = sym (ne-eqb n 0 (λ e. omega (arith, leb-true 1 n (both (leb 1 n) (leb n most) h .0))))
+pub record Stored (most : ℕ) (o : Option ℕ) (k : ℕ) : Type 0 where
+  pub gone : missing o ≡ eqb k 0
+  pub absent : k ≡ 0 → o ≡ none
+  pub present : (k ≡ 0 → ⊥) → o ≡ some k
+  pub few : k ≤ most
+
+number-stored : (most : ℕ) (o : Option ℕ) (k : ℕ) → within most o ≡ true → k ≡ orZero o → Stored most o k
+number-stored most none k h e = record { gone = sym (eq-eqb k 0 e); absent = λ z. refl; present = λ f. absurd (f e); few = omega arith }
+number-stored most (some n) k h e =
+    let q = both (leb 1 n) (leb n most) h in
+    let l = leb-true 1 n (q .0) in
+    let u = leb-true n most (q .1) in
+    record { gone = sym (ne-eqb k 0 (λ z. omega arith)); absent = λ z. absurd (omega arith); present = λ f. ap some (sym e); few = omega arith }
 
 one-missing : (o : Option ℕ) → missing o ≡ eqb (oneMore o) 0
 one-missing none = refl
@@ -32,14 +42,6 @@ one-missing (some n) = sym (ne-eqb (n + 1) 0 (λ e. omega arith))
 nil-zero : (l : List CubeLine) → isNil l ≡ eqb (length l) 0
 nil-zero [] = refl
 nil-zero (c ∷ l) = sym (ne-eqb (length (c ∷ l)) 0 (λ e. omega arith))
-
-some-of : (o : Option ℕ) → (orZero o ≡ 0 → ⊥) → o ≡ some (orZero o)
-some-of none f = absurd (f refl)
-some-of (some n) f = refl
-
-at-most : (most : ℕ) (o : Option ℕ) → within most o ≡ true → orZero o ≤ most
-at-most most none h = omega arith
-at-most most (some n) h = leb-true n most (both (leb 1 n) (leb n most) h .1)
 
 unequal : (o : Option ℕ) (l : List CubeLine) (x y : ℕ) → x ≡ oneMore o → y ≡ length l → (x ≡ 0 → ⊥) → (x - 1 ≡ y → ⊥) → rightCount o l ≡ false
 unequal none l x y e d f g = absurd (f e)
@@ -53,32 +55,14 @@ pub lines-none : {t : table.State} {s : State} {words marks : List ℕ} → Stan
 lines-none {t} h = rw (h .lines) (nil-zero (t .lines))
 
 module _ {t : table.State} {s : State} {words marks : List ℕ} (g : Bounded t) (h : Stands t s words marks) where
-  pub wide-missing : missing (t .wide) ≡ eqb (s .inputs) 0
-  wide-missing = rw (h .wide) (zero-missing mostInputs (t .wide) (g .wide))
+  pub wide-stored : Stored mostInputs (t .wide) (s .inputs)
+  wide-stored = number-stored mostInputs (t .wide) (s .inputs) (g .wide) (h .wide)
 
-  pub tall-missing : missing (t .tall) ≡ eqb (s .outputs) 0
-  tall-missing = rw (h .tall) (zero-missing mostOutputs (t .tall) (g .tall))
+  pub tall-stored : Stored mostOutputs (t .tall) (s .outputs)
+  tall-stored = number-stored mostOutputs (t .tall) (s .outputs) (g .tall) (h .tall)
 
   pub stated-missing : missing (t .stated) ≡ eqb (s .stated) 0
   stated-missing = rw (h .stated) (one-missing (t .stated))
-
-  pub wide-none : s .inputs ≡ 0 → t .wide ≡ none
-  wide-none e = is-none (t .wide) (wide-missing ∙ eq-eqb _ 0 e)
-
-  pub tall-none : s .outputs ≡ 0 → t .tall ≡ none
-  tall-none e = is-none (t .tall) (tall-missing ∙ eq-eqb _ 0 e)
-
-  pub wide-some : (s .inputs ≡ 0 → ⊥) → t .wide ≡ some (s .inputs)
-  wide-some f = some-of (t .wide) (λ e. f (h .wide ∙ e)) ∙ ap some (sym (h .wide))
-
-  pub tall-some : (s .outputs ≡ 0 → ⊥) → t .tall ≡ some (s .outputs)
-  tall-some f = some-of (t .tall) (λ e. f (h .tall ∙ e)) ∙ ap some (sym (h .tall))
-
-  pub wide-most : s .inputs ≤ mostInputs
-  wide-most = omega (arith, h .wide, at-most mostInputs (t .wide) (g .wide))
-
-  pub tall-most : s .outputs ≤ mostOutputs
-  tall-most = omega (arith, h .tall, at-most mostOutputs (t .tall) (g .tall))
 
   pub agrees-unstated : s .stated ≡ 0 → rightCount (t .stated) (t .lines) ≡ true
   agrees-unstated e = ap (λ (o : Option ℕ). rightCount o (t .lines)) (is-none (t .stated) (stated-missing ∙ eq-eqb _ 0 e))

@@ -7,18 +7,18 @@ use borrow.Author.Tests.{eq-eqb, ne-eqb}
 use Rattle.table.specs.Table.{State, missing, finish}
 use Rattle.table.specs.Meaning.{Bounded}
 use Rattle.table.specs.Parts.{Stands}
-use Rattle.table.proofs.Standing.{wide-missing, tall-missing, agrees-unstated, agrees-not, agrees-so}
+use Rattle.table.proofs.Standing.{wide-stored, tall-stored, agrees-unstated, agrees-not, agrees-so}
 use borrow.Author.Needs.{needs}
 use Rattle.table.proofs.finish.Statement.{statement}
 use Rattle.table.proofs.finish.Tie as tie
 
 returns : tie.Need-returns
 unfolding finish
-returns c = λ t words marks g h. rw (wide-missing g h ∙ eq-eqb _ 0 (c .if1 .taken))
+returns c = λ t words marks g h. rw (wide-stored g h .gone ∙ eq-eqb _ 0 (c .if1 .taken))
 
 returns-2 : tie.Need-returns-2
 unfolding finish
-returns-2 c = λ t words marks g h. rw (wide-missing g h ∙ ne-eqb _ 0 (c .before .before .if1 .left), tall-missing g h ∙ eq-eqb _ 0 (c .if2 .taken))
+returns-2 c = λ t words marks g h. rw (wide-stored g h .gone ∙ ne-eqb _ 0 (c .before .before .if1 .left), tall-stored g h .gone ∙ eq-eqb _ 0 (c .if2 .taken))
 
 abbrev start : tie.Else2 → tie.Start
 start d = d .before .before .before .before
@@ -26,7 +26,7 @@ start d = d .before .before .before .before
 -- neither test stops it: `.i` and `.o` are there
 there : (d : tie.Else2) {t : State} {words marks : List ℕ} → Bounded t → Stands t (start d .args .s) words marks
     → (missing (t .wide) ≡ false) × (missing (t .tall) ≡ false)
-there d g h = (wide-missing g h ∙ ne-eqb _ 0 (d .before .before .if1 .left), tall-missing g h ∙ ne-eqb _ 0 (d .if2 .left))
+there d g h = (wide-stored g h .gone ∙ ne-eqb _ 0 (d .before .before .if1 .left), tall-stored g h .gone ∙ ne-eqb _ 0 (d .if2 .left))
 
 returns-3 : tie.Need-returns-3
 unfolding finish

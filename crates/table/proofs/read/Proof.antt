@@ -1,9 +1,8 @@
 -- `table::read` meets its contract: the lines scanned, and the network built of what they hold. Assumes nothing.
-use mathlib.Core.Path.{_≡_, sym, subst}
+use mathlib.Core.Path.{_≡_, subst}
 use Rattle.expression.proofs.Words.{room-cubes}
 use Rattle.network.specs.Handed.{Holds}
-use Rattle.table.specs.Table.{mostRows, State, Outcome, accepted, readText}
-use Rattle.table.specs.Answers.{Told}
+use Rattle.table.specs.Table.{mostRows, State, accepted, readText}
 use Rattle.table.specs.Parts.{Stands}
 use Rattle.table.proofs.Refusals.{text-long, accepted-complete}
 use Rattle.table.proofs.Marking.{kept-buildable, net-same}
@@ -13,7 +12,7 @@ use Rattle.table.proofs.read.Statement.{statement}
 use Rattle.table.proofs.read.Tie as tie
 
 returns : tie.Need-returns
-returns c = subst (λ (o : Outcome). Told o (c .refused .result)) (sym (text-long _ (c .before .if1 .taken))) (c .refused .ensures)
+returns c = rw (text-long _ (c .before .if1 .taken)) (c .refused .ensures)
 
 -- the states of the walk: what was scanned, and that it was read
 abbrev start : tie.After-scan → tie.Start
@@ -49,8 +48,7 @@ returns-3 : tie.Need-returns-3
 returns-3 c =
     let q = all-read (c .before) in
     let r = read-in q in
-    subst (λ (o : Outcome). Told o (record { answer = lines-read q .scan .result .answer; network = c .build .result })) (sym (r .1))
-    (q .enum-told .given .1, subst (Holds (c .build .result)) (net-same (r .2)) (c .build .ensures))
+    rw (r .1) (q .enum-told .given .1, subst (Holds (c .build .result)) (net-same (r .2)) (c .build .ensures))
 
 pub read-spec : {M : Type 1} → statement M
 read-spec =
