@@ -30,7 +30,7 @@ pub fn name_of(n: Network, i: usize) -> Name {
     }
     Name {
         letter: b'x',
-        number: num::wrapping_add_usize(n.inputs, i - n.outputs),
+        number: network::number_of(n.inputs, i - n.outputs),
     }
 }
 
