@@ -18,13 +18,18 @@ const MEANING: usize = 14;
 
 // ---- the heading
 
+// A comma, and how many things.
+fn put_more(x: u64, thing: &[u8]) {
+    line::put_things(line::put(0, b", "), x, thing);
+}
+
 // `MAP: 15 inputs, 6 shared conditions, 19 orchards, 80 literals`
 fn print_counts(n: Network) {
     line::put(0, b"MAP: ");
     line::put_things(0, n.inputs as u64, b" input");
-    line::put_things(line::put(0, b", "), n.divisors as u64, b" shared condition");
-    line::put_things(line::put(0, b", "), n.outputs as u64, b" orchard");
-    line::put_things(line::put(0, b", "), form::literals(n), b" literal");
+    put_more(n.divisors as u64, b" shared condition");
+    put_more(n.outputs as u64, b" orchard");
+    put_more(form::literals(n), b" literal");
     line::print(b"\n");
 }
 
