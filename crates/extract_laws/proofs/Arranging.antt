@@ -14,7 +14,7 @@ use Rattle.expression.proofs.Sorting.{sort-in, sort-out, total-sort, sort-lengt
 use Rattle.network.specs.Net.{Node, Net, nodes, variables, cubeCount, literalCount}
 use Rattle.network.specs.Evaluation.{evaluate}
 use Rattle.network.specs.Meaning.{SameCubes, Along, SameNode, Reordered}
-use Rattle.network.specs.Meaning.Along.{none as end, more as on}
+use Rattle.network.specs.Meaning.Along.{end, on}
 use Rattle.network.specs.Map.{onNode}
 use Rattle.network.proofs.Evaluating.{evaluate-order}
 use Rattle.network.proofs.Mapping.{mapped-nodes, mapped-node, mapped-outputs, mapped-divisors, mapped-total, mapped-good, mapped-fixed}

@@ -23,7 +23,7 @@ use Rattle.network.specs.Net.{Node, Net, cubesAt}
 use Rattle.network.specs.Listing.{ready, nextReady, listMore, listing}
 use Rattle.network.specs.Evaluation.{assign, settle, answers, evaluate}
 use Rattle.network.specs.Meaning.{differ, Reads, Consistent, IsVariable, Closed, Distinct, Sound, SameCubes, Along, SameNode, Reordered}
-use Rattle.network.specs.Meaning.Along.{none as end, more as on}
+use Rattle.network.specs.Meaning.Along.{end, on}
 use Rattle.network.proofs.Places.{split-in, once-apart}
 use Rattle.network.proofs.Numbering.{cubes-at}
 use Rattle.network.proofs.Listings.{more-none, more-some, ready-out, next-some, listing-next, listing-once, listing-number, listing-in, listing-reads}
@@ -60,24 +60,22 @@ module _ (n : Net) (d : Distinct n) (w : length (listing n) ≡ length (n .divis
   settle-input a i h = settle-other n (listing n) a i (λ m. omega (arith, listed-above i m))
 
   settle-node : (a : ℕ → Bool) (e : Node) → e ∈ n .divisors → settle n (listing n) a (e .number) ≡ value (lit (settle n (listing n) a)) (e .cubes)
-  settle-node a e m = go ((split-in (listing-in n w e m)) .0) ((split-in (listing-in n w e m)) .1) ((split-in (listing-in n w e m)) .2)
-    where
-      go : (p b : List ℕ) → listing n ≡ p ++ (e .number ∷ b) → settle n (listing n) a (e .number) ≡ value (lit (settle n (listing n) a)) (e .cubes)
-      go p b q =
-          let once : pairwise differ (p ++ (e .number ∷ b)) ≡ true = rw q at (listing-once n) in
-          let tail : e .number ∈ b → ⊥ = λ i. once-apart (p ++ (e .number ∷ [])) b (rw append-assoc once) (Memᴰ·append-right p (here refl)) i in
-          let whole : settle n (listing n) a ≡ settle n (e .number ∷ b) (settle n p a) = ap (λ (l : List ℕ). settle n l a) q
-          ∙ settle-append n p (e .number ∷ b) a in
-          let stays : (u : ℕ) → (u ∈ (e .number ∷ b) → ⊥) → settle n p a u ≡ settle n (listing n) a u =
-          λ u h. sym (ap (λ (f : ℕ → Bool). f u) whole ∙ settle-other n (e .number ∷ b) (settle n p a) u h) in
-          ap (λ (f : ℕ → Bool). f (e .number)) whole
-          ∙ settle-at n b (settle n p a) (e .number) tail
-          ∙ ap (value (lit (settle n p a))) (cubes-at n d m)
-          ∙ value-agree (settle n p a) (settle n (listing n) a) (e .cubes) (λ u r. stays u (λ i.
-          elim (listing-reads n d p b e m q u r) [
-            | inl h ↦ let k : n .inputs ≤ u = listed-above u (subst (λ (l : List ℕ). u ∈ l) (sym q) (Memᴰ·append-right p i)) in omega arith
-            | inr k ↦ once-apart p (e .number ∷ b) once k i
-          ]))
+  settle-node a e m =
+      let (p, b, q) = split-in (listing-in n w e m) in
+      let once : pairwise differ (p ++ (e .number ∷ b)) ≡ true = rw q at (listing-once n) in
+      let tail : e .number ∈ b → ⊥ = λ i. once-apart (p ++ (e .number ∷ [])) b (rw append-assoc once) (Memᴰ·append-right p (here refl)) i in
+      let whole : settle n (listing n) a ≡ settle n (e .number ∷ b) (settle n p a) = ap (λ (l : List ℕ). settle n l a) q
+      ∙ settle-append n p (e .number ∷ b) a in
+      let stays : (u : ℕ) → (u ∈ (e .number ∷ b) → ⊥) → settle n p a u ≡ settle n (listing n) a u =
+      λ u h. sym (ap (λ (f : ℕ → Bool). f u) whole ∙ settle-other n (e .number ∷ b) (settle n p a) u h) in
+      ap (λ (f : ℕ → Bool). f (e .number)) whole
+      ∙ settle-at n b (settle n p a) (e .number) tail
+      ∙ ap (value (lit (settle n p a))) (cubes-at n d m)
+      ∙ value-agree (settle n p a) (settle n (listing n) a) (e .cubes) (λ u r. stays u (λ i.
+      elim (listing-reads n d p b e m q u r) [
+        | inl h ↦ let k : n .inputs ≤ u = listed-above u (subst (λ (l : List ℕ). u ∈ l) (sym q) (Memᴰ·append-right p i)) in omega arith
+        | inr k ↦ once-apart p (e .number ∷ b) once k i
+      ]))
 
   -- the divisors of a whole listing settle to an assignment that fits
   pub settled : (s a : ℕ → Bool) → ((i : ℕ) → i < n .inputs → a i ≡ s i) → Consistent n s (settle n (listing n) a)

@@ -1,18 +1,18 @@
 -- A network handed back means what it holds, and what it holds leaves one struct. Assumes nothing.
 use Prim.Native.Nat.{ℕ, _+_}
 use mathlib.Core.Path.{_≡_, refl, sym, ap, ap₂, _∙_}
-use mathlib.Core.Bool.{true}
 use mathlib.Core.List.{List, [], _∷_, _++_, map, append-assoc, append-nil}
 use native.Mathlib.Omega.{arith}
 use lib.ListN.{length, take, drop, length-append, length-map}
 use lib.Seq.{take-append-seam, drop-append-seam, take-at}
 use Rattle.sets.specs.Lists.{total}
 use Rattle.expression.specs.Words.{cubesOf, spareOf}
-use Rattle.expression.proofs.Words.{fit, words-ext, cubes-length, spare-length}
+use Rattle.expression.proofs.Words.{words-ext, cubes-length, spare-length}
 use Rattle.network.specs.Net.{Node, Net, nodes}
 use Rattle.network.specs.Held.{numbered, used, netOf}
 pub use Rattle.network.specs.Rules.{InTurn}
 use Rattle.network_nodes.specs.Nodes.{cut}
+pub use Rattle.network.specs.Handed.{Typed}
 use Rattle.network.specs.Handed.{flat, nodeSlots, wordSlots, Shaped, Holds, Blank}
 use Rattle.network.specs.declared.Network.{Network}
 
@@ -40,14 +40,8 @@ module _ (n : Network) (m : Net) (h : Holds n m) where
   used-held = ap₂ take slots (h .laid .counts) ∙ take-at (map length (nodes m)) _ (length (nodes m)) (length-map (nodes m) length)
     where
       slots : n .outputs + n .divisors ≡ length (nodes m)
-      slots = omega (
-        arith,
-        h .outputs,
-        h .divisors,
-        length-append (m .outputs) (map (λ (e : Node). e .cubes) (m .divisors)),
-        length-map (m .divisors)
-            (λ (e : Node). e .cubes),
-      )
+      slots = rw (length-append (m .outputs) (map (λ (e : Node). e .cubes) (m .divisors)), length-map (m .divisors) (λ (e : Node). e .cubes))
+          (omega (arith, h .outputs, h .divisors))
 
   nodes-cut : cut (used n) (cubesOf (n .words)) ≡ nodes m
   nodes-cut = ap₂ cut used-held (h .laid .cubes) ∙ cut-flat (nodes m) _
@@ -61,11 +55,6 @@ module _ (n : Network) (m : Net) (h : Holds n m) where
   }
 
 -- ---- one struct
-
--- a value of the type: arrays of their lengths, and words of 64 bits
-pub record Typed (n : Network) : Type 0 where
-  pub shape : Shaped n
-  pub fits : fit (n .words) ≡ true
 
 -- the lengths of the arrays are the struct's shape
 pub shape-of : (n : Network) → length (n .counts) ≡ nodeSlots → length (n .words) ≡ wordSlots → Shaped n

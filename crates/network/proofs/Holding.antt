@@ -1,13 +1,13 @@
 -- What a network's fields mean: the slots in use alone count, the counts cut the cubes into nodes, and the test `rules` says what the
 -- paper's rules say. Assumes nothing.
-use Prim.Native.Nat.{ℕ, zero, suc, _+_, _<_, _≤_}
+use Prim.Native.Nat.{ℕ, zero, suc, _+_, _-_, _<_, _≤_}
 use mathlib.Core.Path.{_≡_, refl, sym, ap, ap₂, _∙_}
 use mathlib.Core.Logic.{_↔_}
 use mathlib.Core.Bool.{Bool, true, cond, _&&_}
 use mathlib.Core.List.{List, [], _∷_, _++_}
 use native.Mathlib.Nat.{zero-add}
 use native.Mathlib.Omega.{arith}
-use lib.Dec.{leb, eqb}
+use lib.Dec.{leb}
 use lib.ListN.{length, getD, take, drop, length-take, length-drop, take-append-drop}
 use lib.Seq.{length-take-le, take-nil, getD-take, getD-drop, take-take, take-add}
 use borrow.Author.Tests.{leb-true, le-leb, eqb-true, eq-eqb}
@@ -21,7 +21,8 @@ use Rattle.network.specs.Net.{Net, cubesAt, nodes, over, cubeCount, lite
 use Rattle.network.specs.Listing.{listing}
 use Rattle.network.specs.Evaluation.{settle, answers, evaluate}
 use Rattle.network.specs.Meaning.{Consistent, Distinct, Closed, Sound}
-use Rattle.network.specs.Held.{numbered, used, netOf, sized, upTo, ruled, rules, mostInputs, mostOutputs, mostVariables, mostCubes, mostLiterals}
+use Rattle.network.specs.Held.{numbered, numberAt, placeAt, used, netOf, sized, upTo, ruled, rules, mostInputs, mostOutputs, mostVariables}
+use Rattle.network.specs.Held.{mostCubes, mostLiterals}
 use Rattle.network_nodes.specs.Nodes.{cut}
 use Rattle.network_nodes.proofs.Cutting.{cut-length, cut-lengths}
 use Rattle.network.specs.Rules.{Alike, InTurn, Follows}
@@ -31,7 +32,7 @@ use Rattle.network.specs.declared.Network.{Network}
 use Rattle.network.specs.declared.Number.the-variants.{Is, No}
 use Rattle.network.proofs.Places.{all-append}
 use Rattle.network.proofs.Numbering.{numbered-length, numbered-cubes, numbered-at, numbered-distinct, known-below, below-known, over-in}
-use Rattle.network.proofs.Numbering.{over-out, nodes-closed}
+use Rattle.network.proofs.Numbering.{over-out, nodes-closed, number-place}
 use Rattle.network.proofs.Listings.{listing-acyclic, good-sound}
 use Rattle.network.proofs.Evaluating.{unique, evaluate-settled, evaluate-read}
 
@@ -89,9 +90,14 @@ module _ (n : Network) where
   pub output-held : (i : ℕ) → i < n .outputs → getD ((netOf n) .outputs) i [] ≡ getD (cut (used n) (cubesOf (n .words))) i []
   output-held i h = getD-take (n .outputs) (cut (used n) (cubesOf (n .words))) i [] h
 
-  pub divisor-held : (i : ℕ) → cubesAt (n .inputs + i) ((netOf n) .divisors) ≡ getD (cut (used n) (cubesOf (n .words))) (n .outputs + i) []
+  pub divisor-held : (i : ℕ) → cubesAt (numberAt (n .inputs) i) ((netOf n) .divisors) ≡ getD (cut (used n) (cubesOf (n .words))) (n .outputs + i) []
   divisor-held i =
       numbered-at (n .inputs) (drop (n .outputs) (cut (used n) (cubesOf (n .words)))) i ∙ getD-drop (n .outputs) (cut (used n) (cubesOf (n .words))) i []
+
+  -- a divisor's expression stands at the place of its number
+  pub place-held : (v : ℕ) → n .inputs ≤ v
+      → cubesAt v ((netOf n) .divisors) ≡ getD (cut (used n) (cubesOf (n .words))) (placeAt (n .inputs) (n .outputs) v) []
+  place-held v h = ap (λ u. cubesAt u ((netOf n) .divisors)) (sym (number-place (n .inputs) 0 v h) ∙ omega arith) ∙ divisor-held (v - n .inputs)
 
   pub cubes-held : total (λ c. c) (used n) ≤ length (cubesOf (n .words)) → cubeCount (netOf n) ≡ total (λ c. c) (used n)
   cubes-held h = ap (total length) nodes-held ∙ cut-lengths (used n) (cubesOf (n .words)) h
@@ -109,41 +115,48 @@ module _ (n : Network) where
 
 -- ---- the rules
 
+pub up-out : (most k : ℕ) → upTo most k ≡ true → (1 ≤ k) × (k ≤ most)
+up-out most k h = let q = both (leb 1 k) (leb k most) h in (leb-true 1 k (q .0), leb-true k most (q .1))
+
+up-in : (most k : ℕ) → (1 ≤ k) × (k ≤ most) → upTo most k ≡ true
+up-in most k h = together (leb 1 k) (leb k most) (le-leb 1 k (h .0)) (le-leb k most (h .1))
+
 module _ (n : Network) where
-  -- what the test says, part by part
-  record Tested : Type 0 where
+  -- what the tests say, part by part
+  pub record Measured : Type 0 where
     pub inputs : (1 ≤ n .inputs) × (n .inputs ≤ mostInputs)
     pub outputs : (1 ≤ n .outputs) × (n .outputs ≤ mostOutputs)
     pub few : n .inputs + n .divisors ≤ mostVariables
     pub cubes : total (λ c. c) (used n) ≤ mostCubes
+
+  record Tested : Type 0 where
+    pub size : Measured
     pub expressions : all expression (nodes (netOf n)) ≡ true
     pub reached : all (over (netOf n)) (nodes (netOf n)) ≡ true
     pub literals : literalCount (netOf n) ≤ mostLiterals
     pub whole : length (listing (netOf n)) ≡ length ((netOf n) .divisors)
 
-  up-out : (most k : ℕ) → upTo most k ≡ true → (1 ≤ k) × (k ≤ most)
-  up-out most k h = let q = both (leb 1 k) (leb k most) h in (leb-true 1 k (q .0), leb-true k most (q .1))
-
-  up-in : (most k : ℕ) → (1 ≤ k) × (k ≤ most) → upTo most k ≡ true
-  up-in most k h = together (leb 1 k) (leb k most) (le-leb 1 k (h .0)) (le-leb k most (h .1))
-
-  rules-tested : rules n ≡ true → Tested
-  unfolding rules ruled
-  rules-tested h =
-      let t = total (λ c. c) (used n) in
-      let a = both (sized n) (ruled (netOf n)) h in
-      let b = both (upTo mostInputs (n .inputs)) (upTo mostOutputs (n .outputs) && (leb (n .inputs + n .divisors) mostVariables && leb t mostCubes)) (a .0) in
-      let c = both (upTo mostOutputs (n .outputs)) (leb (n .inputs + n .divisors) mostVariables && leb t mostCubes) (b .1) in
-      let d = both (leb (n .inputs + n .divisors) mostVariables) (leb t mostCubes) (c .1) in
-      let last = leb (literalCount (netOf n)) mostLiterals && eqb (length (listing (netOf n))) (length ((netOf n) .divisors)) in
-      let e = both (all expression (nodes (netOf n))) (all (over (netOf n)) (nodes (netOf n)) && last) (a .1) in
-      let f = both (all (over (netOf n)) (nodes (netOf n))) last (e .1) in
-      let g = both (leb (literalCount (netOf n)) mostLiterals) (eqb (length (listing (netOf n))) (length ((netOf n) .divisors))) (f .1) in
+  pub sized-measured : sized n ≡ true → Measured
+  sized-measured h =
+      let b = both (upTo mostInputs (n .inputs)) _ h in
+      let c = both (upTo mostOutputs (n .outputs)) _ (b .1) in
+      let d = both (leb (n .inputs + n .divisors) mostVariables) _ (c .1) in
       record {
         inputs = up-out mostInputs (n .inputs) (b .0);
         outputs = up-out mostOutputs (n .outputs) (c .0);
         few = leb-true (n .inputs + n .divisors) mostVariables (d .0);
-        cubes = leb-true t mostCubes (d .1);
+        cubes = leb-true (total (λ c. c) (used n)) mostCubes (d .1);
+      }
+
+  rules-tested : rules n ≡ true → Tested
+  unfolding rules ruled
+  rules-tested h =
+      let a = both (sized n) (ruled (netOf n)) h in
+      let e = both (all expression (nodes (netOf n))) _ (a .1) in
+      let f = both (all (over (netOf n)) (nodes (netOf n))) _ (e .1) in
+      let g = both (leb (literalCount (netOf n)) mostLiterals) _ (f .1) in
+      record {
+        size = sized-measured (a .0);
         expressions = e .0;
         reached = f .0;
         literals = leb-true (literalCount (netOf n)) mostLiterals (g .0);
@@ -154,10 +167,10 @@ module _ (n : Network) where
   unfolding rules ruled
   tested-rules t =
       rw (
-        up-in mostInputs (n .inputs) (t .inputs),
-        up-in mostOutputs (n .outputs) (t .outputs),
-        le-leb (n .inputs + n .divisors) mostVariables (t .few),
-        le-leb (total (λ c. c) (used n)) mostCubes (t .cubes),
+        up-in mostInputs (n .inputs) (t .size .inputs),
+        up-in mostOutputs (n .outputs) (t .size .outputs),
+        le-leb (n .inputs + n .divisors) mostVariables (t .size .few),
+        le-leb (total (λ c. c) (used n)) mostCubes (t .size .cubes),
         t .expressions,
         t .reached,
         le-leb (literalCount (netOf n)) mostLiterals (t .literals),
@@ -186,10 +199,7 @@ module _ (n : Network) where
   lawful-rules o d w =
       let l = w .lawful in
       tested-rules (record {
-        inputs = l .inputs;
-        outputs = omega (arith, l .outputs);
-        few = omega (arith, l .within .variables);
-        cubes = w .counted;
+        size = record { inputs = l .inputs; outputs = omega (arith, l .outputs); few = omega (arith, l .within .variables); cubes = w .counted };
         expressions = all-in expression (nodes (netOf n)) (l .good .expressions);
         reached = over-in (netOf n) (nodes (netOf n)) (λ f m v r. below-known (netOf n) fs refl v (l .good .known f m v r));
         literals = l .within .literals;
@@ -206,13 +216,13 @@ module _ (n : Network) where
 
     rules-into : rules n ≡ true → Follows n
     rules-into h = let t = rules-tested h in record {
-      counted = t .cubes;
+      counted = t .size .cubes;
       lawful = record {
-        inputs = t .inputs;
-        outputs = omega (arith, t .outputs, rules-outputs h);
+        inputs = t .size .inputs;
+        outputs = omega (arith, rules-outputs h);
         within = record {
-          variables = omega (arith, t .few, rules-divisors h);
-          cubes = omega (arith, t .cubes, cubes-held n (omega (arith, t .cubes, s .places)));
+          variables = omega (arith, rules-divisors h);
+          cubes = omega (arith, cubes-held n (omega (arith, s .places)));
           literals = t .literals;
         };
         good = record {

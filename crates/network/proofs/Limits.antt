@@ -1,8 +1,8 @@
 -- The limits: which test decides them, and what follows where they are kept. Assumes nothing.
 use Prim.Native.Nat.{ℕ, suc, _+_, _<_, _≤_, min}
 use mathlib.Core.Path.{_≡_, sym, _∙_}
-use mathlib.Core.Logic.{_⊎_, inl, inr}
-use mathlib.Core.Bool.{true, false, _&&_}
+use mathlib.Core.Logic.{inl, inr}
+use mathlib.Core.Bool.{true, false}
 use native.Mathlib.Omega.{arith}
 use lib.Dec.{leb}
 use borrow.Author.Tests.{leb-true, leb-false, le-leb, lt-leb, lt-ltb}
@@ -15,18 +15,14 @@ use Rattle.network.specs.Held.{used, netOf, rules, upTo, sized, ruled, m
 use Rattle.network.specs.Handed.{Shaped}
 use Rattle.network.specs.Parts.{Limited}
 use Rattle.network.specs.declared.Network.{Network}
-use Rattle.network.proofs.Holding.{rules-iff}
-
-pub up-to-le : (most x : ℕ) → upTo most x ≡ true → x ≤ most
-up-to-le most x h = leb-true x most ((both (leb 1 x) (leb x most) h) .1)
+use Rattle.network.proofs.Holding.{sized-measured, rules-iff}
 
 -- the number of cubes as far as it was counted
 start-few : (t : ℕ) → leb (min t (suc mostCubes)) mostCubes ≡ leb t mostCubes
-start-few t = go (decided (leb t mostCubes))
-  where
-    go : (leb t mostCubes ≡ true) ⊎ (leb t mostCubes ≡ false) → leb (min t (suc mostCubes)) mostCubes ≡ leb t mostCubes
-    go (inl e) = le-leb (min t (suc mostCubes)) mostCubes (omega (arith, leb-true t mostCubes e)) ∙ sym e
-    go (inr e) = lt-leb (min t (suc mostCubes)) mostCubes (omega (arith, leb-false t mostCubes e)) ∙ sym e
+start-few t = elim (decided (leb t mostCubes)) [
+  | inl e ↦ le-leb (min t (suc mostCubes)) mostCubes (omega (arith, leb-true t mostCubes e)) ∙ sym e
+  | inr e ↦ lt-leb (min t (suc mostCubes)) mostCubes (omega (arith, leb-false t mostCubes e)) ∙ sym e
+]
 
 module _ (n : Network) where
   pub sized-inputs : upTo mostInputs (n .inputs) ≡ false → false ≡ sized n
@@ -46,20 +42,8 @@ module _ (n : Network) where
 
   -- what follows from the limits
   pub sized-out : Shaped n → sized n ≡ true → Limited n
-  sized-out s h =
-      let t = total (λ c. c) (used n) in
-      let p = both (upTo mostInputs (n .inputs)) (upTo mostOutputs (n .outputs) && (leb (n .inputs + n .divisors) mostVariables && leb t mostCubes)) h in
-      let q = both (upTo mostOutputs (n .outputs)) (leb (n .inputs + n .divisors) mostVariables && leb t mostCubes) (p .1) in
-      let r = both (leb (n .inputs + n .divisors) mostVariables) (leb t mostCubes) (q .1) in
-      let wide = leb-true (n .inputs + n .divisors) mostVariables (r .0) in
-      let narrow = up-to-le mostOutputs (n .outputs) (q .0) in
-      record {
-        shape = s;
-        counted = omega (arith, s .slots);
-        narrow = narrow;
-        variables = wide;
-        cubes = leb-true t mostCubes (r .1);
-      }
+  sized-out s h = let t = sized-measured n h in
+      record { shape = s; counted = omega (arith, s .slots); narrow = t .outputs .1; variables = t .few; cubes = t .cubes }
 
 -- ---- all rules
 

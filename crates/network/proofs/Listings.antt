@@ -3,7 +3,7 @@
 use Prim.Native.Nat.{ℕ, zero, suc, _+_, _/_, _<_, _≤_}
 use mathlib.Core.Path.{_≡_, refl, sym, ap, _∙_, subst}
 use mathlib.Core.Logic.{_⊎_, inl, inr, _↔_}
-use mathlib.Core.Bool.{Bool, true, false, cond, not, _&&_, _||_}
+use mathlib.Core.Bool.{true, false, not, _&&_, _||_}
 use mathlib.Core.Option.{Option, none, some, Option·none-ne-some, Option·some-ne-none, Option·some-injective}
 use mathlib.Core.List.{List, [], _∷_, _++_, map, append-nil, append-assoc, nil≢cons, head-eq-of-cons-eq, tail-eq-of-cons-eq, List·Memᴰ·head as here}
 use mathlib.Core.List.{List·Memᴰ·tail as there, List·Memᴰ·not-nil, List·Memᴰ·cases-cons, Memᴰ·append-left, Memᴰ·cast}
@@ -16,22 +16,21 @@ use Rattle.sets.specs.Sets.{mem, asc}
 use Rattle.sets.proofs.Truth.{both, either, neither, together, decided, clash, refuted}
 use Rattle.sets.proofs.Lists.{_∈_, all-out, map-in, map-out, pairwise-imp}
 use Rattle.sets.proofs.Sets.{mem-of, of-mem}
-use Rattle.network.specs.Net.{Node, Net, nodes, variables}
+use Rattle.network.specs.Net.{Node, Net, nodes, HasVariable}
 use Rattle.network.specs.Listing.{ready, nextReady, listMore, listing}
 use Rattle.network.specs.Meaning.{Reads, Through, ListedNext, Closed, Distinct, Sound, differ}
 use Rattle.network.specs.Meaning.Through.{itself, others}
 use Rattle.network.specs.Rules.{InTurn, Good}
 use Rattle.network.proofs.Places.{split-in, all-fails, differ-in, once-le, once-cons, once-all, once-in}
-use Rattle.network.proofs.Numbering.{numbers-ahead, cubes-at, numbered-distinct, nodes-closed, below-known}
+use Rattle.network.proofs.Numbering.{read-passes, numbers-ahead, cubes-at, numbered-distinct, nodes-closed, below-known}
 
 -- ---- ready
 
 -- what a ready expression reads is an input or listed
 pub ready-out : (k : ℕ) (l : List ℕ) (f : List (List ℕ)) → ready k l f ≡ true → (v : ℕ) → Reads f v → (v < k) ⊎ (v ∈ l)
 unfolding ready
-ready-out k l f h v (c, i, (x, j, e)) =
-    elim (either (ltb (x / 2) k) (mem (x / 2) l) (all-out (λ y. ltb (y / 2) k || mem (y / 2) l) j (all-out (all (λ y. ltb (y / 2) k || mem (y / 2) l)) i h)))
-    [ inl t ↦ inl (rw e (ltb-true (x / 2) k t)) | inr t ↦ inr (Memᴰ·cast e (of-mem (x / 2) l t)) ]
+ready-out k l f h v r = elim (either (ltb v k) (mem v l) (read-passes (λ x. ltb x k || mem x l) f h v r))
+    [ inl t ↦ inl (ltb-true v k t) | inr t ↦ inr (of-mem v l t) ]
 
 -- and one that is not ready reads something else
 pub ready-fails : (k : ℕ) (l : List ℕ) (f : List (List ℕ)) → ready k l f ≡ false → (v : ℕ) × Reads f v × (k ≤ v) × (mem v l ≡ false)
@@ -45,25 +44,24 @@ ready-fails k l f h =
 -- ---- the next
 
 -- v is the number of a divisor that is not listed and is ready
-pub record Next (k : ℕ) (l : List ℕ) (ds : List Node) (v : ℕ) : Type 0 where
+pub record Candidate (k : ℕ) (l : List ℕ) (ds : List Node) (v : ℕ) : Type 0 where
   pub node : Node
   pub inside : node ∈ ds
   pub number : v ≡ node .number
   pub fresh : mem v l ≡ false
   pub allowed : ready k l (node .cubes) ≡ true
 
-pub next-some : (k : ℕ) (l : List ℕ) (ds : List Node) (v : ℕ) → nextReady k l ds ≡ some v → Next k l ds v
+pub next-some : (k : ℕ) (l : List ℕ) (ds : List Node) (v : ℕ) → nextReady k l ds ≡ some v → Candidate k l ds v
 unfolding nextReady
 next-some k l [] v h = absurd (Option·none-ne-some v h)
-next-some k l (e ∷ ds) v h = go (not (mem (e .number) l) && ready k l (e .cubes)) refl h (next-some k l ds v)
-  where
-    go : (b : Bool) → (not (mem (e .number) l) && ready k l (e .cubes)) ≡ b → cond b (some (e .number)) (nextReady k l ds) ≡ some v
-        → (nextReady k l ds ≡ some v → Next k l ds v) → Next k l (e ∷ ds) v
-    go true t p r =
-        let q = both (not (mem (e .number) l)) (ready k l (e .cubes)) t in
-        let w : v ≡ e .number = sym (Option·some-injective (e .number) v p) in
-        record { node = e; inside = here refl; number = w; fresh = rw w (not-true (mem (e .number) l) (q .0)); allowed = q .1 }
-    go false t p r = let q = r p in record { node = q .node; inside = there (q .inside); number = q .number; fresh = q .fresh; allowed = q .allowed }
+next-some k l (e ∷ ds) v h = elim (decided (not (mem (e .number) l) && ready k l (e .cubes))) [
+  | inl t ↦
+      let q = both (not (mem (e .number) l)) (ready k l (e .cubes)) t in
+      let w : v ≡ e .number = sym (Option·some-injective (e .number) v (rw t at h)) in
+      record { node = e; inside = here refl; number = w; fresh = rw w (not-true (mem (e .number) l) (q .0)); allowed = q .1 }
+  | inr t ↦ let q = next-some k l ds v (rw t at h) in
+      record { node = q .node; inside = there (q .inside); number = q .number; fresh = q .fresh; allowed = q .allowed }
+]
 
 -- with ascending numbers it is the smallest such
 pub next-least : (k : ℕ) (l : List ℕ) (ds : List Node) (v : ℕ) → asc (map (λ (e : Node). e .number) ds) ≡ true → nextReady k l ds ≡ some v
@@ -71,26 +69,27 @@ pub next-least : (k : ℕ) (l : List ℕ) (ds : List Node) (v : ℕ) → asc (ma
 unfolding nextReady
 next-least k l [] v a h g m f y = absurd (List·Memᴰ·not-nil m)
 next-least k l (e ∷ ds) v a h g m f y =
-    go (not (mem (e .number) l) && ready k l (e .cubes)) refl h (List·Memᴰ·cases-cons m) (λ p i. next-least k l ds v ((numbers-ahead e ds a) .1) p g i f y)
-  where
-    go : (b : Bool) → (not (mem (e .number) l) && ready k l (e .cubes)) ≡ b → cond b (some (e .number)) (nextReady k l ds) ≡ some v → (g ≡ e) ⊎ (g ∈ ds)
-        → (nextReady k l ds ≡ some v → g ∈ ds → v ≤ g .number) → v ≤ g .number
-    go true t p (inl q) r = omega (arith, Option·some-injective (e .number) v p, ap (λ (z : Node). z .number) q)
-    go true t p (inr i) r = omega (arith, Option·some-injective (e .number) v p, (numbers-ahead e ds a) .0 g i)
-    go false t p (inl q) r = clash (together (not (mem (e .number) l)) (ready k l (e .cubes)) (rw (← q) (ap not f)) (rw (← q) y)) t
-    go false t p (inr i) r = r p i
+    let b = numbers-ahead e ds a in
+    elim (decided (not (mem (e .number) l) && ready k l (e .cubes))) [
+      | inl t ↦ let p = Option·some-injective (e .number) v (rw t at h) in
+          elim (List·Memᴰ·cases-cons m) [ inl q ↦ omega (arith, ap (λ (z : Node). z .number) q) | inr i ↦ omega (arith, b .0 g i) ]
+      | inr t ↦ elim (List·Memᴰ·cases-cons m) [
+        | inl q ↦ clash (together (not (mem (e .number) l)) (ready k l (e .cubes)) (rw (← q) (ap not f)) (rw (← q) y)) t
+        | inr i ↦ next-least k l ds v (b .1) (rw t at h) g i f y
+      ]
+    ]
 
 -- where there is none, every divisor is listed or not ready
 pub next-none : (k : ℕ) (l : List ℕ) (ds : List Node) → nextReady k l ds ≡ none → (g : Node) → g ∈ ds → mem (g .number) l ≡ false → ready k l (g .cubes) ≡ false
 unfolding nextReady
 next-none k l [] h g m f = absurd (List·Memᴰ·not-nil m)
-next-none k l (e ∷ ds) h g m f = go (not (mem (e .number) l) && ready k l (e .cubes)) refl h (List·Memᴰ·cases-cons m) (λ p i. next-none k l ds p g i f)
-  where
-    go : (b : Bool) → (not (mem (e .number) l) && ready k l (e .cubes)) ≡ b → cond b (some (e .number)) (nextReady k l ds) ≡ none → (g ≡ e) ⊎ (g ∈ ds)
-        → (nextReady k l ds ≡ none → g ∈ ds → ready k l (g .cubes) ≡ false) → ready k l (g .cubes) ≡ false
-    go true t p q r = absurd (Option·some-ne-none (e .number) p)
-    go false t p (inl q) r = refuted (λ y. clash (together (not (mem (e .number) l)) (ready k l (e .cubes)) (rw (← q) (ap not f)) (rw (← q) y)) t)
-    go false t p (inr i) r = r p i
+next-none k l (e ∷ ds) h g m f = elim (decided (not (mem (e .number) l) && ready k l (e .cubes))) [
+  | inl t ↦ absurd (Option·some-ne-none (e .number) (rw t at h))
+  | inr t ↦ elim (List·Memᴰ·cases-cons m) [
+    | inl q ↦ refuted (λ y. clash (together (not (mem (e .number) l)) (ready k l (e .cubes)) (rw (← q) (ap not f)) (rw (← q) y)) t)
+    | inr i ↦ next-none k l ds (rw t at h) g i f
+  ]
+]
 
 -- ---- the listing is made step by step
 
@@ -104,7 +103,7 @@ more-some k n l v e = rw (e, listMore)
 
 module _ (n : Net) where
   -- what so many steps add to the numbers l
-  record More (k : ℕ) (l : List ℕ) : Type 0 where
+  record Added (k : ℕ) (l : List ℕ) : Type 0 where
     pub rest : List ℕ
     pub made : listMore k n l ≡ l ++ rest
     pub short : length rest ≤ k
@@ -115,26 +114,22 @@ module _ (n : Net) where
   nil-split [] b v e = nil≢cons e
   nil-split (x ∷ a) b v e = nil≢cons e
 
-  more : (k : ℕ) (l : List ℕ) → More k l
-  unfolding listMore
-  more zero l = record {
+  none-added : (k : ℕ) (l : List ℕ) → listMore k n l ≡ l → (0 < k → nextReady (n .inputs) l (n .divisors) ≡ none) → Added k l
+  none-added k l e h = record {
     rest = [];
-    made = sym (append-nil l);
+    made = e ∙ sym (append-nil l);
     short = omega arith;
-    each = λ a b v e. absurd (nil-split a b v e);
-    last = λ h. absurd
-        (omega arith);
+    each = λ a b v p. absurd (nil-split a b v p);
+    last = λ t. rw append-nil (h t);
   }
+
+  more : (k : ℕ) (l : List ℕ) → Added k l
+  unfolding listMore
+  more zero l = none-added zero l refl (λ h. absurd (omega arith))
   more (suc k) l = go (nextReady (n .inputs) l (n .divisors)) refl (more k)
     where
-      go : (o : Option ℕ) → nextReady (n .inputs) l (n .divisors) ≡ o → ((m : List ℕ) → More k m) → More (suc k) l
-      go none e r = record {
-        rest = [];
-        made = more-none k n l e ∙ sym (append-nil l);
-        short = omega arith;
-        each = λ a b v p. absurd (nil-split a b v p);
-        last = λ h. rw append-nil e;
-      }
+      go : (o : Option ℕ) → nextReady (n .inputs) l (n .divisors) ≡ o → ((m : List ℕ) → Added k m) → Added (suc k) l
+      go none e r = none-added (suc k) l (more-none k n l e) (λ h. e)
       go (some v) e r = let s = r (l ++ (v ∷ [])) in record {
         rest = v ∷ s .rest;
         made = more-some k n l v e ∙ s .made ∙ append-assoc l (v ∷ []) (s .rest);
@@ -143,7 +138,7 @@ module _ (n : Net) where
         last = λ h. rw (← (append-assoc l (v ∷ []) (s .rest))) (s .last (omega arith));
       }
         where
-          step : (s : More k (l ++ (v ∷ []))) (a b : List ℕ) (w : ℕ) → v ∷ s .rest ≡ a ++ (w ∷ b) → nextReady (n .inputs) (l ++ a) (n .divisors) ≡ some w
+          step : (s : Added k (l ++ (v ∷ []))) (a b : List ℕ) (w : ℕ) → v ∷ s .rest ≡ a ++ (w ∷ b) → nextReady (n .inputs) (l ++ a) (n .divisors) ≡ some w
           step s [] b w p = rw (append-nil l) (e ∙ ap some (head-eq-of-cons-eq p))
           step s (x ∷ a) b w p = let q = s .each a b w (tail-eq-of-cons-eq p) in rw (← (head-eq-of-cons-eq p), ← (append-assoc l (v ∷ []) a)) q
 
@@ -152,7 +147,7 @@ module _ (n : Net) where
   unfolding listing
   listing-next a b v e = let m = more (length (n .divisors)) [] in m .each a b v (sym (m .made) ∙ e)
 
-  listing-from : (a b : List ℕ) (v : ℕ) → listing n ≡ a ++ (v ∷ b) → Next (n .inputs) a (n .divisors) v
+  listing-from : (a b : List ℕ) (v : ℕ) → listing n ≡ a ++ (v ∷ b) → Candidate (n .inputs) a (n .divisors) v
   listing-from a b v e = next-some (n .inputs) a (n .divisors) v (listing-next a b v e)
 
   -- no number is listed twice
@@ -293,7 +288,7 @@ module _ (n : Net) (d : Distinct n) where
 
 -- ---- numbered in turn
 
-module _ (n : Net) (t : InTurn n) (k : (f : List (List ℕ)) → f ∈ nodes n → (v : ℕ) → Reads f v → v < variables n) where
+module _ (n : Net) (t : InTurn n) (k : (f : List (List ℕ)) → f ∈ nodes n → (v : ℕ) → Reads f v → HasVariable n v) where
   turn-distinct : Distinct n
   turn-distinct = numbered-distinct n (map (λ (e : Node). e .cubes) (n .divisors)) t
 

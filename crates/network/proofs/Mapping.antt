@@ -77,24 +77,25 @@ module _ (g : List (List ℕ) → List (List ℕ)) where
       old-node : (e : Node) → e ∈ (mapNodes g n) .divisors → (d : Node) × (d ∈ n .divisors) × (e ≡ onNode g d)
       old-node e m = map-out (onNode g) (n .divisors) m
 
+      old-reads : {e h : Node} (m : e ∈ (mapNodes g n) .divisors) (i : h ∈ (mapNodes g n) .divisors) → Reads (e .cubes) (h .number)
+          → Reads (old-node e m .0 .cubes) (old-node h i .0 .number)
+      old-reads {e} {h} m i r =
+          let (d, j, p) = old-node e m in
+          let (b, k, q) = old-node h i in
+          reads (d .cubes) (in-divisor n j) (b .number)
+          (subst (λ (x : Node). Reads (x .cubes) (b .number)) p (subst (λ (x : Node). Reads (e .cubes) (x .number)) q r))
+
       -- what is read through others was read so before
       pub mapped-through : {u v : ℕ} → Through (mapNodes g n) u v → Through n u v
-      mapped-through (itself {e = e} {g = h} m i r) = one (old-node e m) (old-node h i)
-        where
-          one : (d : Node) × (d ∈ n .divisors) × (e ≡ onNode g d) → (b : Node) × (b ∈ n .divisors) × (h ≡ onNode g b) → Through n (e .number) (h .number)
-          one (d, j, p) (b, k, q) =
-              let z : Reads (g (d .cubes)) (b .number) = subst (λ (x : Node). Reads (x .cubes) (b .number)) p
-              (subst (λ (x : Node). Reads (e .cubes) (x .number)) q r) in
-              rw (ap (λ (x : Node). x .number) p, ap (λ (x : Node). x .number) q) (itself j k (reads (d .cubes) (in-divisor n j) (b .number) z))
-      mapped-through {v = v} (others {e = e} {g = h} m i r t) = one (old-node e m) (old-node h i) (mapped-through t)
-        where
-          one : (d : Node) × (d ∈ n .divisors) × (e ≡ onNode g d) → (b : Node) × (b ∈ n .divisors) × (h ≡ onNode g b) → Through n (h .number) v
-              → Through n (e .number) v
-          one (d, j, p) (b, k, q) w =
-              let z : Reads (g (d .cubes)) (b .number) = subst (λ (x : Node). Reads (x .cubes) (b .number)) p
-              (subst (λ (x : Node). Reads (e .cubes) (x .number)) q r) in
-              rw (ap (λ (x : Node). x .number) p) (others j k (reads (d .cubes) (in-divisor n j) (b .number) z)
-              (subst (λ (x : Node). Through n (x .number) v) q w))
+      mapped-through (itself {e = e} {g = h} m i r) =
+          let d = old-node e m in
+          let b = old-node h i in
+          rw (ap (λ (x : Node). x .number) (d .2), ap (λ (x : Node). x .number) (b .2)) (itself (d .1) (b .1) (old-reads m i r))
+      mapped-through {v = v} (others {e = e} {g = h} m i r t) =
+          let d = old-node e m in
+          let b = old-node h i in
+          rw (ap (λ (x : Node). x .number) (d .2))
+          (others (d .1) (b .1) (old-reads m i r) (subst (λ (x : Node). Through n (x .number) v) (b .2) (mapped-through t)))
 
       pub mapped-good : ((f : List (List ℕ)) → f ∈ nodes n → expression (g f) ≡ true) → Good n → Good (mapNodes g n)
       mapped-good k w = record {

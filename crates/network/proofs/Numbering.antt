@@ -2,7 +2,7 @@
 use Prim.Native.Nat.{ℕ, zero, suc, _+_, _-_, _/_, _<_, _≤_}
 use mathlib.Core.Path.{_≡_, refl, sym, ap, _∙_, subst}
 use mathlib.Core.Logic.{inl, inr, _↔_}
-use mathlib.Core.Bool.{Bool, true, false, cond, or-true}
+use mathlib.Core.Bool.{Bool, true, or-true}
 use mathlib.Core.List.{List, [], _∷_, map, List·Memᴰ·head as here, List·Memᴰ·tail as there, List·Memᴰ·not-nil, List·Memᴰ·cases-cons, Memᴰ·append-left}
 use mathlib.Core.List.{Memᴰ·append-right}
 use native.Mathlib.Omega.{arith}
@@ -14,9 +14,21 @@ use Rattle.sets.specs.Sets.{asc, mem}
 use Rattle.sets.proofs.Truth.{both, either, decided, clash, iff}
 use Rattle.sets.proofs.Lists.{_∈_, all-in, all-out, all-cong, map-in, map-out, ahead}
 use Rattle.sets.proofs.Sets.{from-asc, from-mem, mem-of, of-mem}
-use Rattle.network.specs.Net.{Node, Net, nodes, variables, known, over, cubesAt}
+use Rattle.network.specs.Net.{Node, Net, nodes, variables, HasVariable, known, over, cubesAt}
 use Rattle.network.specs.Meaning.{Reads, IsVariable, Closed, Distinct}
-use Rattle.network.specs.Held.{numbered, reach}
+use Rattle.network.specs.Held.{numbered, numberAt, placeAt, reach}
+
+-- ---- the number of a divisor and its place among the nodes
+
+-- the divisor with the number of place i stands there, after the outputs
+pub place-number : (inputs outputs i : ℕ) → placeAt inputs outputs (numberAt inputs i) ≡ outputs + i
+place-number inputs outputs i = omega arith
+
+-- and a divisor has the number of its place
+pub number-place : (inputs outputs v : ℕ) → inputs ≤ v → numberAt inputs (placeAt inputs outputs v - outputs) ≡ v
+number-place inputs outputs v h = omega arith
+
+-- ---- divisors numbered in turn
 
 -- the nodes are the outputs and the divisors
 pub in-output : (n : Net) {f : List (List ℕ)} → f ∈ n .outputs → f ∈ nodes n
@@ -47,6 +59,14 @@ numbered-range v fs e m =
     let q = both (leb v (e .number)) (ltb (e .number) (v + length fs)) (sym (from-mem v (length fs) (e .number)) ∙ i) in
     (leb-true v (e .number) (q .0), ltb-true (e .number) (v + length fs) (q .1))
 
+-- the divisor at place i has the number of that place
+pub numbered-get : (v : ℕ) (fs : List (List (List ℕ))) (i : ℕ) (d : Node) → i < length fs
+    → getD (numbered v fs) i d ≡ record { number = numberAt v i; cubes = getD fs i [] }
+unfolding numbered
+numbered-get v [] i d h = absurd (omega arith)
+numbered-get v (f ∷ fs) zero d h = let e : v + 0 ≡ v = omega arith in rw e
+numbered-get v (f ∷ fs) (suc i) d h = let e : v + suc i ≡ suc v + i = omega arith in rw e (numbered-get (suc v) fs i d (omega arith))
+
 -- and each of those numbers is there, with its expression
 pub numbered-in : (v : ℕ) (fs : List (List (List ℕ))) (i : ℕ) → i < length fs → record { number = v + i; cubes = getD fs i [] } ∈ numbered v fs
 unfolding numbered
@@ -65,13 +85,13 @@ numbered-at v (f ∷ fs) (suc i) =
 found-at : (l : List Node) → ((e g : Node) → e ∈ l → g ∈ l → e .number ≡ g .number → e ≡ g) → {e : Node} → e ∈ l → cubesAt (e .number) l ≡ e .cubes
 unfolding cubesAt
 found-at [] u m = absurd (List·Memᴰ·not-nil m)
-found-at (x ∷ l) u {e} m = go (eqb (e .number) (x .number)) refl m (λ i. found-at l (λ p q j k. u p q (there j) (there k)) i)
-  where
-    go : (b : Bool) → eqb (e .number) (x .number) ≡ b → e ∈ (x ∷ l) → (e ∈ l → cubesAt (e .number) l ≡ e .cubes)
-        → cond b (x .cubes) (cubesAt (e .number) l) ≡ e .cubes
-    go true p i k = ap (λ (z : Node). z .cubes) (u x e (here refl) i (sym (eqb-true (e .number) (x .number) p)))
-    go false p (here q) k = clash (eq-eqb (e .number) (x .number) (ap (λ (z : Node). z .number) q)) p
-    go false p (there i) k = k i
+found-at (x ∷ l) u {e} m = elim (decided (eqb (e .number) (x .number))) [
+  | inl p ↦ rw p (ap (λ (z : Node). z .cubes) (u x e (here refl) m (sym (eqb-true (e .number) (x .number) p))))
+  | inr p ↦ rw p (elim (List·Memᴰ·cases-cons m) [
+    | inl q ↦ clash (eq-eqb (e .number) (x .number) (ap (λ (z : Node). z .number) q)) p
+    | inr i ↦ found-at l (λ a b j k. u a b (there j) (there k)) i
+  ])
+]
 
 -- ---- numbers of their own
 
@@ -107,15 +127,20 @@ module _ (n : Net) (d : Distinct n) where
   pub cubes-at : {e : Node} → e ∈ n .divisors → cubesAt (e .number) (n .divisors) ≡ e .cubes
   cubes-at m = found-at (n .divisors) (λ e g i j p. distinct-same i j p) m
 
--- ---- every literal is of a variable below k exactly when every variable read is
+-- ---- every literal is of a variable that passes a test exactly when every variable read passes it
+
+module _ (p : ℕ → Bool) (f : List (List ℕ)) where
+  pub read-passes : all (all (λ l. p (l / 2))) f ≡ true → (v : ℕ) → Reads f v → p v ≡ true
+  read-passes h v (c, i, (l, j, e)) = rw e (all-out (λ x. p (x / 2)) j (all-out (all (λ x. p (x / 2))) i h))
+
+  pub passes-read : ((v : ℕ) → Reads f v → p v ≡ true) → all (all (λ l. p (l / 2))) f ≡ true
+  passes-read k = all-in (all (λ x. p (x / 2))) f (λ c i. all-in (λ x. p (x / 2)) c (λ l j. k (l / 2) (c, i, (l, j, refl))))
 
 pub reach-out : (k : ℕ) (fs : List (List (List ℕ))) → all (reach k) fs ≡ true → (f : List (List ℕ)) → f ∈ fs → (v : ℕ) → Reads f v → v < k
-reach-out k fs h f m v (c, i, (l, j, p)) =
-    rw p (ltb-true (l / 2) k (all-out (λ x. ltb (x / 2) k) j (all-out (all (λ x. ltb (x / 2) k)) i (all-out (reach k) m h))))
+reach-out k fs h f m v r = ltb-true v k (read-passes (λ x. ltb x k) f (all-out (reach k) m h) v r)
 
 pub reach-in : (k : ℕ) (fs : List (List (List ℕ))) → ((f : List (List ℕ)) → f ∈ fs → (v : ℕ) → Reads f v → v < k) → all (reach k) fs ≡ true
-reach-in k fs r = all-in (reach k) fs (λ f m. all-in (all (λ x. ltb (x / 2) k)) f
-    (λ c i. all-in (λ x. ltb (x / 2) k) c (λ l j. lt-ltb (l / 2) k (r f m (l / 2) (c, i, (l, j, refl))))))
+reach-in k fs r = all-in (reach k) fs (λ f m. passes-read (λ x. ltb x k) f (λ v q. lt-ltb v k (r f m v q)))
 
 -- ---- the variables of a network
 
@@ -139,13 +164,10 @@ module _ (n : Net) where
 
   -- every literal is of a variable exactly when every variable read is one
   pub over-out : (fs : List (List (List ℕ))) → all (over n) fs ≡ true → (f : List (List ℕ)) → f ∈ fs → (v : ℕ) → Reads f v → IsVariable n v
-  over-out fs h f m v (c, i, (l, j, p)) =
-      known-iff v .0 (rw p (all-out (λ x. known n (x / 2)) j (all-out (all (λ x. known n (x / 2))) i (all-out (over n) m h))))
+  over-out fs h f m v r = known-iff v .0 (read-passes (known n) f (all-out (over n) m h) v r)
 
   pub over-in : (fs : List (List (List ℕ))) → ((f : List (List ℕ)) → f ∈ fs → (v : ℕ) → Reads f v → IsVariable n v) → all (over n) fs ≡ true
-  over-in fs r =
-      all-in (over n) fs (λ f m. all-in (all (λ x. known n (x / 2))) f (λ c i. all-in (λ x. known n (x / 2)) c (λ l j.
-      known-iff (l / 2) .1 (r f m (l / 2) (c, i, (l, j, refl))))))
+  over-in fs r = all-in (over n) fs (λ f m. passes-read (known n) f (λ v q. known-iff v .1 (r f m v q)))
 
   -- the expressions read inputs and divisors only
   pub nodes-closed : ((f : List (List ℕ)) → f ∈ nodes n → (v : ℕ) → Reads f v → IsVariable n v) → Closed n
@@ -154,24 +176,20 @@ module _ (n : Net) where
 -- ---- numbered from the inputs on, they are the numbers below theirs
 
 module _ (n : Net) (fs : List (List (List ℕ))) (e : n .divisors ≡ numbered (n .inputs) fs) where
-  pub known-below : (v : ℕ) → IsVariable n v → v < variables n
+  pub known-below : (v : ℕ) → IsVariable n v → HasVariable n v
   known-below v (inl h) = omega arith
   known-below v (inr (g, m, p)) =
       let r = numbered-range (n .inputs) fs g (subst (λ (l : List Node). g ∈ l) e m) in
       omega (arith, r .1, ap length e, numbered-length (n .inputs) fs)
 
-  pub below-known : (v : ℕ) → v < variables n → IsVariable n v
+  pub below-known : (v : ℕ) → HasVariable n v → IsVariable n v
   below-known v h = elim (decided (ltb v (n .inputs))) [
     | inl t ↦ inl (ltb-true v (n .inputs) t)
     | inr t ↦
-        let k : n .inputs ≤ v = ltb-false v (n .inputs) t in
-        let p : v ≡ n .inputs + (v - n .inputs) = omega arith in
-        inr (
-          record { number = n .inputs + (v - n .inputs); cubes = getD fs (v - n .inputs) [] },
-          subst (λ (l : List Node). record { number = n .inputs + (v - n .inputs); cubes = getD fs (v - n .inputs) [] } ∈ l) (sym e)
-              (numbered-in (n .inputs) fs (v - n .inputs) (omega (arith, ap length e, numbered-length (n .inputs) fs))),
-          p,
-        )
+        let k = ltb-false v (n .inputs) t in
+        let i = v - n .inputs in
+        let h : i < length fs = omega (arith, ap length e, numbered-length (n .inputs) fs) in
+        inr (record { number = numberAt (n .inputs) i; cubes = getD fs i [] }, rw e (numbered-in (n .inputs) fs i h), omega arith)
   ]
 
   pub known-turn : (v : ℕ) → known n v ≡ ltb v (variables n)

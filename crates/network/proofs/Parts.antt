@@ -1,14 +1,22 @@
 -- The expressions that counts cut from cubes: those of the outputs and of the divisors. Assumes nothing.
 use Prim.Native.Nat.{ℕ, _+_, _<_, _≤_}
 use mathlib.Core.Path.{_≡_, sym, ap, _∙_}
-use mathlib.Core.List.{List, []}
+use mathlib.Core.List.{List, [], _∷_}
 use native.Mathlib.Omega.{arith}
-use lib.ListN.{length, getD, take, drop, length-drop}
+use lib.ListN.{length, getD, take, drop, length-drop, drop-of-length-le}
 use lib.Seq.{getD-take, getD-drop, length-take-le, take-take}
 use Rattle.expression.specs.Words.{cubesOf}
 use Rattle.network_nodes.specs.Nodes.{cut}
 use Rattle.network_nodes.proofs.Cutting.{cut-length, cut-take}
-use Rattle.network.specs.Parts.{nodesOf}
+use Rattle.sets.proofs.Places.{drop-next}
+use Rattle.network.specs.Net.{Node, cubesAt}
+use Rattle.network.specs.Held.{numberAt, placeAt}
+use Rattle.network.specs.Parts.{nodesOf, heldIn, netAt}
+use Rattle.network.proofs.Numbering.{numbered-get, place-number}
+use Rattle.network.proofs.Holding.{place-held, divisors-held}
+
+abbrev blankNode : Node
+blankNode = record { number = 0; cubes = [] }
 
 module _ (cs ws : List ℕ) where
   pub nodes-length : (e : ℕ) → e ≤ length cs → length (nodesOf e cs ws) ≡ e
@@ -29,3 +37,29 @@ module _ (cs ws : List ℕ) where
     pub outputs-are : take m (nodesOf (m + k) cs ws) ≡ nodesOf m cs ws
     outputs-are =
         ap (take m) (cut-take (m + k) cs (cubesOf ws)) ∙ take-take m (m + k) (cut cs (cubesOf ws)) (omega arith) ∙ sym (cut-take m cs (cubesOf ws))
+
+  -- ---- divisors by their numbers
+
+  module _ (n m k : ℕ) where
+    abbrev divisors : List Node
+    divisors = netAt n m k cs ws .divisors
+
+    -- a divisor's expression stands at the place of its number
+    pub place-at : (v : ℕ) → n ≤ v → v < n + k → cubesAt v divisors ≡ getD (cut cs (cubesOf ws)) (placeAt n m v) []
+    place-at v h l = place-held (heldIn n m k cs ws) v h ∙ nodes-at (m + k) (placeAt n m v) (omega arith)
+
+    module _ (h : m + k ≤ length cs) where
+      many : length divisors ≡ k
+      many = divisors-held (heldIn n m k cs ws) h
+
+      -- the divisors from place i on: the one there, with the number of that place, and those after it
+      pub divisors-next : (i : ℕ) → i < k
+          → drop i divisors ≡ record { number = numberAt n i; cubes = getD (cut cs (cubesOf ws)) (placeAt n m (numberAt n i)) [] } ∷ drop (i + 1) divisors
+      divisors-next i l =
+          drop-next divisors i blankNode (omega (arith, many))
+          ∙ ap (_∷ drop (i + 1) divisors) (numbered-get n (drop m (nodesOf (m + k) cs ws)) i blankNode (omega (arith, divisors-length m k h)) ∙ ap
+          (λ (f : List (List ℕ)). record { number = numberAt n i; cubes = f })
+          (divisors-at m k i l ∙ ap (λ p. getD (cut cs (cubesOf ws)) p []) (sym (place-number n m i))))
+
+      pub divisors-done : (i : ℕ) → k ≤ i → drop i divisors ≡ []
+      divisors-done i l = let e : length divisors ≤ i = omega (arith, many) in drop-of-length-le divisors e

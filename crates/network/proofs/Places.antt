@@ -24,11 +24,10 @@ module _ {A : Type 0} where
   -- some element fails a test that not all pass
   pub all-fails : (f : A → Bool) (l : List A) → all f l ≡ false → (x : A) × (x ∈ l) × (f x ≡ false)
   all-fails f [] h = clash refl h
-  all-fails f (x ∷ l) h = go (f x) refl h (all-fails f l)
-    where
-      go : (b : Bool) → f x ≡ b → (b && all f l) ≡ false → (all f l ≡ false → (y : A) × (y ∈ l) × (f y ≡ false)) → (y : A) × (y ∈ (x ∷ l)) × (f y ≡ false)
-      go true e k r = let q = r k in (q .0, there (q .1), q .2)
-      go false e k r = (x, here refl, e)
+  all-fails f (x ∷ l) h = elim (decided (f x)) [
+    | inl e ↦ let q = all-fails f l (rw e at h) in (q .0, there (q .1), q .2)
+    | inr e ↦ (x, here refl, e)
+  ]
 
   pub all-append : (f : A → Bool) (l m : List A) → all f (l ++ m) ≡ (all f l && all f m)
   all-append f [] m = refl

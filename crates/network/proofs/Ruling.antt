@@ -1,10 +1,12 @@
 -- A struct by the rules means a lawful network, one that holds a lawful network is by the rules, and the judgement says which. Assumes nothing.
 use Prim.Native.Nat.{ℕ}
-use mathlib.Core.Path.{_≡_, refl, sym, ap, _∙_, subst}
-use mathlib.Core.Bool.{Bool, true, false, cond}
+use mathlib.Core.Path.{_≡_, sym, ap, _∙_, subst}
+use mathlib.Core.Logic.{inl, inr}
+use mathlib.Core.Bool.{true, false}
 use native.Mathlib.Omega.{arith}
 use lib.ListN.{length}
 use Rattle.sets.specs.Lists.{total}
+use Rattle.sets.proofs.Truth.{decided}
 use Rattle.sets.proofs.Lists.{total-map}
 use Rattle.expression.specs.declared.Verdict.the-variants.{Accepted, Refused}
 use Rattle.network.specs.Net.{Net, nodes}
@@ -33,16 +35,8 @@ holds-lawful p m h w =
 
 pub accepted-rules : (n : Network) → judged n ≡ Accepted → rules n ≡ true
 unfolding judged
-accepted-rules n h = go (rules n) refl h
-  where
-    go : (b : Bool) → rules n ≡ b → cond b Accepted (Refused 10) ≡ Accepted → rules n ≡ true
-    go true e t = e
-    go false e t = let z : _≡_ {A = ℕ} 0 1 = cc in absurd (omega arith)
+accepted-rules n h = elim (decided (rules n)) [ inl e ↦ e | inr e ↦ let q = rw e at h in let z : _≡_ {A = ℕ} 0 1 = cc in absurd (omega arith) ]
 
 pub refused-rules : (n : Network) (x : ℕ) → judged n ≡ Refused x → rules n ≡ false
 unfolding judged
-refused-rules n x h = go (rules n) refl h
-  where
-    go : (b : Bool) → rules n ≡ b → cond b Accepted (Refused 10) ≡ Refused x → rules n ≡ false
-    go true e t = let z : _≡_ {A = ℕ} 0 1 = cc in absurd (omega arith)
-    go false e t = e
+refused-rules n x h = elim (decided (rules n)) [ inl e ↦ let q = rw e at h in let z : _≡_ {A = ℕ} 0 1 = cc in absurd (omega arith) | inr e ↦ e ]

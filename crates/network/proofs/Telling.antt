@@ -1,15 +1,17 @@
 -- What is told of an answer: by the rules or refused by 10, and no two answers differ. Assumes nothing.
 use Prim.Native.Nat.{ℕ}
-use mathlib.Core.Path.{_≡_, refl, sym, _∙_}
-use mathlib.Core.Bool.{Bool, true, false, cond}
+use mathlib.Core.Path.{_≡_, sym, _∙_}
+use mathlib.Core.Logic.{inl, inr}
+use mathlib.Core.Bool.{true, false}
+use Rattle.sets.proofs.Truth.{decided}
 use native.Mathlib.Omega.{arith}
 use Rattle.expression.specs.declared.Verdict.the-variants.{Accepted, Refused}
 use Rattle.network.specs.Net.{Net}
 use Rattle.network.specs.Held.{rules}
-use Rattle.network.specs.Handed.{Holds, Blank, Return, gives, refuses, Told, byRules}
+use Rattle.network.specs.Handed.{Typed, Holds, Blank, Return, gives, refuses, Told, byRules}
 use Rattle.network.specs.declared.Network.{Network}
 use Rattle.network.specs.declared.Handed.{Handed}
-use Rattle.network.proofs.Handing.{Typed, holds-one, blank-one}
+use Rattle.network.proofs.Handing.{holds-one, blank-one}
 
 -- no two answers differ
 pub told-one : (o : Return) (r p : Handed) → Typed (r .network) → Typed (p .network) → Told o r → Told o p → r ≡ p
@@ -27,16 +29,14 @@ module _ (n : Network) (m : Net) (r : Handed) where
 
   -- accepted, it is by the rules
   pub told-accepted : Told (byRules n m) r → r .answer ≡ Accepted → (rules n ≡ true) × Holds (r .network) m
-  told-accepted t a = go (rules n) refl t
-    where
-      go : (b : Bool) → rules n ≡ b → Told (cond b (gives m) (refuses 10)) r → (rules n ≡ true) × Holds (r .network) m
-      go true e (p, h) = (e, h)
-      go false e (p, h) = let z : _≡_ {A = ℕ} 0 1 = cc in absurd (omega arith)
+  told-accepted t a = elim (decided (rules n)) [
+    | inl e ↦ (e, (rw e at t) .1)
+    | inr e ↦ let q = (rw e at t) .0 in let z : _≡_ {A = ℕ} 0 1 = cc in absurd (omega arith)
+  ]
 
   -- refused, it breaks one, and the network is zero
   pub told-refused : (k : ℕ) → Told (byRules n m) r → r .answer ≡ Refused k → (rules n ≡ false) × Blank (r .network)
-  told-refused k t a = go (rules n) refl t
-    where
-      go : (b : Bool) → rules n ≡ b → Told (cond b (gives m) (refuses 10)) r → (rules n ≡ false) × Blank (r .network)
-      go true e (p, h) = let z : _≡_ {A = ℕ} 0 1 = cc in absurd (omega arith)
-      go false e (p, h) = (e, h)
+  told-refused k t a = elim (decided (rules n)) [
+    | inl e ↦ let q = (rw e at t) .0 in let z : _≡_ {A = ℕ} 0 1 = cc in absurd (omega arith)
+    | inr e ↦ (e, (rw e at t) .1)
+  ]

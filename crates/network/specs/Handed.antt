@@ -1,11 +1,12 @@
 -- A network handed back: nodes laid one after the other, the slots past those in use zero; or a refusal.
 use Prim.Native.Nat.{ℕ, _+_, _*_, _-_}
 use mathlib.Core.Path.{_≡_}
-use mathlib.Core.Bool.{cond}
+use mathlib.Core.Bool.{true, cond}
 use mathlib.Core.List.{List, [], _∷_, _++_, map}
 use lib.ListN.{length, replicate}
 use Rattle.sets.specs.Lists.{total}
 use Rattle.expression.specs.Words.{cubeWords, cubesOf, spareOf}
+use Rattle.expression.proofs.Words.{fit}
 use Rattle.expression.specs.declared.Verdict.the-variants.{Accepted, Refused}
 use Rattle.network.specs.Net.{Net, nodes, cubeCount}
 use Rattle.network.specs.Held.{mostOutputs, mostVariables, mostCubes, rules}
@@ -35,6 +36,11 @@ pub record Shaped (n : Network) : Type 0 where
   pub slots : length (n .counts) ≡ nodeSlots
   pub places : length (cubesOf (n .words)) ≡ cubeSlots
   pub whole : spareOf (n .words) ≡ []
+
+-- a value of the type: arrays of their lengths, and words of so many bits
+pub record Typed (n : Network) : Type 0 where
+  pub shape : Shaped n
+  pub fits : fit (n .words) ≡ true
 
 -- the nodes fs stand one after the other up to the place `to`, with their numbers of cubes; a slot after them is zero, which for a cube is the empty one
 pub record LaidNodes (words sizes : List ℕ) (to : ℕ) (fs : List (List (List ℕ))) : Type 0 where

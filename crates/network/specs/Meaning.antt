@@ -46,9 +46,13 @@ pub record Distinct (n : Net) : Type 0 where
   pub ascending : asc (map (λ (e : Node). e .number) (n .divisors)) ≡ true
   pub above : (e : Node) → List·Memᴰ e (n .divisors) → n .inputs ≤ e .number
 
+-- v is the number of a divisor
+abbrev pub IsDivisor : Net → ℕ → Type 0
+IsDivisor n v = (e : Node) × List·Memᴰ e (n .divisors) × (v ≡ e .number)
+
 -- v is an input or the number of a divisor
 abbrev pub IsVariable : Net → ℕ → Type 0
-IsVariable n v = (v < n .inputs) ⊎ ((e : Node) × List·Memᴰ e (n .divisors) × (v ≡ e .number))
+IsVariable n v = (v < n .inputs) ⊎ IsDivisor n v
 
 -- the expressions read inputs and divisors only
 pub record Closed (n : Net) : Type 0 where
@@ -70,8 +74,8 @@ pub record SameCubes (f g : List (List ℕ)) : Type 0 where
 
 -- r holds between the elements of two lists, place by place
 pub data Along {A : Type 0} (r : A → A → Type 0) : List A → List A → Type 0 where
-  none : Along r [] []
-  more : {x y : A} {l m : List A} → r x y → Along r l m → Along r (x ∷ l) (y ∷ m)
+  end : Along r [] []
+  on : {x y : A} {l m : List A} → r x y → Along r l m → Along r (x ∷ l) (y ∷ m)
 
 -- two divisors have the same number and the same cubes
 abbrev pub SameNode : Node → Node → Type 0

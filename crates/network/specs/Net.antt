@@ -1,5 +1,5 @@
 -- A network: n inputs, an expression for each output and each divisor. Inputs are variables 0 to n - 1, divisors have numbers of their own.
-use Prim.Native.Nat.{ℕ, _+_, _/_}
+use Prim.Native.Nat.{ℕ, _+_, _/_, _<_}
 use mathlib.Core.List.{List, [], _∷_, _++_, map}
 use mathlib.Core.Bool.{Bool, cond, _||_}
 use lib.Dec.{ltb, eqb}
@@ -24,6 +24,10 @@ nodes n = n .outputs ++ map (λ (e : Node). e .cubes) (n .divisors)
 -- the number of variables: inputs and divisors
 abbrev pub variables : Net → ℕ
 variables n = n .inputs + length (n .divisors)
+
+-- n has a variable v: inputs and divisors are numbered in turn, from 0 on
+abbrev pub HasVariable : Net → ℕ → Type 0
+HasVariable n v = v < variables n
 
 -- v is a variable of n: an input, or the number of a divisor
 abbrev pub known : Net → ℕ → Bool

@@ -1,5 +1,5 @@
 -- What the rules on networks say, in the paper's words, against which the test `rules` is held; which networks mean the same.
-use Prim.Native.Nat.{ℕ, _<_, _≤_}
+use Prim.Native.Nat.{ℕ, _≤_}
 use mathlib.Core.Path.{_≡_}
 use mathlib.Core.Bool.{true}
 use mathlib.Core.List.{List, map, List·Memᴰ}
@@ -7,7 +7,7 @@ use lib.ListN.{length, take}
 use Rattle.sets.specs.Lists.{total}
 use Rattle.expression.specs.Words.{cubesOf}
 use Rattle.expression.specs.Expression.{expression}
-use Rattle.network.specs.Net.{Node, Net, nodes, variables, cubeCount, literalCount}
+use Rattle.network.specs.Net.{Node, Net, nodes, variables, HasVariable, cubeCount, literalCount}
 use Rattle.network.specs.Meaning.{Reads, Through}
 use Rattle.network.specs.Held.{numbered, used, netOf, mostInputs, mostOutputs, mostVariables, mostCubes, mostLiterals}
 use Rattle.network.specs.declared.Network.{Network}
@@ -30,7 +30,7 @@ InTurn n = n .divisors ≡ numbered (n .inputs) (map (λ (e : Node). e .cubes) (
 pub record Good (n : Net) : Type 0 where
   -- every node has an expression, over the inputs and the divisors
   pub expressions : (f : List (List ℕ)) → List·Memᴰ f (nodes n) → expression f ≡ true
-  pub known : (f : List (List ℕ)) → List·Memᴰ f (nodes n) → (v : ℕ) → Reads f v → v < variables n
+  pub known : (f : List (List ℕ)) → List·Memᴰ f (nodes n) → (v : ℕ) → Reads f v → HasVariable n v
   pub inTurn : InTurn n
   -- no divisor reads itself through others
   pub acyclic : (v : ℕ) → Through n v v → ⊥

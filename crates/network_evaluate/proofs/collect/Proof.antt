@@ -45,15 +45,6 @@ tested c =
 loop-holds : tie.Need-loop-holds Inv-loop μ-loop
 loop-holds c = (omega arith, collected-none _ _ _ (omega (arith, many (c .before .before))))
 
-sub-i : tie.Need-sub-i Inv-loop μ-loop
-sub-i c = omega arith
-
-node-requires : tie.Need-node-requires Inv-loop μ-loop
-node-requires c κs = search needs
-
-within-requires : tie.Need-within-requires Inv-loop μ-loop
-within-requires c κs = search needs
-
 mul-r : tie.Need-mul-r Inv-loop μ-loop
 mul-r c = omega (arith, small (c .before .before .before .before))
 
@@ -63,9 +54,6 @@ add-r c = omega (arith, small (c .before .before .before .before))
 mul-r-2 : tie.Need-mul-r-2 Inv-loop μ-loop
 mul-r-2 c = omega (arith, small (c .before .before .before .before))
 
-loop-less : tie.Need-loop-less Inv-loop μ-loop
-loop-less c = omega arith
-
 loop-again : tie.Need-loop-again Inv-loop μ-loop
 loop-again c =
     let l = c .before .before .before .before in (
@@ -73,9 +61,6 @@ loop-again c =
       collected-more _ (held l) [] (l .loop .j) (l .loop .j - 1) (l .loop .r) _ true (omega arith) (omega (arith, many (start l)))
           (l .loop .inv .1) (tested (c .before) ∙ c .if1 .taken) (omega arith),
     )
-
-loop-less-2 : tie.Need-loop-less-2 Inv-loop μ-loop
-loop-less-2 c = omega arith
 
 loop-again-2 : tie.Need-loop-again-2 Inv-loop μ-loop
 loop-again-2 c =
@@ -90,20 +75,5 @@ returns c = let l = c .before in collected-all _ (held l) (l .loop .r)
     (subst (λ x. Collected (someWithin (lits (start l .args .t))) (held l) x (l .loop .r)) (omega arith) (l .loop .inv .1))
 
 pub collect-spec : {M : Type 1} → statement M
-collect-spec =
-    tie.close
-    (tie.spec
-    Inv-loop
-    μ-loop
-    loop-holds
-    sub-i
-    node-requires
-    within-requires
-    mul-r
-    add-r
-    mul-r-2
-    loop-less
-    loop-again
-    loop-less-2
-    loop-again-2
-    returns)
+collect-spec = tie.close (tie.spec Inv-loop μ-loop loop-holds (search needs) (search needs) (search needs) mul-r add-r mul-r-2 (search needs)
+    loop-again (search needs) loop-again-2 returns)

@@ -11,15 +11,6 @@ use Rattle.network_evaluate.proofs.evaluate.Tie as tie
 kept : (c : tie.After-enum-told) → rules (c .before .before .before .args .n) ≡ true
 kept c = accepted-rules _ (sym (c .before .before .judge .ensures) ∙ c .enum-told .given .1)
 
-judge-requires : tie.Need-judge-requires
-judge-requires c κs = search needs
-
-enum-told : tie.Need-enum-told
-enum-told c = search needs
-
-enum-told-2 : tie.Need-enum-told-2
-enum-told-2 c = search needs
-
 returns : tie.Need-returns
 returns c =
     let s = c .before .before .before in
@@ -35,4 +26,4 @@ returns-2 c =
     evaluated-is (s .args .n) (s .args .setting) _ (kept k) (c .value .ensures)
 
 pub evaluate-spec : {M : Type 1} → statement M
-evaluate-spec = tie.close (tie.spec judge-requires enum-told enum-told-2 returns value-requires returns-2)
+evaluate-spec = tie.close (tie.spec (search needs) (search needs) (search needs) returns value-requires returns-2)

@@ -19,23 +19,8 @@ Inv-loop n setting c₀ v₀ c v = (v ≤ n) × Truths v [] (bit setting) (lits 
 abbrev μ-loop : tie.MeasureT-loop
 μ-loop n setting c₀ v₀ c v = n - v
 
-empty-requires : tie.Need-empty-requires Inv-loop μ-loop
-empty-requires c κs = search needs
-
 loop-holds : tie.Need-loop-holds Inv-loop μ-loop
 loop-holds c = (search needs, truths-none _ (c .empty .ensures), search needs)
-
-shr-valued : tie.Need-shr-valued Inv-loop μ-loop
-shr-valued c = omega arith
-
-valued-requires : tie.Need-valued-requires Inv-loop μ-loop
-valued-requires c κs = search needs
-
-add-v : tie.Need-add-v Inv-loop μ-loop
-add-v c = omega arith
-
-loop-less : tie.Need-loop-less Inv-loop μ-loop
-loop-less c = omega arith
 
 loop-again : tie.Need-loop-again Inv-loop μ-loop
 loop-again c =
@@ -54,16 +39,5 @@ returns c =
     subst (λ x. Truths x [] (bit (l .before .before .args .setting)) (lits (l .loop .c))) (omega arith) (l .loop .inv .1)
 
 pub given-spec : {M : Type 1} → statement M
-given-spec =
-    tie.close
-    (tie.spec
-    Inv-loop
-    μ-loop
-    empty-requires
-    loop-holds
-    shr-valued
-    valued-requires
-    add-v
-    loop-less
-    loop-again
+given-spec = tie.close (tie.spec Inv-loop μ-loop (search needs) loop-holds (search needs) (search needs) (search needs) (search needs) loop-again
     returns)

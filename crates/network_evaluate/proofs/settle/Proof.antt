@@ -50,17 +50,11 @@ shared-slice-read-v c = omega (arith, start (c .before .before) .pre .counted)
 cast-v : tie.Need-cast-v Inv-loop μ-loop
 cast-v c = let d = c .before in omega (arith, range d, start (d .before) .pre .variables)
 
-place-of-requires : tie.Need-place-of-requires Inv-loop μ-loop
-place-of-requires c κs = search needs
-
 step-requires : tie.Need-step-requires Inv-loop μ-loop
 step-requires c κs = let d = c .before .before in omega (arith, range d, start (d .before) .pre .variables)
 
 add-i : tie.Need-add-i Inv-loop μ-loop
 add-i c = omega (arith, start (c .before .before .before .before) .pre .short)
-
-loop-less : tie.Need-loop-less Inv-loop μ-loop
-loop-less c = omega arith
 
 loop-again : tie.Need-loop-again Inv-loop μ-loop
 loop-again c =
@@ -85,18 +79,5 @@ returns c =
     sym (settled-done _ _ (take (s .args .count) (s .args .order .now)) (l .loop .i) _ (omega (arith, many s))) ∙ l .loop .inv .1
 
 pub settle-spec : {M : Type 1} → statement M
-settle-spec =
-    tie.close
-    (tie.spec
-    Inv-loop
-    μ-loop
-    loop-holds
-    mul-v
-    shared-slice-read-v
-    cast-v
-    place-of-requires
-    step-requires
-    add-i
-    loop-less
-    loop-again
-    returns)
+settle-spec = tie.close (tie.spec Inv-loop μ-loop loop-holds mul-v shared-slice-read-v cast-v (search needs) step-requires add-i (search needs)
+    loop-again returns)

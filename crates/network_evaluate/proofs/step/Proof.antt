@@ -8,15 +8,6 @@ use Rattle.network_known.proofs.Knowing.{joined-signed}
 use Rattle.network_evaluate.proofs.step.Statement.{statement}
 use Rattle.network_evaluate.proofs.step.Tie as tie
 
-node-requires : tie.Need-node-requires
-node-requires c κs = search needs
-
-within-requires : tie.Need-within-requires
-within-requires c κs = search needs
-
-valued-requires : tie.Need-valued-requires
-valued-requires c κs = search needs
-
 returns : tie.Need-returns
 returns c =
     let w = c .before in
@@ -27,4 +18,4 @@ returns c =
     ∙ ap (λ b. insert (signed (s .args .v) b) t) (w .within .ensures ∙ ap (someWithin t) (w .before .node .ensures .0))
 
 pub step-spec : {M : Type 1} → statement M
-step-spec = tie.close (tie.spec node-requires within-requires valued-requires returns)
+step-spec = tie.close (tie.spec (search needs) (search needs) (search needs) returns)

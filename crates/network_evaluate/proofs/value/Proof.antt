@@ -5,18 +5,6 @@ use Rattle.network_listing.proofs.Answering.{listed-out, rules-listable}
 use Rattle.network_evaluate.proofs.value.Statement.{statement}
 use Rattle.network_evaluate.proofs.value.Tie as tie
 
-listing-requires : tie.Need-listing-requires
-listing-requires c κs = search needs
-
-slice-aggregate-answer : tie.Need-slice-aggregate-answer
-slice-aggregate-answer c = search needs
-
-slice-aggregate-answer-2 : tie.Need-slice-aggregate-answer-2
-slice-aggregate-answer-2 c = search needs
-
-slice-aggregate-answer-3 : tie.Need-slice-aggregate-answer-3
-slice-aggregate-answer-3 c = search needs
-
 answer-requires : tie.Need-answer-requires
 answer-requires c κs =
     let l = c .before .before .before .before .before .before in
@@ -32,12 +20,4 @@ returns : tie.Need-returns
 returns c = c .answer .ensures
 
 pub value-spec : {M : Type 1} → statement M
-value-spec =
-    tie.close
-    (tie.spec
-    listing-requires
-    slice-aggregate-answer
-    slice-aggregate-answer-2
-    slice-aggregate-answer-3
-    answer-requires
-    returns)
+value-spec = tie.close (tie.spec (search needs) (search needs) (search needs) (search needs) answer-requires returns)

@@ -23,15 +23,6 @@ loop-holds c = (omega arith, above-first _)
 alone-requires : tie.Need-alone-requires Inv-loop μ-loop
 alone-requires c κs = omega (arith, c .before .before .pre)
 
-without-requires : tie.Need-without-requires Inv-loop μ-loop
-without-requires c κs = search needs
-
-add-v : tie.Need-add-v Inv-loop μ-loop
-add-v c = search needs
-
-loop-less : tie.Need-loop-less Inv-loop μ-loop
-loop-less c = search needs
-
 loop-again : tie.Need-loop-again Inv-loop μ-loop
 loop-again c =
     let a = c .before in
@@ -44,6 +35,4 @@ returns c =
     subst (λ x. Makes (lits (l .before .args .set)) (lits (l .loop .left)) (keep (λ u. leb x u))) (omega arith) (l .loop .inv .1)
 
 pub above-spec : {M : Type 1} → statement M
-above-spec =
-    tie.close
-    (tie.spec Inv-loop μ-loop loop-holds alone-requires without-requires add-v loop-less loop-again returns)
+above-spec = tie.close (tie.spec Inv-loop μ-loop loop-holds alone-requires (search needs) (search needs) (search needs) loop-again returns)

@@ -8,18 +8,6 @@ use Rattle.network_reads.proofs.Marking.{marks-single}
 use Rattle.network_hangs.proofs.alone.Statement.{statement}
 use Rattle.network_hangs.proofs.alone.Tie as tie
 
-empty-requires : tie.Need-empty-requires
-empty-requires c κs = search needs
-
-cast-t4 : tie.Need-cast-t4
-cast-t4 c = search needs
-
-plain-requires : tie.Need-plain-requires
-plain-requires c κs = search needs
-
-with-requires : tie.Need-with-requires
-with-requires c κs = search needs
-
 returns : tie.Need-returns
 returns c =
     let p = c .before in
@@ -29,4 +17,4 @@ returns c =
     marks-single (s .args .v) (s .pre) (e .empty .ensures) (c .with .ensures ∙ ap (λ x. joined x (lits (e .empty .result))) q)
 
 pub alone-spec : {M : Type 1} → statement M
-alone-spec = tie.close (tie.spec empty-requires cast-t4 plain-requires with-requires returns)
+alone-spec = tie.close (tie.spec (search needs) (search needs) (search needs) (search needs) returns)

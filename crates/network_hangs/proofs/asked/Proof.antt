@@ -22,36 +22,12 @@ tested c =
     let q : plainOf (s .args .n + s .args .i) ≡ p .plain .result .0 = omega (arith, p .plain .ensures, s .pre .1) in
     ap (λ x. mem x (lits (s .args .set))) q ∙ sym (c .has .ensures)
 
-add-t9 : tie.Need-add-t9
-add-t9 c = search needs
-
-cast-t10 : tie.Need-cast-t10
-cast-t10 c = search needs
-
-plain-requires : tie.Need-plain-requires
-plain-requires c κs = search needs
-
-has-requires : tie.Need-has-requires
-has-requires c κs = search needs
-
-add-node : tie.Need-add-node
-add-node c = search needs
-
-node-requires : tie.Need-node-requires
-node-requires c κs = search needs
-
-reads-requires : tie.Need-reads-requires
-reads-requires c κs = search needs
-
 returns : tie.Need-returns
 returns c =
     let t = c .before .before in
     let a = start (t .before .before) .args in
     asked-yes (a .n + a .i) _ (tested (t .before) ∙ t .if1 .taken)
     (subst (λ f. Marks (lits (c .reads .result)) (readsOf f)) (c .before .node .ensures .0) (c .reads .ensures))
-
-empty-requires : tie.Need-empty-requires
-empty-requires c κs = search needs
 
 returns-2 : tie.Need-returns-2
 returns-2 c =
@@ -60,6 +36,5 @@ returns-2 c =
     asked-no (a .n + a .i) _ (tested (t .before) ∙ t .if1 .left) (c .empty .ensures)
 
 pub asked-spec : {M : Type 1} → statement M
-asked-spec =
-    tie.close
-    (tie.spec add-t9 cast-t10 plain-requires has-requires add-node node-requires reads-requires returns empty-requires returns-2)
+asked-spec = tie.close (tie.spec (search needs) (search needs) (search needs) (search needs) (search needs) (search needs) (search needs) returns
+    (search needs) returns-2)

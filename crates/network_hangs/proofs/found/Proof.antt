@@ -5,15 +5,6 @@ use Rattle.network_hangs.proofs.Finding.{found-marks}
 use Rattle.network_hangs.proofs.found.Statement.{statement}
 use Rattle.network_hangs.proofs.found.Tie as tie
 
-node-requires : tie.Need-node-requires
-node-requires c κs = search needs
-
-reads-requires : tie.Need-reads-requires
-reads-requires c κs = search needs
-
-often-requires : tie.Need-often-requires
-often-requires c κs = search needs
-
 above-requires : tie.Need-above-requires
 above-requires c κs = omega (arith, c .before .before .before .before .before .pre .0 .variables)
 
@@ -24,5 +15,4 @@ returns c =
     (c .above .ensures)
 
 pub found-spec : {M : Type 1} → statement M
-found-spec =
-    tie.close (tie.spec node-requires reads-requires often-requires above-requires returns)
+found-spec = tie.close (tie.spec (search needs) (search needs) (search needs) above-requires returns)

@@ -22,26 +22,11 @@ shape c = shape-of _ (search needs) (search needs)
 limited : (c : tie.After-struct-known) → Limited (c .before .before .before .before .args .n)
 limited c = rules-sized (c .before .before .before .before .args .n) (shape c) (kept c)
 
-judge-requires : tie.Need-judge-requires
-judge-requires c κs = search needs
-
-enum-told : tie.Need-enum-told
-enum-told c = search needs
-
-enum-told-2 : tie.Need-enum-told-2
-enum-told-2 c = search needs
-
-empty-requires : tie.Need-empty-requires
-empty-requires c κs = search needs
-
 returns : tie.Need-returns
 returns c =
     let t = c .before in
     let s = t .before .before .before in
     hangs-refused (s .args .n) (s .args .i) (refused-rules _ _ (sym (t .before .before .judge .ensures) ∙ t .enum-told2 .given .1)) (c .empty .ensures)
-
-empty-requires-2 : tie.Need-empty-requires-2
-empty-requires-2 c κs = search needs
 
 add-if1 : tie.Need-add-if1
 add-if1 c = omega (arith, limited c .narrow, limited c .variables)
@@ -51,12 +36,6 @@ returns-2 c =
     let t = c .before in
     let s = t .before .before .before .before .before in
     hangs-past (s .args .n) (s .args .i) (kept (t .before)) (t .if1 .taken) (c .empty2 .ensures)
-
-slice-aggregate-found : tie.Need-slice-aggregate-found
-slice-aggregate-found c = search needs
-
-slice-aggregate-found-2 : tie.Need-slice-aggregate-found-2
-slice-aggregate-found-2 c = search needs
 
 found-requires : tie.Need-found-requires
 found-requires c κs =
@@ -70,18 +49,5 @@ returns-3 c =
     hangs-found (s .args .n) (s .args .i) (kept k) (c .found .ensures)
 
 pub hangs-spec : {M : Type 1} → statement M
-hangs-spec =
-    tie.close
-    (tie.spec
-    judge-requires
-    enum-told
-    enum-told-2
-    empty-requires
-    returns
-    add-if1
-    empty-requires-2
-    returns-2
-    slice-aggregate-found
-    slice-aggregate-found-2
-    found-requires
-    returns-3)
+hangs-spec = tie.close (tie.spec (search needs) (search needs) (search needs) (search needs) returns add-if1 (search needs) returns-2 (search needs)
+    (search needs) found-requires returns-3)

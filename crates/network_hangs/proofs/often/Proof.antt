@@ -7,6 +7,7 @@ use Rattle.network.specs.Parts.{netAt}
 use Rattle.network_hangs.specs.Hangs.{reached}
 use Rattle.network_hangs.specs.Parts.{Makes}
 use Rattle.network_hangs.proofs.Reading.{makes-first, makes-more}
+use borrow.Author.Needs.{needs}
 use Rattle.network_hangs.proofs.often.Statement.{statement}
 use Rattle.network_hangs.proofs.often.Tie as tie
 
@@ -22,12 +23,6 @@ loop-holds c = (omega arith, makes-first _ _)
 once-requires : tie.Need-once-requires Inv-loop μ-loop
 once-requires c κs = c .before .before .before .before .pre
 
-add-turns : tie.Need-add-turns Inv-loop μ-loop
-add-turns c = omega arith
-
-loop-less : tie.Need-loop-less Inv-loop μ-loop
-loop-less c = omega arith
-
 loop-again : tie.Need-loop-again Inv-loop μ-loop
 loop-again c = let l = c .before .before in (omega arith, makes-more _ (l .loop .turns) (l .loop .inv .1) (c .once .ensures))
 
@@ -39,6 +34,4 @@ returns c =
     (l .loop .inv .1)
 
 pub often-spec : {M : Type 1} → statement M
-often-spec =
-    tie.close
-    (tie.spec Inv-loop μ-loop loop-holds once-requires add-turns loop-less loop-again returns)
+often-spec = tie.close (tie.spec Inv-loop μ-loop loop-holds once-requires (search needs) (search needs) loop-again returns)

@@ -48,15 +48,6 @@ asked-requires c κs =
     let s = start (c .before) in
     (omega (arith, s .pre .counted), omega (arith, s .pre .variables))
 
-union-requires : tie.Need-union-requires Inv-loop μ-loop
-union-requires c κs = search needs
-
-add-i : tie.Need-add-i Inv-loop μ-loop
-add-i c = omega arith
-
-loop-less : tie.Need-loop-less Inv-loop μ-loop
-loop-less c = omega arith
-
 loop-again : tie.Need-loop-again Inv-loop μ-loop
 loop-again c =
     let w = c .before in
@@ -80,6 +71,4 @@ returns c =
     record { each = λ t p. gather-done _ _ (λ v. asks-done t v (a .n) (held l) (l .loop .i) (omega (arith, many l))) (l .loop .inv .1 t p) }
 
 pub once-spec : {M : Type 1} → statement M
-once-spec =
-    tie.close
-    (tie.spec Inv-loop μ-loop loop-holds asked-requires union-requires add-i loop-less loop-again returns)
+once-spec = tie.close (tie.spec Inv-loop μ-loop loop-holds asked-requires (search needs) (search needs) (search needs) loop-again returns)

@@ -4,17 +4,11 @@ use borrow.Author.Needs.{needs}
 use Rattle.network_known.proofs.literal_of.Statement.{statement}
 use Rattle.network_known.proofs.literal_of.Tie as tie
 
-plain-requires : tie.Need-plain-requires
-plain-requires c κs = search needs
-
 returns : tie.Need-returns
 returns c = rw (c .before .if1 .taken) (omega arith)
-
-negated-requires : tie.Need-negated-requires
-negated-requires c κs = search needs
 
 returns-2 : tie.Need-returns-2
 returns-2 c = rw (c .before .if1 .left) (omega arith)
 
 pub literal-of-spec : {M : Type 1} → statement M
-literal-of-spec = tie.close (tie.spec plain-requires returns negated-requires returns-2)
+literal-of-spec = tie.close (tie.spec (search needs) returns (search needs) returns-2)

@@ -9,17 +9,8 @@ use Rattle.network_known.proofs.valued.Tie as tie
 returns : tie.Need-returns
 returns c = let a = c .before .args in joined-past (a .v) (a .b) (lits (a .c)) (c .if1 .taken)
 
-cast-t6 : tie.Need-cast-t6
-cast-t6 c = search needs
-
-literal-of-requires : tie.Need-literal-of-requires
-literal-of-requires c κs = search needs
-
-with-requires : tie.Need-with-requires
-with-requires c κs = search needs
-
 returns-2 : tie.Need-returns-2
 returns-2 c = c .with .ensures ∙ ap (λ l. joined l (lits (c .before .before .before .args .c))) (c .before .literal-of .ensures)
 
 pub valued-spec : {M : Type 1} → statement M
-valued-spec = tie.close (tie.spec returns cast-t6 literal-of-requires with-requires returns-2)
+valued-spec = tie.close (tie.spec returns (search needs) (search needs) (search needs) returns-2)

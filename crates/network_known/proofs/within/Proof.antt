@@ -44,29 +44,11 @@ tested : (c : tie.After-contains Inv-loop μ-loop)
     ≡ c .contains .result
 tested c = ap (λ x. sub x (all-of (c .before .before .before .before))) (sym (c .before .cube-at .ensures)) ∙ sym (c .contains .ensures)
 
-loop-holds : tie.Need-loop-holds Inv-loop μ-loop
-loop-holds c = search needs
-
-number-requires : tie.Need-number-requires Inv-loop μ-loop
-number-requires c κs = search needs
-
-cube-at-requires : tie.Need-cube-at-requires Inv-loop μ-loop
-cube-at-requires c κs = search needs
-
-contains-requires : tie.Need-contains-requires Inv-loop μ-loop
-contains-requires c κs = search needs
-
 returns : tie.Need-returns Inv-loop μ-loop
 returns c =
     let l = c .before .before .before .before .before in
     sym (test-stop (cubes l) (l .loop .i) (λ x. sub x (all-of l)) [] (omega arith) (l .before .before .args .every)
     (tested (c .before) ∙ unlike _ _ (c .if2 .taken))) ∙ l .loop .inv .1
-
-add-i : tie.Need-add-i Inv-loop μ-loop
-add-i c = search needs
-
-loop-less : tie.Need-loop-less Inv-loop μ-loop
-loop-less c = search needs
 
 loop-again : tie.Need-loop-again Inv-loop μ-loop
 loop-again c =
@@ -82,17 +64,5 @@ returns-2 c =
     sym (test-done (cubes l) (l .loop .i) (λ x. sub x (all-of l)) (omega arith) _) ∙ l .loop .inv .1
 
 pub within-spec : {M : Type 1} → statement M
-within-spec =
-    tie.close
-    (tie.spec
-    Inv-loop
-    μ-loop
-    loop-holds
-    number-requires
-    cube-at-requires
-    contains-requires
-    returns
-    add-i
-    loop-less
-    loop-again
-    returns-2)
+within-spec = tie.close (tie.spec Inv-loop μ-loop (search needs) (search needs) (search needs) (search needs) returns (search needs) (search needs)
+    loop-again returns-2)

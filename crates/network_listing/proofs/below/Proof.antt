@@ -17,20 +17,8 @@ Inv-loop n c₀ v₀ c v = (v ≤ n) × BothWays v [] (lits c) × (n ≤ mostVar
 abbrev μ-loop : tie.MeasureT-loop
 μ-loop n c₀ v₀ c v = n - v
 
-empty-requires : tie.Need-empty-requires Inv-loop μ-loop
-empty-requires c κs = search needs
-
 loop-holds : tie.Need-loop-holds Inv-loop μ-loop
 loop-holds c = (search needs, spans-none (c .empty .ensures), search needs)
-
-both-requires : tie.Need-both-requires Inv-loop μ-loop
-both-requires c κs = omega arith
-
-add-v : tie.Need-add-v Inv-loop μ-loop
-add-v c = omega arith
-
-loop-less : tie.Need-loop-less Inv-loop μ-loop
-loop-less c = omega arith
 
 loop-again : tie.Need-loop-again Inv-loop μ-loop
 loop-again c =
@@ -41,15 +29,4 @@ returns : tie.Need-returns Inv-loop μ-loop
 returns c = let l = c .before in subst (λ x. BothWays x [] (lits (l .loop .c))) (omega arith) (l .loop .inv .1)
 
 pub below-spec : {M : Type 1} → statement M
-below-spec =
-    tie.close
-    (tie.spec
-    Inv-loop
-    μ-loop
-    empty-requires
-    loop-holds
-    both-requires
-    add-v
-    loop-less
-    loop-again
-    returns)
+below-spec = tie.close (tie.spec Inv-loop μ-loop (search needs) loop-holds (search needs) (search needs) (search needs) loop-again returns)

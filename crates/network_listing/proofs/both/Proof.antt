@@ -8,12 +8,6 @@ use Rattle.network_known.proofs.Knowing.{joined-signed}
 use Rattle.network_listing.proofs.both.Statement.{statement}
 use Rattle.network_listing.proofs.both.Tie as tie
 
-valued-requires : tie.Need-valued-requires
-valued-requires c κs = search needs
-
-valued-requires-2 : tie.Need-valued-requires-2
-valued-requires-2 c κs = search needs
-
 returns : tie.Need-returns
 returns c =
     let s = c .before .before in
@@ -21,4 +15,4 @@ returns c =
     c .valued2 .ensures ∙ joined-signed v false _ (s .pre) ∙ ap (insert (signed v false)) (c .before .valued .ensures ∙ joined-signed v true _ (s .pre))
 
 pub both-spec : {M : Type 1} → statement M
-both-spec = tie.close (tie.spec valued-requires valued-requires-2 returns)
+both-spec = tie.close (tie.spec (search needs) (search needs) returns)

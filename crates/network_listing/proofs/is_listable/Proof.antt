@@ -19,17 +19,8 @@ limits c = sym (c .before .is-sized .ensures) ∙ not-false _ (c .if1 .left)
 small : (c : tie.Else1) → Limited (c .before .before .args .n)
 small c = sized-out (c .before .before .args .n) (shape-of _ (search needs) (search needs)) (limits c)
 
-is-sized-requires : tie.Need-is-sized-requires
-is-sized-requires c κs = search needs
-
 returns : tie.Need-returns
 returns c = sym (listable-no (c .before .before .args .n) (sym (c .before .is-sized .ensures) ∙ not-true _ (c .if1 .taken)))
-
-slice-aggregate-reaches : tie.Need-slice-aggregate-reaches
-slice-aggregate-reaches c = search needs
-
-slice-aggregate-reaches-2 : tie.Need-slice-aggregate-reaches-2
-slice-aggregate-reaches-2 c = search needs
 
 add-reaches : tie.Need-add-reaches
 add-reaches c = let z = small (c .before .before .before .before .before) in omega (arith, z .narrow, z .variables)
@@ -46,14 +37,4 @@ returns-2 c =
     sym (listable-as (e .before .before .args .n) _ (small e) (limits e) (sym (c .reaches .ensures)))
 
 pub is-listable-spec : {M : Type 1} → statement M
-is-listable-spec =
-    tie.close
-    (tie.spec
-    is-sized-requires
-    returns
-    slice-aggregate-reaches
-    slice-aggregate-reaches-2
-    add-reaches
-    add-reaches-2
-    reaches-requires
-    returns-2)
+is-listable-spec = tie.close (tie.spec (search needs) returns (search needs) (search needs) add-reaches add-reaches-2 reaches-requires returns-2)

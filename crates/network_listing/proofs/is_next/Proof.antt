@@ -15,20 +15,8 @@ use Rattle.network.specs.Held.{mostVariables}
 lacks : (l v : ℕ) (k : List ℕ) (b w : Bool) → v < mostVariables → l ≡ plainOf v % 4294967296 → b ≡ mem l k → (not b && w) ≡ (not (mem (plainOf v) k) && w)
 lacks l v k b w h e q = let p : l ≡ plainOf v = omega arith in ap (λ x. not x && w) (q ∙ ap (λ x. mem x k) p)
 
-cast-t6 : tie.Need-cast-t6
-cast-t6 c = search needs
-
-plain-requires : tie.Need-plain-requires
-plain-requires c κs = search needs
-
-has-requires : tie.Need-has-requires
-has-requires c κs = search needs
-
 returns : tie.Need-returns
 returns c = lacks _ _ _ true _ (c .before .before .before .before .pre) (c .before .before .plain .ensures) (sym (c .if1 .taken) ∙ c .before .has .ensures)
-
-within-requires : tie.Need-within-requires
-within-requires c κs = search needs
 
 returns-2 : tie.Need-returns-2
 returns-2 c =
@@ -37,5 +25,4 @@ returns-2 c =
     (sym (c .before .if1 .left) ∙ c .before .before .has .ensures)
 
 pub is-next-spec : {M : Type 1} → statement M
-is-next-spec =
-    tie.close (tie.spec cast-t6 plain-requires has-requires returns within-requires returns-2)
+is-next-spec = tie.close (tie.spec (search needs) (search needs) (search needs) returns (search needs) returns-2)

@@ -61,20 +61,8 @@ range c =
     (c .before .f .given .0 .0) (found c) in
     omega (arith, s .pre .variables, divisors-length (a .counts .now) (a .words .now) (a .m) (a .k) (s .pre .counted))
 
-below-requires : tie.Need-below-requires Inv-loop μ-loop
-below-requires c κs = omega arith
-
 loop-holds : tie.Need-loop-holds Inv-loop μ-loop
 loop-holds c = let s = c .before .before .before in (omega arith, turn-first _ _ _ (omega (arith, many s)) (c .below .ensures))
-
-next-requires : tie.Need-next-requires Inv-loop μ-loop
-next-requires c κs = search needs
-
-enum-known-f : tie.Need-enum-known-f Inv-loop μ-loop
-enum-known-f c = search needs
-
-enum-told : tie.Need-enum-told Inv-loop μ-loop
-enum-told c = search needs
 
 returns : tie.Need-returns Inv-loop μ-loop
 returns c =
@@ -94,12 +82,6 @@ array-write-order c = omega (arith, start (head c) .pre .variables)
 both-requires : tie.Need-both-requires Inv-loop μ-loop
 both-requires c κs = range c
 
-add-count : tie.Need-add-count Inv-loop μ-loop
-add-count c = omega arith
-
-loop-less : tie.Need-loop-less Inv-loop μ-loop
-loop-less c = omega arith
-
 loop-again : tie.Need-loop-again Inv-loop μ-loop
 loop-again c =
     let d = c .before in
@@ -118,22 +100,5 @@ returns-2 c =
     turn-last (held l) (l .loop .order) (l .loop .count) (lits (l .loop .known)) _ (omega (arith, start l .pre .variables)) (l .loop .inv .1) (omega arith)
 
 pub list-spec : {M : Type 1} → statement M
-list-spec =
-    tie.close
-    (tie.spec
-    Inv-loop
-    μ-loop
-    below-requires
-    loop-holds
-    next-requires
-    enum-known-f
-    enum-told
-    returns
-    cast-order
-    mul-order
-    array-write-order
-    both-requires
-    add-count
-    loop-less
-    loop-again
-    returns-2)
+list-spec = tie.close (tie.spec Inv-loop μ-loop (search needs) loop-holds (search needs) (search needs) (search needs) returns cast-order mul-order
+    array-write-order both-requires (search needs) (search needs) loop-again returns-2)

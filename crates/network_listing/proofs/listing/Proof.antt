@@ -13,22 +13,10 @@ use Rattle.network_listing.proofs.listing.Tie as tie
 allowed : (c : tie.Else1) → listable (c .before .before .args .n) ≡ true
 allowed c = sym (c .before .is-listable .ensures) ∙ not-false _ (c .if1 .left)
 
-is-listable-requires : tie.Need-is-listable-requires
-is-listable-requires c κs = search needs
-
-nothing-requires : tie.Need-nothing-requires
-nothing-requires c κs = search needs
-
 returns : tie.Need-returns
 returns c =
     let d = c .before .before in
     listed-no (d .before .args .n) _ (sym (d .is-listable .ensures) ∙ not-true _ (c .before .if1 .taken)) (c .nothing .ensures)
-
-slice-aggregate-list : tie.Need-slice-aggregate-list
-slice-aggregate-list c = search needs
-
-slice-aggregate-list-2 : tie.Need-slice-aggregate-list-2
-slice-aggregate-list-2 c = search needs
 
 list-requires : tie.Need-list-requires
 list-requires c κs =
@@ -39,13 +27,4 @@ returns-2 : tie.Need-returns-2
 returns-2 c = listed-is _ _ (allowed (c .before .before .before .before .before)) (c .list .ensures)
 
 pub listing-spec : {M : Type 1} → statement M
-listing-spec =
-    tie.close
-    (tie.spec
-    is-listable-requires
-    nothing-requires
-    returns
-    slice-aggregate-list
-    slice-aggregate-list-2
-    list-requires
-    returns-2)
+listing-spec = tie.close (tie.spec (search needs) (search needs) returns (search needs) (search needs) list-requires returns-2)

@@ -61,14 +61,8 @@ loop-holds c =
     let e : a .n + 0 ≡ a .n = omega arith in
     (omega arith, ap (λ x. nextIn (lits (a .known)) (numbered x (drop (a .m) (nodesOf (a .m + a .k) (a .counts .now) (a .words .now))))) e)
 
-number-of-requires : tie.Need-number-of-requires Inv-loop μ-loop
-number-of-requires c κs = search needs
-
 add-node : tie.Need-add-node Inv-loop μ-loop
 add-node c = omega (arith, start (c .before .before) .pre .counted)
-
-node-requires : tie.Need-node-requires Inv-loop μ-loop
-node-requires c κs = search needs
 
 is-next-requires : tie.Need-is-next-requires Inv-loop μ-loop
 is-next-requires c κs = let d = c .before in omega (arith, number d, start (d .before .before) .pre .variables)
@@ -80,12 +74,6 @@ returns c =
     ap some (number (c .before .before .before))
     ∙ sym (next-found (lits (a .known)) (a .n) (held l) (l .loop .i) (omega (arith, many l)) (tested (c .before) ∙ c .if1 .taken))
     ∙ l .loop .inv .1
-
-add-i : tie.Need-add-i Inv-loop μ-loop
-add-i c = omega arith
-
-loop-less : tie.Need-loop-less Inv-loop μ-loop
-loop-less c = omega arith
 
 loop-again : tie.Need-loop-again Inv-loop μ-loop
 loop-again c =
@@ -100,18 +88,5 @@ returns-2 c =
     sym (next-done (lits (a .known)) (a .n) (held l) (l .loop .i) (omega (arith, many l))) ∙ l .loop .inv .1
 
 pub next-spec : {M : Type 1} → statement M
-next-spec =
-    tie.close
-    (tie.spec
-    Inv-loop
-    μ-loop
-    loop-holds
-    number-of-requires
-    add-node
-    node-requires
-    is-next-requires
-    returns
-    add-i
-    loop-less
-    loop-again
-    returns-2)
+next-spec = tie.close (tie.spec Inv-loop μ-loop loop-holds (search needs) add-node (search needs) is-next-requires returns (search needs)
+    (search needs) loop-again returns-2)

@@ -12,15 +12,6 @@ use Rattle.network_listing.proofs.Reaching.{within-reach}
 use Rattle.network_listing.proofs.reaches.Statement.{statement}
 use Rattle.network_listing.proofs.reaches.Tie as tie
 
-front-requires : tie.Need-front-requires
-front-requires c κs = search needs
-
-below-requires : tie.Need-below-requires
-below-requires c κs = search needs
-
-within-requires : tie.Need-within-requires
-within-requires c κs = search needs
-
 returns : tie.Need-returns
 returns c =
     let s = c .before .before .before .before .before in
@@ -30,4 +21,4 @@ returns c =
     ∙ sym (cut-all (all (λ l. ltb (l / 2) (s .args .v))) (take (s .args .e) (s .args .counts .now)) (cubesOf (s .args .words .now)))
 
 pub reaches-spec : {M : Type 1} → statement M
-reaches-spec = tie.close (tie.spec front-requires below-requires within-requires returns)
+reaches-spec = tie.close (tie.spec (search needs) (search needs) (search needs) returns)

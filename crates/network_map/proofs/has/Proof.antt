@@ -16,4 +16,4 @@ returns c =
     c .has .ensures ∙ ap (λ x. mem x (lits (s .args .set))) e
 
 pub has-spec : {M : Type 1} → statement M
-has-spec = tie.close (tie.spec (λ c. search needs) (λ c κs. search needs) (λ c κs. search needs) returns)
+has-spec = tie.close (tie.spec (search needs) (search needs) (search needs) returns)

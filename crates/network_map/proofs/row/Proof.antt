@@ -15,4 +15,4 @@ unfolding rowOf
 returns-2 c = rw (le-ltb _ _ (c .before .if1 .left)) (marks-none (c .empty .ensures))
 
 pub row-spec : {M : Type 1} → statement M
-row-spec = tie.close (tie.spec (λ c κs. search needs) returns (λ c κs. search needs) returns-2)
+row-spec = tie.close (tie.spec (search needs) returns (search needs) returns-2)

@@ -56,17 +56,5 @@ returns c =
     record { size = omega (arith, h .before .pre .size); row = λ v k. h .loop .inv .2 v (omega arith); before = h .loop .inv .3 }
 
 pub set-row-spec : {M : Type 1} → statement M
-set-row-spec =
-    tie.close
-    (tie.spec
-    Inv-loop
-    μ-loop
-    loop-holds
-    (λ c κs. search needs)
-    (λ c. search needs)
-    (λ c. search needs)
-    (λ c. search needs)
-    (λ c. search needs)
-    (λ c. search needs)
-    loop-again
-    returns)
+set-row-spec = tie.close (tie.spec Inv-loop μ-loop loop-holds (search needs) (search needs) (search needs) (search needs) (search needs)
+    (search needs) loop-again returns)

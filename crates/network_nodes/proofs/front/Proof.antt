@@ -4,15 +4,6 @@ use Rattle.network_nodes.proofs.Starting.{front-is}
 use Rattle.network_nodes.proofs.front.Statement.{statement}
 use Rattle.network_nodes.proofs.front.Tie as tie
 
-number-requires : tie.Need-number-requires
-number-requires c κs = search needs
-
-start-requires : tie.Need-start-requires
-start-requires c κs = search needs
-
-part-requires : tie.Need-part-requires
-part-requires c κs = search needs
-
 returns : tie.Need-returns
 returns c =
     let n = c .before .before in
@@ -20,4 +11,4 @@ returns c =
     (front-is (s .args .counts .now) _ _ (s .args .i) _ _ (n .number .ensures) (c .before .start .ensures) (c .part .ensures .0), c .part .ensures .1)
 
 pub front-spec : {M : Type 1} → statement M
-front-spec = tie.close (tie.spec number-requires start-requires part-requires returns)
+front-spec = tie.close (tie.spec (search needs) (search needs) (search needs) returns)

@@ -8,28 +8,10 @@ use Rattle.network_nodes.proofs.Starting.{node-is, node-past}
 use Rattle.network_nodes.proofs.node.Statement.{statement}
 use Rattle.network_nodes.proofs.node.Tie as tie
 
-part-requires : tie.Need-part-requires
-part-requires c κs = search needs
-
 returns : tie.Need-returns
 returns c =
     let s = c .before .before .before .before in
     (node-past (s .args .counts .now) _ _ (s .args .i) (c .before .if1 .taken) (c .part .ensures .0), c .part .ensures .1)
-
-number-requires : tie.Need-number-requires
-number-requires c κs = search needs
-
-summed-requires : tie.Need-summed-requires
-summed-requires c κs = search needs
-
-add-summed : tie.Need-add-summed
-add-summed c = search needs
-
-summed-requires-2 : tie.Need-summed-requires-2
-summed-requires-2 c κs = search needs
-
-part-requires-2 : tie.Need-part-requires-2
-part-requires-2 c κs = search needs
 
 returns-2 : tie.Need-returns-2
 returns-2 c =
@@ -43,14 +25,4 @@ returns-2 c =
     )
 
 pub node-spec : {M : Type 1} → statement M
-node-spec =
-    tie.close
-    (tie.spec
-    part-requires
-    returns
-    number-requires
-    summed-requires
-    add-summed
-    summed-requires-2
-    part-requires-2
-    returns-2)
+node-spec = tie.close (tie.spec (search needs) returns (search needs) (search needs) (search needs) (search needs) (search needs) returns-2)

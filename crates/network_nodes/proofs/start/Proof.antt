@@ -7,19 +7,10 @@ use Rattle.network_nodes.proofs.Starting.{start-all}
 use Rattle.network_nodes.proofs.start.Statement.{statement}
 use Rattle.network_nodes.proofs.start.Tie as tie
 
-summed-requires : tie.Need-summed-requires
-summed-requires c κs = search needs
-
 returns : tie.Need-returns
 returns c =
     let s = c .before .before .before in
     c .summed .ensures ∙ ap (λ t. min t (s .args .most)) (start-all (s .args .counts .now) (s .args .i) (omega arith))
 
-summed-requires-2 : tie.Need-summed-requires-2
-summed-requires-2 c κs = search needs
-
-returns-2 : tie.Need-returns-2
-returns-2 c = search needs
-
 pub start-spec : {M : Type 1} → statement M
-start-spec = tie.close (tie.spec summed-requires returns summed-requires-2 returns-2)
+start-spec = tie.close (tie.spec (search needs) returns (search needs) (search needs))

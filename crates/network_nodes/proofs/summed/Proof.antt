@@ -15,18 +15,6 @@ Inv-loop counts i most sum₀ j₀ sum j = (j ≤ i) × (sum ≤ most) × (sum �
 abbrev μ-loop : tie.MeasureT-loop
 μ-loop counts i most sum₀ j₀ sum j = i - j
 
-loop-holds : tie.Need-loop-holds Inv-loop μ-loop
-loop-holds c = search needs
-
-mul-n : tie.Need-mul-n Inv-loop μ-loop
-mul-n c = search needs
-
-shared-slice-read-n : tie.Need-shared-slice-read-n Inv-loop μ-loop
-shared-slice-read-n c = search needs
-
-sub-if1 : tie.Need-sub-if1 Inv-loop μ-loop
-sub-if1 c = search needs
-
 returns : tie.Need-returns Inv-loop μ-loop
 returns c =
     let h = c .before .before .before in
@@ -36,15 +24,6 @@ returns c =
       start-next (s .args .counts .now) (h .loop .j) (h .loop .sum) (omega (arith, s .pre)) (h .loop .inv .2),
       front-le (λ x. x) (s .args .counts .now) (h .loop .j + 1) (s .args .i) (omega arith),
     )
-
-add-sum : tie.Need-add-sum Inv-loop μ-loop
-add-sum c = search needs
-
-add-j : tie.Need-add-j Inv-loop μ-loop
-add-j c = search needs
-
-loop-less : tie.Need-loop-less Inv-loop μ-loop
-loop-less c = search needs
 
 loop-again : tie.Need-loop-again Inv-loop μ-loop
 loop-again c =
@@ -59,18 +38,5 @@ returns-2 c =
     omega (arith, h .loop .inv .2, ap (λ j. total (λ x. x) (take j (h .before .args .counts .now))) e)
 
 pub summed-spec : {M : Type 1} → statement M
-summed-spec =
-    tie.close
-    (tie.spec
-    Inv-loop
-    μ-loop
-    loop-holds
-    mul-n
-    shared-slice-read-n
-    sub-if1
-    returns
-    add-sum
-    add-j
-    loop-less
-    loop-again
-    returns-2)
+summed-spec = tie.close (tie.spec Inv-loop μ-loop (search needs) (search needs) (search needs) (search needs) returns (search needs) (search needs)
+    (search needs) loop-again returns-2)

@@ -18,18 +18,6 @@ plain-is c = omega (arith, c .plain .ensures, c .before .pre)
 other-is : (c : tie.After-opposite) → c .opposite .result .0 ≡ negatedOf (c .before .before .before .before .args .v)
 other-is c = omega (arith, c .opposite .ensures, plain-is (c .before .before .before))
 
-plain-requires : tie.Need-plain-requires
-plain-requires c κs = search needs
-
-has-requires : tie.Need-has-requires
-has-requires c κs = search needs
-
-empty-requires : tie.Need-empty-requires
-empty-requires c κs = search needs
-
-with-requires : tie.Need-with-requires
-with-requires c κs = search needs
-
 returns : tie.Need-returns
 returns c =
     let t = c .before .before in
@@ -37,18 +25,6 @@ returns c =
     let a = p .before .args in
     variable-yes (a .v) (lits (a .c)) (or-left _ _ (ap (λ x. mem x (lits (a .c))) (sym (plain-is p)) ∙ sym (t .before .has .ensures) ∙ t .if1 .taken))
     (marks-single (a .v) (p .before .pre) (c .before .empty .ensures) (c .with .ensures ∙ ap (λ x. joined x (lits (c .before .empty .result))) (plain-is p)))
-
-opposite-requires : tie.Need-opposite-requires
-opposite-requires c κs = search needs
-
-has-requires-2 : tie.Need-has-requires-2
-has-requires-2 c κs = search needs
-
-empty-requires-2 : tie.Need-empty-requires-2
-empty-requires-2 c κs = search needs
-
-with-requires-2 : tie.Need-with-requires-2
-with-requires-2 c κs = search needs
 
 returns-2 : tie.Need-returns-2
 returns-2 c =
@@ -59,9 +35,6 @@ returns-2 c =
     variable-yes (a .v) (lits (a .c)) (or-right (mem (plainOf (a .v)) (lits (a .c))) _
     (ap (λ x. mem x (lits (a .c))) (sym (other-is o)) ∙ sym (t .before .has2 .ensures) ∙ t .if2 .taken))
     (marks-single (a .v) (p .before .pre) (c .before .empty2 .ensures) (c .with2 .ensures ∙ ap (λ x. joined x (lits (c .before .empty2 .result))) (plain-is p)))
-
-empty-requires-3 : tie.Need-empty-requires-3
-empty-requires-3 c κs = search needs
 
 returns-3 : tie.Need-returns-3
 returns-3 c =
@@ -74,18 +47,5 @@ returns-3 c =
     (ap (λ x. mem x (lits (a .c))) (sym (other-is o)) ∙ sym (t .before .has2 .ensures) ∙ t .if2 .left) (c .empty3 .ensures)
 
 pub variable-spec : {M : Type 1} → statement M
-variable-spec =
-    tie.close
-    (tie.spec
-    plain-requires
-    has-requires
-    empty-requires
-    with-requires
-    returns
-    opposite-requires
-    has-requires-2
-    empty-requires-2
-    with-requires-2
-    returns-2
-    empty-requires-3
-    returns-3)
+variable-spec = tie.close (tie.spec (search needs) (search needs) (search needs) (search needs) returns (search needs) (search needs) (search needs)
+    (search needs) returns-2 (search needs) returns-3)

@@ -16,23 +16,8 @@ Inv-loop c r₀ v₀ r v = (v ≤ width) × Gathers (lits r) (onward v (variable
 abbrev μ-loop : tie.MeasureT-loop
 μ-loop c r₀ v₀ r v = width - v
 
-empty-requires : tie.Need-empty-requires Inv-loop μ-loop
-empty-requires c κs = search needs
-
 loop-holds : tie.Need-loop-holds Inv-loop μ-loop
 loop-holds c = (omega arith, gather-first _ _ (onward-first _) (c .empty .ensures))
-
-variable-requires : tie.Need-variable-requires Inv-loop μ-loop
-variable-requires c κs = search needs
-
-union-requires : tie.Need-union-requires Inv-loop μ-loop
-union-requires c κs = search needs
-
-add-v : tie.Need-add-v Inv-loop μ-loop
-add-v c = search needs
-
-loop-less : tie.Need-loop-less Inv-loop μ-loop
-loop-less c = search needs
 
 loop-again : tie.Need-loop-again Inv-loop μ-loop
 loop-again c =
@@ -46,16 +31,5 @@ returns c =
     gather-done _ _ (onward-done (l .before .before .args .c) (l .loop .v) (omega arith)) (l .loop .inv .1)
 
 pub variables-spec : {M : Type 1} → statement M
-variables-spec =
-    tie.close
-    (tie.spec
-    Inv-loop
-    μ-loop
-    empty-requires
-    loop-holds
-    variable-requires
-    union-requires
-    add-v
-    loop-less
-    loop-again
+variables-spec = tie.close (tie.spec Inv-loop μ-loop (search needs) loop-holds (search needs) (search needs) (search needs) (search needs) loop-again
     returns)

@@ -38,25 +38,10 @@ tested c =
     ∙ sym (c .before .node .ensures .0))
     ∙ sym (c .is-expression .ensures)
 
-loop-holds : tie.Need-loop-holds Inv-loop μ-loop
-loop-holds c = search needs
-
-node-requires : tie.Need-node-requires Inv-loop μ-loop
-node-requires c κs = search needs
-
-is-expression-requires : tie.Need-is-expression-requires Inv-loop μ-loop
-is-expression-requires c κs = search needs
-
 returns : tie.Need-returns Inv-loop μ-loop
 returns c =
     let l = c .before .before .before .before in
     sym (all-stop (held l) (l .loop .i) [] (omega (arith, many l)) expression (tested (c .before) ∙ not-true _ (c .if1 .taken))) ∙ l .loop .inv .1
-
-add-i : tie.Need-add-i Inv-loop μ-loop
-add-i c = search needs
-
-loop-less : tie.Need-loop-less Inv-loop μ-loop
-loop-less c = search needs
 
 loop-again : tie.Need-loop-again Inv-loop μ-loop
 loop-again c =
@@ -67,16 +52,5 @@ returns-2 : tie.Need-returns-2 Inv-loop μ-loop
 returns-2 c = let l = c .before in sym (all-done (held l) (l .loop .i) (omega (arith, many l)) expression) ∙ l .loop .inv .1
 
 pub all-expressions-spec : {M : Type 1} → statement M
-all-expressions-spec =
-    tie.close
-    (tie.spec
-    Inv-loop
-    μ-loop
-    loop-holds
-    node-requires
-    is-expression-requires
-    returns
-    add-i
-    loop-less
-    loop-again
-    returns-2)
+all-expressions-spec = tie.close (tie.spec Inv-loop μ-loop (search needs) (search needs) (search needs) returns (search needs) (search needs)
+    loop-again returns-2)

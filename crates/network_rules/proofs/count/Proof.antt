@@ -9,12 +9,6 @@ use Rattle.network_nodes.proofs.Cutting.{cut-total}
 use Rattle.network_rules.proofs.count.Statement.{statement}
 use Rattle.network_rules.proofs.count.Tie as tie
 
-front-requires : tie.Need-front-requires
-front-requires c κs = search needs
-
-literals-requires : tie.Need-literals-requires
-literals-requires c κs = search needs
-
 returns : tie.Need-returns
 returns c =
     let s = c .before .before .before .before in
@@ -23,4 +17,4 @@ returns c =
     ∙ sym (cut-total length (take (s .args .e) (s .args .counts .now)) (cubesOf (s .args .words .now))))
 
 pub count-spec : {M : Type 1} → statement M
-count-spec = tie.close (tie.spec front-requires literals-requires returns)
+count-spec = tie.close (tie.spec (search needs) (search needs) returns)

@@ -23,25 +23,13 @@ shape c = shape-of _ (search needs) (search needs)
 small : (c : tie.Else1) → Limited (c .before .before .args .n)
 small c = sized-out (c .before .before .args .n) (shape c) (listable-sized (c .before .before .args .n) (allowed c))
 
-is-listable-requires : tie.Need-is-listable-requires
-is-listable-requires c κs = search needs
-
 returns : tie.Need-returns
 returns c = rules-no (c .before .before .args .n) (sym (c .before .is-listable .ensures) ∙ not-true _ (c .if1 .taken))
-
-is-acyclic-requires : tie.Need-is-acyclic-requires
-is-acyclic-requires c κs = search needs
 
 returns-2 : tie.Need-returns-2
 returns-2 c =
     let e = c .before .before in
     sym (rules-as (e .before .before .args .n) (shape e) (allowed e) ∙ rw (sym (c .before .is-acyclic .ensures) ∙ not-true _ (c .if2 .taken)))
-
-slice-aggregate-is-lawful : tie.Need-slice-aggregate-is-lawful
-slice-aggregate-is-lawful c = search needs
-
-slice-aggregate-is-lawful-2 : tie.Need-slice-aggregate-is-lawful-2
-slice-aggregate-is-lawful-2 c = search needs
 
 add-is-lawful : tie.Need-add-is-lawful
 add-is-lawful c = let z = small (c .before .before .before .before .before .before .before) in omega (arith, z .narrow, z .variables)
@@ -57,15 +45,5 @@ returns-3 c =
     c .is-lawful .ensures ∙ sym (rules-as n (shape e) (allowed e) ∙ rw (sym (a .before .is-acyclic .ensures) ∙ not-false _ (a .if2 .left)))
 
 pub follows-spec : {M : Type 1} → statement M
-follows-spec =
-    tie.close
-    (tie.spec
-    is-listable-requires
-    returns
-    is-acyclic-requires
-    returns-2
-    slice-aggregate-is-lawful
-    slice-aggregate-is-lawful-2
-    add-is-lawful
-    is-lawful-requires
+follows-spec = tie.close (tie.spec (search needs) returns (search needs) returns-2 (search needs) (search needs) add-is-lawful is-lawful-requires
     returns-3)

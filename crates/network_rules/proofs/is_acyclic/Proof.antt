@@ -7,12 +7,9 @@ use Rattle.network.specs.declared.Listed.{Listed}
 use Rattle.network_rules.proofs.is_acyclic.Statement.{statement}
 use Rattle.network_rules.proofs.is_acyclic.Tie as tie
 
-listing-requires : tie.Need-listing-requires
-listing-requires c κs = search needs
-
 returns : tie.Need-returns
 unfolding listedOf
 returns c = let d = c .before .before in ap (λ (l : Listed). eqb (l .count) (d .before .args .n .divisors)) (d .listing .ensures)
 
 pub is-acyclic-spec : {M : Type 1} → statement M
-is-acyclic-spec = tie.close (tie.spec listing-requires returns)
+is-acyclic-spec = tie.close (tie.spec (search needs) returns)

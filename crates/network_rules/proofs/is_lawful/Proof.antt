@@ -11,14 +11,8 @@ use Rattle.network_rules.proofs.Ruling.{leb-capped}
 use Rattle.network_rules.proofs.is_lawful.Statement.{statement}
 use Rattle.network_rules.proofs.is_lawful.Tie as tie
 
-all-expressions-requires : tie.Need-all-expressions-requires
-all-expressions-requires c κs = search needs
-
 returns : tie.Need-returns
 returns c = rw (sym (c .before .all-expressions .ensures) ∙ not-true _ (c .if1 .taken))
-
-count-requires : tie.Need-count-requires
-count-requires c κs = search needs
 
 returns-2 : tie.Need-returns-2
 returns-2 c =
@@ -28,4 +22,4 @@ returns-2 c =
     (ap (λ t. leb t mostLiterals) (c .count .ensures) ∙ leb-capped (total literalsOf (nodesOf (a .e) (a .counts .now) (a .words .now))))
 
 pub is-lawful-spec : {M : Type 1} → statement M
-is-lawful-spec = tie.close (tie.spec all-expressions-requires returns count-requires returns-2)
+is-lawful-spec = tie.close (tie.spec (search needs) returns (search needs) returns-2)

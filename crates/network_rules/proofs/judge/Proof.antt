@@ -13,9 +13,6 @@ answered : (n : Network) (b r : Bool) → r ≡ rules n → r ≡ b → cond b A
 unfolding judged
 answered n b r p q = ap (λ (t : Bool). cond t Accepted (Refused 10)) (sym q ∙ p)
 
-follows-requires : tie.Need-follows-requires
-follows-requires c κs = search needs
-
 returns : tie.Need-returns
 returns c = answered (c .before .before .args .n) true _ (c .before .follows .ensures) (c .if1 .taken)
 
@@ -23,4 +20,4 @@ returns-2 : tie.Need-returns-2
 returns-2 c = answered (c .before .before .args .n) false _ (c .before .follows .ensures) (c .if1 .left)
 
 pub judge-spec : {M : Type 1} → statement M
-judge-spec = tie.close (tie.spec follows-requires returns returns-2)
+judge-spec = tie.close (tie.spec (search needs) returns returns-2)

@@ -18,23 +18,11 @@ kept c = sym (c .before .follows .ensures) ∙ not-false _ (c .if1 .left)
 limited : (c : tie.Else1) → Limited (c .before .before .args .n)
 limited c = rules-sized (c .before .before .args .n) (shape-of _ (search needs) (search needs)) (kept c)
 
-follows-requires : tie.Need-follows-requires
-follows-requires c κs = search needs
-
 returns : tie.Need-returns
 returns c = counted-no (c .before .before .args .n) (sym (c .before .follows .ensures) ∙ not-true _ (c .if1 .taken))
 
-slice-aggregate-count : tie.Need-slice-aggregate-count
-slice-aggregate-count c = search needs
-
-slice-aggregate-count-2 : tie.Need-slice-aggregate-count-2
-slice-aggregate-count-2 c = search needs
-
 add-count : tie.Need-add-count
 add-count c = let z = limited (c .before .before .before .before .before) in omega (arith, z .narrow, z .variables)
-
-count-requires : tie.Need-count-requires
-count-requires c κs = search needs
 
 returns-2 : tie.Need-returns-2
 returns-2 c =
@@ -42,13 +30,4 @@ returns-2 c =
     counted-is (e .before .before .args .n) (limited e .shape) _ (kept e) (c .count .ensures)
 
 pub literals-spec : {M : Type 1} → statement M
-literals-spec =
-    tie.close
-    (tie.spec
-    follows-requires
-    returns
-    slice-aggregate-count
-    slice-aggregate-count-2
-    add-count
-    count-requires
-    returns-2)
+literals-spec = tie.close (tie.spec (search needs) returns (search needs) (search needs) add-count (search needs) returns-2)
