@@ -2,7 +2,7 @@
 -- bit past the inputs and on no order of cubes. Assumes nothing.
 use Prim.Native.Nat.{ℕ, zero, suc, _/_, _^_, _<_, _≤_}
 use mathlib.Core.Path.{_≡_, refl, sym, ap, ap₂, _∙_, subst}
-use mathlib.Core.Logic.{inl, inr}
+use mathlib.Core.Logic.{_⊎_, inl, inr}
 use mathlib.Core.Bool.{Bool, true, false, cond, _||_}
 use mathlib.Core.Option.{Option, none, some}
 use mathlib.Core.List.{List, [], _∷_, _++_, map, append-nil, append-assoc, List·Memᴰ·head as here, List·Memᴰ·tail as there, List·Memᴰ·not-nil}
@@ -83,27 +83,43 @@ module _ (n : Net) (d : Distinct n) (w : length (listing n) ≡ length (n .divis
 
 -- ---- one assignment fits
 
+-- two assignments that agree on the inputs, and have at the divisors of a closed set the values of their expressions, agree there
+module _ (n : Net) (w : length (listing n) ≡ length (n .divisors)) (a b : ℕ → Bool) (given : (v : ℕ) → v < n .inputs → a v ≡ b v) (set : ℕ → Type 0)
+    (fa : (e : Node) → e ∈ n .divisors → set (e .number) → a (e .number) ≡ value (lit a) (e .cubes))
+    (fb : (e : Node) → e ∈ n .divisors → set (e .number) → b (e .number) ≡ value (lit b) (e .cubes))
+    (closed : (e : Node) → e ∈ n .divisors → set (e .number) → (v : ℕ) → Reads (e .cubes) v → (v < n .inputs) ⊎ set v) where
+  listed-agree : (p r : List ℕ) → listing n ≡ p ++ r → ((u : ℕ) → u ∈ p → set u → a u ≡ b u) → (u : ℕ) → u ∈ listing n → set u → a u ≡ b u
+  listed-agree p [] q k = λ u m. k u (subst (λ (l : List ℕ). u ∈ l) (q ∙ append-nil p) m)
+  listed-agree p (v ∷ r) q k = listed-agree (p ++ (v ∷ [])) r (q ∙ sym (append-assoc p (v ∷ []) r)) (λ u i t.
+      elim (List·Memᴰ·append-cases p i) [
+        | inl j ↦ k u j t
+        | inr j ↦ let e = List·Memᴰ·eq-of-singleton j in rw e (last (subst set e t))
+      ])
+    where
+      last : set v → a v ≡ b v
+      last t =
+          let x = next-some (n .inputs) p (n .divisors) v (listing-next n p r v q) in
+          let y = subst set (x .number) t in
+          rw (x .number)
+          (fa (x .node) (x .inside) y
+          ∙ value-agree a b (x .node .cubes) (λ u z. elim (closed (x .node) (x .inside) y u z) [
+            | inl h ↦ given u h
+            | inr g ↦ elim (ready-out (n .inputs) p (x .node .cubes) (x .allowed) u z) [ inl h ↦ given u h | inr i ↦ k u i g ]
+          ])
+          ∙ sym (fb (x .node) (x .inside) y))
+
+  pub divisors-agree : (e : Node) → e ∈ n .divisors → set (e .number) → a (e .number) ≡ b (e .number)
+  divisors-agree e m = listed-agree [] (listing n) refl (λ u i. absurd (List·Memᴰ·not-nil i)) (e .number) (listing-in n w e m)
+
 module _ (n : Net) (w : length (listing n) ≡ length (n .divisors)) (s a b : ℕ → Bool) (ca : Consistent n s a) (cb : Consistent n s b) where
   input-agree : (v : ℕ) → v < n .inputs → a v ≡ b v
   input-agree v h = ca .inputs v h ∙ sym (cb .inputs v h)
 
-  listed-agree : (p r : List ℕ) → listing n ≡ p ++ r → ((u : ℕ) → u ∈ p → a u ≡ b u) → (u : ℕ) → u ∈ listing n → a u ≡ b u
-  listed-agree p [] q k = λ u m. k u (subst (λ (l : List ℕ). u ∈ l) (q ∙ append-nil p) m)
-  listed-agree p (v ∷ r) q k = listed-agree (p ++ (v ∷ [])) r (q ∙ sym (append-assoc p (v ∷ []) r)) (λ u i.
-      elim (List·Memᴰ·append-cases p i) [ inl j ↦ k u j | inr j ↦ rw (List·Memᴰ·eq-of-singleton j) next ])
-    where
-      next : a v ≡ b v
-      next = let x = next-some (n .inputs) p (n .divisors) v (listing-next n p r v q) in
-          rw (x .number)
-          (ca .divisors (x .node) (x .inside)
-          ∙ value-agree a b (x .node .cubes) (λ u t. elim (ready-out (n .inputs) p (x .node .cubes) (x .allowed) u t)
-          [ inl h ↦ input-agree u h | inr i ↦ k u i ])
-          ∙ sym (cb .divisors (x .node) (x .inside)))
-
   -- two assignments that fit one setting agree on inputs and divisors
   pub unique : (v : ℕ) → IsVariable n v → a v ≡ b v
   unique v (inl h) = input-agree v h
-  unique v (inr (e, m, p)) = rw p (listed-agree [] (listing n) refl (λ u i. absurd (List·Memᴰ·not-nil i)) (e .number) (listing-in n w e m))
+  unique v (inr (e, m, p)) = rw p (divisors-agree n w a b input-agree (λ u. u ≡ u) (λ g i _. ca .divisors g i) (λ g i _. cb .divisors g i)
+      (λ g i _ u r. inr refl) e m refl)
 
   -- and give the same outputs
   pub answers-unique : Closed n → answers n a ≡ answers n b

@@ -18,7 +18,7 @@ use Rattle.sets.proofs.Lists.{_∈_, all-out, map-in, map-out, pairwise-imp}
 use Rattle.sets.proofs.Sets.{mem-of, of-mem}
 use Rattle.network.specs.Net.{Node, Net, nodes, HasVariable}
 use Rattle.network.specs.Listing.{ready, nextReady, listMore, listing}
-use Rattle.network.specs.Meaning.{Reads, Through, ListedNext, Closed, Distinct, Sound, differ}
+use Rattle.network.specs.Meaning.{Reads, Through, ListedNext, IsDivisor, Closed, Distinct, Sound, differ}
 use Rattle.network.specs.Meaning.Through.{itself, others}
 use Rattle.network.specs.Rules.{InTurn, Good}
 use Rattle.network.proofs.Places.{split-in, all-fails, differ-in, once-le, once-cons, once-all, once-in}
@@ -155,7 +155,7 @@ module _ (n : Net) where
   listing-once = once-in (listing n) (λ a b v e. (listing-from a b v e) .fresh)
 
   -- each is the number of a divisor
-  pub listing-number : (v : ℕ) → v ∈ listing n → (e : Node) × (e ∈ n .divisors) × (v ≡ e .number)
+  pub listing-number : (v : ℕ) → v ∈ listing n → IsDivisor n v
   listing-number v m = let r = split-in m in let q = listing-from (r .0) (r .1) v (r .2) in (q .node, q .inside, q .number)
 
   pub listing-length : length (listing n) ≤ length (n .divisors)
@@ -184,7 +184,7 @@ module _ (n : Net) where
   through-then (itself m i r) q = others m i r q
   through-then (others m i r t) q = others m i r (through-then t q)
 
-  through-from : {u v : ℕ} → Through n u v → (e : Node) × (e ∈ n .divisors) × (u ≡ e .number)
+  pub through-from : {u v : ℕ} → Through n u v → IsDivisor n u
   through-from (itself {e = e} m i r) = (e, m, refl)
   through-from (others {e = e} m i r t) = (e, m, refl)
 
@@ -207,7 +207,7 @@ module _ (n : Net) (d : Distinct n) where
   listing-reads a b e m p v r =
       ready-out (n .inputs) a (e .cubes) (rw (cubes-at n d m) at ((listing-step a b (e .number) p) .allowed)) v r
 
-  listing-earlier : (a b : List ℕ) (e g : Node) → e ∈ n .divisors → g ∈ n .divisors → Reads (e .cubes) (g .number) → listing n ≡ a ++ (e .number ∷ b)
+  pub listing-earlier : (a b : List ℕ) (e g : Node) → e ∈ n .divisors → g ∈ n .divisors → Reads (e .cubes) (g .number) → listing n ≡ a ++ (e .number ∷ b)
       → g .number ∈ a
   listing-earlier a b e g m i r p = elim (listing-reads a b e m p (g .number) r) [ inl h ↦ absurd (omega (arith, d .above g i)) | inr j ↦ j ]
 

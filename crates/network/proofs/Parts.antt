@@ -10,9 +10,10 @@ use Rattle.network_nodes.specs.Nodes.{cut}
 use Rattle.network_nodes.proofs.Cutting.{cut-length, cut-take}
 use Rattle.sets.proofs.Places.{drop-next}
 use Rattle.network.specs.Net.{Node, cubesAt}
+use Rattle.network.specs.Meaning.{IsDivisor}
 use Rattle.network.specs.Held.{numberAt, placeAt}
 use Rattle.network.specs.Parts.{nodesOf, heldIn, netAt}
-use Rattle.network.proofs.Numbering.{numbered-get, place-number}
+use Rattle.network.proofs.Numbering.{numbered-range, numbered-get, place-number}
 use Rattle.network.proofs.Holding.{place-held, divisors-held}
 
 abbrev blankNode : Node
@@ -51,6 +52,11 @@ module _ (cs ws : List ℕ) where
     module _ (h : m + k ≤ length cs) where
       many : length divisors ≡ k
       many = divisors-held (heldIn n m k cs ws) h
+
+      -- the numbers of divisors are from the inputs on, as many as there are divisors
+      pub divisor-range : (v : ℕ) → IsDivisor (netAt n m k cs ws) v → (n ≤ v) × (v < n + k)
+      divisor-range v (e, i, p) =
+          let r = numbered-range n (drop m (nodesOf (m + k) cs ws)) e i in (rw p (r .0), omega (arith, r .1, divisors-length m k h))
 
       -- the divisors from place i on: the one there, with the number of that place, and those after it
       pub divisors-next : (i : ℕ) → i < k

@@ -1,6 +1,6 @@
 -- The answer as the code has it, of a network whose words and counts are lent. Assumes nothing.
 use Prim.Native.Nat.{ℕ, _-_}
-use mathlib.Core.Path.{_≡_, refl, sym, ap, ap₂, _∙_}
+use mathlib.Core.Path.{_≡_, sym, ap, ap₂, _∙_}
 use mathlib.Core.Bool.{true, false}
 use mathlib.Core.List.{List, [], map}
 use lib.ListN.{length, take, replicate}
@@ -12,7 +12,7 @@ use Rattle.network.specs.Listing.{listing}
 use Rattle.network.specs.Evaluation.{evaluate}
 use Rattle.network.specs.Held.{netOf, rules, mostVariables}
 use Rattle.network.specs.Answers.{evaluated}
-use Rattle.network.specs.Parts.{nodesOf, divisorsOf, heldIn, netAt}
+use Rattle.network.specs.Parts.{nodesOf, heldIn, netAt}
 use Rattle.network.specs.declared.Network.{Network}
 use Rattle.network.specs.declared.Number.the-variants.{Is, No}
 use Rattle.network.proofs.Holding.{rules-sound}
@@ -30,12 +30,12 @@ module _ (n m k : ℕ) (words counts : List ℕ) (count : ℕ) (order : List ℕ
     taken = ap₂ take (o .number) (o .places) ∙ take-append-seam (listing net) (replicate (mostVariables - length (listing net)) 0)
 
     pub answer-is : rules (heldIn n m k counts words) ≡ true → (s : ℕ) (g t : List ℕ) → Truths n [] (bit s) g
-        → t ≡ settledIn n (divisorsOf m k counts words) (take count order) g
+        → t ≡ settledIn net (take count order) g
         → packed (map (someWithin t) (nodesOf m counts words)) ≡ evaluate net s
     answer-is h s g t w q =
-        ap₂ (λ (u : List ℕ) (l : List (List (List ℕ))). packed (map (someWithin u) l)) (q ∙ ap (λ o. settledIn n (divisorsOf m k counts words) o g) taken)
+        ap₂ (λ (u : List ℕ) (l : List (List (List ℕ))). packed (map (someWithin u) l)) (q ∙ ap (λ o. settledIn net o g) taken)
         (sym (outputs-are counts words m k))
-        ∙ outputs-value net (divisorsOf m k counts words) refl (rules-sound (heldIn n m k counts words) h) s g w
+        ∙ outputs-value net (rules-sound (heldIn n m k counts words) h) s g w
 
 -- ---- what is answered
 

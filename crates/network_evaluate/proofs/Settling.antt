@@ -1,6 +1,6 @@
 -- Evaluation by cubes of true literals: divisors settle along the listing as the definition says, and outputs make up the answer's bits. Assumes nothing.
 use Prim.Native.Nat.{ℕ, _+_, _-_, _*_, _/_, _<_, _≤_, _^_}
-use mathlib.Core.Path.{_≡_, refl, sym, ap, ap₂, _∙_}
+use mathlib.Core.Path.{_≡_, refl, sym, ap, _∙_}
 use mathlib.Core.Logic.{inl, inr}
 use mathlib.Core.Bool.{Bool, true, false, cond, _&&_, _||_}
 use mathlib.Core.List.{List, [], _∷_, _++_, map, append-nil, append-assoc}
@@ -12,7 +12,7 @@ use borrow.Author.Tests.{lt-ltb, le-ltb, eq-eqb, ne-eqb}
 use Rattle.sets.specs.Lists.{all}
 use Rattle.sets.specs.Masks.{bit, packed}
 use Rattle.sets.proofs.Truth.{or-left, or-right}
-use Rattle.sets.proofs.Lists.{_∈_, all-in, all-out, all-cong, any-cong, map-cong}
+use Rattle.sets.proofs.Lists.{_∈_, all-out, all-cong, any-cong, map-cong}
 use Rattle.sets.proofs.Sets.{mem-of}
 use Rattle.sets.proofs.Packing.{packed-lt}
 use Rattle.expression.specs.Value.{lit, value}
@@ -20,13 +20,13 @@ use Rattle.sets.specs.Sets.{mem, sub, insert}
 use Rattle.sets.proofs.Places.{drop-next}
 use Rattle.network.specs.Net.{Net, cubesAt}
 use Rattle.network.specs.Listing.{ready, listing}
-use Rattle.network.specs.Meaning.{ListedNext, Distinct, IsVariable, Sound}
-use Rattle.network.specs.Held.{numbered, mostOutputs}
+use Rattle.network.specs.Meaning.{ListedNext, IsVariable, Sound}
+use Rattle.network.specs.Held.{mostOutputs}
 use Rattle.network.specs.Evaluation.{assign, settle, evaluate}
 use Rattle.network_known.specs.Known.{known, Truths, signed, someWithin}
 use Rattle.network_known.proofs.Knowing.{known-listed, signed-more}
 use Rattle.network_evaluate.specs.Parts.{settledIn}
-use Rattle.network.proofs.Numbering.{numbered-at, numbered-distinct}
+use Rattle.network.proofs.Numbering.{passes-read}
 use Rattle.network.proofs.Listings.{listing-step, listing-in}
 
 -- ---- values
@@ -54,72 +54,54 @@ module _ (n : ℕ) (listed : List ℕ) (a : ℕ → Bool) (t : List ℕ) (s : Tr
 
 -- ---- one divisor after the other
 
-module _ (n : ℕ) (ds : List (List (List ℕ))) (l : List ℕ) (i : ℕ) (t : List ℕ) where
-  pub settled-on : i < length l → (v : ℕ) (f : List (List ℕ)) (u : List ℕ) → v ≡ getD l i 0 → f ≡ getD ds (v - n) [] → u ≡ insert (signed v (someWithin t f)) t
-      → settledIn n ds (drop i l) t ≡ settledIn n ds (drop (i + 1) l) u
+module _ (n : Net) (l : List ℕ) (i : ℕ) (t : List ℕ) where
+  pub settled-on : i < length l → (v : ℕ) (f : List (List ℕ)) (u : List ℕ) → v ≡ getD l i 0 → cubesAt v (n .divisors) ≡ f
+      → u ≡ insert (signed v (someWithin t f)) t → settledIn n (drop i l) t ≡ settledIn n (drop (i + 1) l) u
   unfolding settledIn
   settled-on h v f u p q s =
-      ap (λ (x : List ℕ). settledIn n ds x t) (drop-next l i 0 h ∙ ap (_∷ drop (i + 1) l) (sym p))
-      ∙ ap (settledIn n ds (drop (i + 1) l)) (ap (λ (x : List (List ℕ)). insert (signed v (someWithin t x)) t) (sym q) ∙ sym s)
+      ap (λ (x : List ℕ). settledIn n x t) (drop-next l i 0 h ∙ ap (_∷ drop (i + 1) l) (sym p))
+      ∙ ap (settledIn n (drop (i + 1) l)) (ap (λ (x : List (List ℕ)). insert (signed v (someWithin t x)) t) q ∙ sym s)
 
-  pub settled-done : length l ≤ i → settledIn n ds (drop i l) t ≡ t
+  pub settled-done : length l ≤ i → settledIn n (drop i l) t ≡ t
   unfolding settledIn
   settled-done h = rw (drop-of-length-le l h)
 
 -- ---- along the listing
 
-module _ (net : Net) (ds : List (List (List ℕ))) (e : net .divisors ≡ numbered (net .inputs) ds) where
+module _ (net : Net) (o : Sound net) where
   abbrev n : ℕ
   n = net .inputs
 
-  own : Distinct net
-  own = numbered-distinct net ds e
-
   -- the divisors that are left settle to the assignment of the definition
   settled-truths : (done l : List ℕ) (a : ℕ → Bool) (t : List ℕ) → listing net ≡ done ++ l → Truths n done a t
-      → Truths n (done ++ l) (settle net l a) (settledIn n ds l t)
+      → Truths n (done ++ l) (settle net l a) (settledIn net l t)
   unfolding settle settledIn
   settled-truths done [] a t q s = rw append-nil s
-  settled-truths done (v ∷ l) a t q s = rw (← (append-assoc done (v ∷ []) l), same)
+  settled-truths done (v ∷ l) a t q s = rw (← (append-assoc done (v ∷ []) l), holds-value n done a t s (cubesAt v (net .divisors)) (x .allowed))
       (settled-truths (done ++ (v ∷ [])) l (assign a v b) (insert (signed v b) t) (q ∙ sym (append-assoc done (v ∷ []) l))
-      (truths-listed n done a t s v b above (x .fresh)))
+      (truths-listed n done a t s v b (rw (x .number) (o .distinct .above (x .node) (x .inside))) (x .fresh)))
     where
       x : ListedNext net done v
-      x = listing-step net own done l v q
-
-      above : n ≤ v
-      above = rw (x .number) (own .above (x .node) (x .inside))
+      x = listing-step net (o .distinct) done l v q
 
       b : Bool
       b = value (lit a) (cubesAt v (net .divisors))
 
-      at : cubesAt v (net .divisors) ≡ getD ds (v - n) []
-      at = let w : n + (v - n) ≡ v = omega (arith, above) in ap₂ cubesAt (sym w) e ∙ numbered-at n ds (v - n)
+  -- with all divisors listed the outputs are ready
+  output-ready : (f : List (List ℕ)) → f ∈ net .outputs → ready n (listing net) f ≡ true
+  unfolding ready
+  output-ready f m = passes-read (known n (listing net)) f (λ v r. seen v (o .closed .outputs f m v r))
+    where
+      seen : (v : ℕ) → IsVariable net v → known n (listing net) v ≡ true
+      seen v (inl h) = or-left (ltb v n) (mem v (listing net)) (lt-ltb v n h)
+      seen v (inr (g, i, p)) = or-right (ltb v n) (mem v (listing net)) (rw p (mem-of (listing-in net (o .whole) g i)))
 
-      same : someWithin t (getD ds (v - n) []) ≡ b
-      same = ap (someWithin t) (sym at) ∙ holds-value n done a t s (cubesAt v (net .divisors)) (x .allowed)
-
-  pub listing-truths : (a : ℕ → Bool) (t : List ℕ) → Truths n [] a t → Truths n (listing net) (settle net (listing net) a) (settledIn n ds (listing net) t)
-  listing-truths a t s = settled-truths [] (listing net) a t refl s
-
-  module _ (o : Sound net) where
-    -- with all divisors listed the outputs are ready
-    output-ready : (f : List (List ℕ)) → f ∈ net .outputs → ready n (listing net) f ≡ true
-    unfolding ready
-    output-ready f m = all-in (all (λ l. known n (listing net) (l / 2))) f
-        (λ c i. all-in (λ l. known n (listing net) (l / 2)) c (λ l j. seen (l / 2) (o .closed .outputs f m (l / 2) (c, i, (l, j, refl)))))
-      where
-        seen : (v : ℕ) → IsVariable net v → known n (listing net) v ≡ true
-        seen v (inl h) = or-left (ltb v n) (mem v (listing net)) (lt-ltb v n h)
-        seen v (inr (g, i, p)) = or-right (ltb v n) (mem v (listing net)) (rw p (mem-of (listing-in net (o .whole) g i)))
-
-    -- the outputs where true literals are those of the settled divisors
-    pub outputs-value : (s : ℕ) (t : List ℕ) → Truths n [] (bit s) t
-        → packed (map (someWithin (settledIn n ds (listing net) t)) (net .outputs)) ≡ evaluate net s
-    unfolding evaluate
-    outputs-value s t w = ap packed (map-cong (someWithin (settledIn n ds (listing net) t)) (value (lit (settle net (listing net) (bit s)))) (net .outputs)
-        (λ f m. holds-value n (listing net) (settle net (listing net) (bit s)) (settledIn n ds (listing net) t) (listing-truths (bit s) t w) f
-        (output-ready f m)))
+  -- the outputs where true literals are those of the settled divisors
+  pub outputs-value : (s : ℕ) (t : List ℕ) → Truths n [] (bit s) t → packed (map (someWithin (settledIn net (listing net) t)) (net .outputs)) ≡ evaluate net s
+  unfolding evaluate
+  outputs-value s t w = ap packed (map-cong (someWithin (settledIn net (listing net) t)) (value (lit (settle net (listing net) (bit s)))) (net .outputs)
+      (λ f m. holds-value n (listing net) (settle net (listing net) (bit s)) (settledIn net (listing net) t)
+      (settled-truths [] (listing net) (bit s) t refl w) f (output-ready f m)))
 
 -- ---- outputs as bits
 

@@ -1,21 +1,21 @@
 -- Words for the contracts of the private functions: divisors that settle by true literals, and a network with its listing.
-use Prim.Native.Nat.{ℕ, _-_}
+use Prim.Native.Nat.{ℕ}
 use mathlib.Core.Path.{_≡_}
 use mathlib.Core.Bool.{true}
 use mathlib.Core.List.{List, [], _∷_}
-use lib.ListN.{getD}
 use Rattle.sets.specs.Sets.{insert}
 use Rattle.network_known.specs.Known.{signed, someWithin}
+use Rattle.network.specs.Net.{Net, cubesAt}
 use Rattle.network.specs.Listing.{listing}
 use Rattle.network.specs.Held.{rules}
 use Rattle.network.specs.Handed.{Shaped}
 use Rattle.network.specs.Parts.{heldIn, netAt}
 use Rattle.network_listing.specs.Parts.{PaddedList}
 
--- the listed divisors, numbered from n on, take their values one after the other
-unfoldable pub settledIn : ℕ → List (List (List ℕ)) → List ℕ → List ℕ → List ℕ
-settledIn n ds [] t = t
-settledIn n ds (v ∷ l) t = settledIn n ds l (insert (signed v (someWithin t (getD ds (v - n) []))) t)
+-- the listed divisors take their values one after the other
+unfoldable pub settledIn : Net → List ℕ → List ℕ → List ℕ
+settledIn n [] t = t
+settledIn n (v ∷ l) t = settledIn n l (insert (signed v (someWithin t (cubesAt v (n .divisors)))) t)
 
 -- a network by the rules, and the order of its divisors
 pub record Answerable (n m k : ℕ) (words counts : List ℕ) (count : ℕ) (order : List ℕ) : Type 0 where

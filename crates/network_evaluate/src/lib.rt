@@ -17,7 +17,7 @@ ghost use Rattle.network_nodes.specs.Nodes.{cut};
 ghost use Rattle.network.specs.Evaluation.{evaluate};
 ghost use Rattle.network.specs.Held.{netOf, rules, mostVariables, mostOutputs};
 ghost use Rattle.network.specs.Answers.{evaluated};
-ghost use Rattle.network.specs.Parts.{nodesOf, divisorsOf, netAt};
+ghost use Rattle.network.specs.Parts.{nodesOf, netAt};
 ghost use Rattle.network_listing.specs.Parts.{Ordered};
 ghost use Rattle.network_evaluate.specs.Parts.{settledIn, Answerable};
 
@@ -56,7 +56,7 @@ fn settle(
     inputs: Cube,
 ) -> Cube
     requires { ⌜ Ordered n m k (now words) (now counts) count (now order) ⌝ }
-    ensures { λ r. ⌜ lits r ≡ settledIn n (divisorsOf m k (now (counts .entry)) (now (words .entry))) (take count (now (order .entry))) (lits inputs) ⌝ }
+    ensures { λ r. ⌜ lits r ≡ settledIn (netAt n m k (now (counts .entry)) (now (words .entry))) (take count (now (order .entry))) (lits inputs) ⌝ }
 {
     let mut t = inputs;
     let mut i = 0;

@@ -9,13 +9,13 @@ use lib.ListN.{getD}
 use Rattle.sets.specs.Masks.{bit}
 use Rattle.sets.proofs.Lists.{_∈_, map-out}
 use Rattle.network.specs.Net.{Node, Net, nodes}
-use Rattle.network.specs.Meaning.{Reads, IsVariable, Sound}
+use Rattle.network.specs.Meaning.{Reads, IsDivisor, IsVariable, Sound}
 use Rattle.network.specs.Held.{netOf, rules}
 use Rattle.network.specs.Evaluation.{evaluate}
 use Rattle.network.specs.declared.Network.{Network}
 use Rattle.network.proofs.Holding.{nodes-held, output-held, rules-sound}
-use Rattle.network_hangs.specs.Hangs.{hangsOn, hangsAt}
-use Rattle.network_hangs.proofs.Hanging.{IsDivisor, Leans, KeepsAlone, known-at, hangs-iff, hangs-output}
+use Rattle.network_hangs.specs.Hangs.{hangsOn, hangsAt, Leans, KeepsAlone}
+use Rattle.network_hangs.proofs.Hanging.{known-at, hangs-iff, hangs-output}
 
 -- the expressions of a network read known variables alone
 node-known : (n : Net) → Sound n → (i v : ℕ) → Reads (getD (nodes n) i []) v → IsVariable n v

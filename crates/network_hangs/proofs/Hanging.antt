@@ -3,7 +3,7 @@ use Prim.Native.Nat.{ℕ, zero, suc, _<_, _≤_}
 use mathlib.Core.Path.{_≡_, refl, sym, ap, _∙_, subst}
 use mathlib.Core.Logic.{_⊎_, inl, inr, _↔_}
 use mathlib.Core.Bool.{Bool}
-use mathlib.Core.List.{List, [], _∷_, _++_, append-nil, append-assoc, List·Memᴰ·not-nil, List·Memᴰ·append-cases, List·Memᴰ·eq-of-singleton, Memᴰ·cast}
+use mathlib.Core.List.{List, [], _∷_, _++_, append-assoc, List·Memᴰ·not-nil, Memᴰ·cast}
 use native.Mathlib.Omega.{arith}
 use lib.Dec.{leb}
 use lib.ListN.{length, getD, length-append, List·getD-eq-default}
@@ -18,24 +18,16 @@ use Rattle.expression.specs.Value.{lit, value}
 use Rattle.network.specs.Net.{Node, Net, cubesAt}
 use Rattle.network.specs.Listing.{listing}
 use Rattle.network.specs.Evaluation.{settle, evaluate}
-use Rattle.network.specs.Meaning.{Reads, Through, IsVariable, Consistent, Sound}
+use Rattle.network.specs.Meaning.{Reads, Through, IsDivisor, IsVariable, Consistent, Sound}
 use Rattle.network.specs.Meaning.Through.{itself, others}
 use Rattle.network.proofs.Places.{split-in}
 use Rattle.network.proofs.Numbering.{cubes-at}
-use Rattle.network.proofs.Listings.{listing-in, listing-reads, through-then}
-use Rattle.network.proofs.Evaluating.{value-agree, evaluate-settled, evaluate-bit}
+use Rattle.network.proofs.Listings.{listing-in, listing-earlier, through-from, through-then}
+use Rattle.network.proofs.Evaluating.{value-agree, divisors-agree, evaluate-settled, evaluate-bit}
 use Rattle.network_reads.specs.Reading.{readsOf}
-use Rattle.network_hangs.specs.Hangs.{readBy, reached, hangsOn, Fits}
+use Rattle.network_hangs.specs.Hangs.{readBy, reached, hangsOn, Leans, KeepsAlone, Fits}
 use Rattle.network_reads.proofs.Reading.{reads-in, reads-out}
 use Rattle.network_hangs.proofs.Reading.{by-in, by-out, reads-divisor}
-
--- v is the number of a divisor
-abbrev pub IsDivisor : Net → ℕ → Type 0
-IsDivisor n v = (e : Node) × (e ∈ n .divisors) × (v ≡ e .number)
-
--- an expression reads v, directly or through others
-abbrev pub Leans : Net → List (List ℕ) → ℕ → Type 0
-Leans n f v = Reads f v ⊎ ((u : ℕ) × Reads f u × Through n u v)
 
 -- ---- what is reached
 
@@ -76,10 +68,6 @@ module _ (n : Net) (o : Sound n) where
       subst (λ (x : ℕ). Through n x v) (sym (q .2)) (subst (Through n (q .0 .number)) (sym (d .2))
       (itself (q .1) (d .1) (subst (Reads (q .0 .cubes)) (d .2) (q .3))))
 
-  through-from : {u v : ℕ} → Through n u v → IsDivisor n u
-  through-from (itself {e = e} m i r) = (e, m, refl)
-  through-from (others {e = e} m i r t) = (e, m, refl)
-
   through-to : {u v : ℕ} → Through n u v → IsDivisor n v
   through-to (itself {g = g} m i r) = (g, i, refl)
   through-to (others m i r t) = through-to t
@@ -95,17 +83,16 @@ module _ (n : Net) (o : Sound n) where
     | inl i ↦ elim (step-out n l v i) [ inl j ↦ inl j | inr (u, j, r) ↦ inr (u, j, through-read u v h r) ]
     | inr (u, i, t) ↦ elim (step-out n l u i) [
       | inl j ↦ inr (u, j, t)
-      | inr (w, j, r) ↦ inr (w, j, through-then n (through-read w u (divisor-above u (through-from t)) r) t)
+      | inr (w, j, r) ↦ inr (w, j, through-then n (through-read w u (divisor-above u (through-from n t)) r) t)
     ]
   ]
 
   -- what a listed divisor reads stands before it
   earlier : (a b : List ℕ) (e g : Node) → e ∈ n .divisors → g ∈ n .divisors → Reads (e .cubes) (g .number) → listing n ≡ a ++ (e .number ∷ b)
       → (x : List ℕ) × (y : List ℕ) × (a ≡ x ++ (g .number ∷ y)) × (length x < length a)
-  earlier a b e g m i r p = elim (listing-reads n (o .distinct) a b e m p (g .number) r) [
-    | inl h ↦ absurd (omega (arith, o .distinct .above g i))
-    | inr k ↦ let s = split-in k in (s .0, s .1, s .2, omega (arith, ap length (s .2), length-append (s .0) (g .number ∷ s .1)))
-  ]
+  earlier a b e g m i r p =
+      let s = split-in (listing-earlier n (o .distinct) a b e g m i r p) in
+      (s .0, s .1, s .2, omega (arith, ap length (s .2), length-append (s .0) (g .number ∷ s .1)))
 
   -- so what a divisor reads through others is reached in as many turns as there are numbers before it
   reached-through : {u v : ℕ} → Through n u v → (a b : List ℕ) → listing n ≡ a ++ (u ∷ b) → (l : List ℕ) → u ∈ l → v ∈ reached (length a) n l
@@ -124,7 +111,7 @@ module _ (n : Net) (o : Sound n) where
   -- and all of it in as many turns as there are divisors
   reached-all : (u v : ℕ) (l : List ℕ) → u ∈ l → Through n u v → v ∈ reached (length (n .divisors)) n l
   reached-all u v l j t =
-      let d = through-from t in
+      let d = through-from n t in
       let s = split-in (Memᴰ·cast (d .2) (listing-in n (o .whole) (d .0) (d .1))) in
       reached-more n (length (s .0)) (length (n .divisors)) l v (omega (arith, o .whole, ap length (s .2), length-append (s .0) (u ∷ s .1)))
       (reached-through t (s .0) (s .1) (s .2) l j)
@@ -170,36 +157,15 @@ module _ (n : Net) (o : Sound n) (f : List (List ℕ)) (k : (v : ℕ) → Reads 
     input-agree : (v : ℕ) → v < n .inputs → a v ≡ b v
     input-agree v h = fa .inputs v h ∙ sym (fb .inputs v h)
 
-    -- along the listing
-    listed-agree : (p r : List ℕ) → listing n ≡ p ++ r → ((u : ℕ) → u ∈ p → u ∈ hangsOn n f → a u ≡ b u) → (u : ℕ) → u ∈ listing n → u ∈ hangsOn n f → a u ≡ b u
-    listed-agree p [] q g = λ u m. g u (subst (λ (l : List ℕ). u ∈ l) (q ∙ append-nil p) m)
-    listed-agree p (v ∷ r) q g = listed-agree (p ++ (v ∷ [])) r (q ∙ sym (append-assoc p (v ∷ []) r)) (λ u i.
-        elim (List·Memᴰ·append-cases p i) [
-          | inl j ↦ g u j
-          | inr j ↦ λ w. rw (List·Memᴰ·eq-of-singleton j)
-              (next (subst (λ x. x ∈ hangsOn n f) (List·Memᴰ·eq-of-singleton j) w))
-        ])
-      where
-        agree : (e : Node) → e ∈ n .divisors → v ≡ e .number → v ∈ hangsOn n f → (u : ℕ) → Reads (e .cubes) u → a u ≡ b u
-        agree e m z w u t = elim (hangs-closed e m (subst (λ x. x ∈ hangsOn n f) z w) u t) [
-          | inl h ↦ input-agree u h
-          | inr i ↦ elim (listing-reads n (o .distinct) p r e m (q ∙ ap (λ x. p ++ (x ∷ r)) z) u t) [ inl h ↦ input-agree u h | inr j ↦ g u j i ]
-        ]
-
-        next : v ∈ hangsOn n f → a v ≡ b v
-        next w =
-            let d = (hangs-into v w) .0 in
-            let c : cubesAt v (n .divisors) ≡ d .0 .cubes = ap (λ x. cubesAt x (n .divisors)) (d .2) ∙ cubes-at n (o .distinct) (d .1) in
-            fa .divisors v w
-            ∙ rw c (value-agree a b (d .0 .cubes) (agree (d .0) (d .1) (d .2) w))
-            ∙ sym (fb .divisors v w)
+    at-divisor : {c : ℕ → Bool} → Fits n s (hangsOn n f) c → (e : Node) → e ∈ n .divisors → e .number ∈ hangsOn n f → c (e .number) ≡ value (lit c) (e .cubes)
+    at-divisor {c} z e m i = z .divisors (e .number) i ∙ ap (value (lit c)) (cubes-at n (o .distinct) m)
 
     -- its value is fixed by the inputs and by the divisors that it hangs on, whatever the others are
     pub hangs-alone : value (lit a) f ≡ value (lit b) f
     hangs-alone = value-agree a b f (λ v r. elim (k v r) [
       | inl h ↦ input-agree v h
-      | inr (e, m, p) ↦ listed-agree [] (listing n) refl (λ u i. absurd (List·Memᴰ·not-nil i)) v (Memᴰ·cast p (listing-in n (o .whole) e m))
-          (hangs-back v ((e, m, p), inl r))
+      | inr (e, m, p) ↦ rw p (divisors-agree n (o .whole) a b input-agree (λ u. u ∈ hangsOn n f) (at-divisor fa) (at-divisor fb) hangs-closed e m
+          (hangs-back (e .number) ((e, m, refl), inl (subst (Reads f) p r))))
     ])
 
   -- an assignment that fits the network fits on these
@@ -212,11 +178,6 @@ module _ (n : Net) (o : Sound n) (f : List (List ℕ)) (k : (v : ℕ) → Reads 
   }
 
 -- ---- an output's answer
-
--- the network m has the expressions that n has at the divisors of a list
-pub record KeepsAlone (n m : Net) (l : List ℕ) : Type 0 where
-  pub inputs : n .inputs ≡ m .inputs
-  pub divisors : (v : ℕ) → v ∈ l → (e : Node) × (e ∈ m .divisors) × (v ≡ e .number) × (e .cubes ≡ cubesAt v (n .divisors))
 
 -- what one of some expressions reads is known, where that holds of all; past the last there is nothing to read
 pub known-at : (n : Net) (fs : List (List (List ℕ))) → ((f : List (List ℕ)) → f ∈ fs → (v : ℕ) → Reads f v → IsVariable n v) → (j v : ℕ)

@@ -1,33 +1,25 @@
 -- What the divisors of a list read, and what is reached from a list of variables by reading so many times over. Assumes nothing.
-use Prim.Native.Nat.{ℕ, zero, suc, _+_, _/_, _%_, _<_, _≤_}
+use Prim.Native.Nat.{ℕ, zero, suc, _+_, _/_, _%_}
 use mathlib.Core.Path.{_≡_, refl, sym, ap, ap₂, _∙_, subst}
 use mathlib.Core.Logic.{inl, inr}
 use mathlib.Core.Bool.{Bool, true, false, cond, _&&_, _||_}
 use mathlib.Core.List.{List, [], _∷_, List·Memᴰ·head as here, List·Memᴰ·tail as there}
-use native.Mathlib.Omega.{arith}
 use native.Mathlib.Numerals.{add-one}
 use lib.Dec.{eqb}
-use lib.ListN.{length, getD, drop, drop-of-length-le}
 use borrow.Author.Tests.{eqb-true}
 use Rattle.sets.specs.Lists.{any}
 use Rattle.sets.specs.Sets.{mem, union}
 use Rattle.sets.proofs.Truth.{iff, both, together, either, or-left, or-right, clash}
 use Rattle.sets.proofs.Lists.{_∈_, any-in, any-out}
 use Rattle.sets.proofs.Sets.{mem-of, of-mem, union-mem, nil-mem}
-use Rattle.sets.proofs.Places.{drop-next}
-use Rattle.expression.specs.Words.{cubesOf}
 use Rattle.network.specs.Net.{Node, Net, cubesAt}
 use Rattle.network.specs.Meaning.{Reads, Distinct}
-use Rattle.network.specs.Held.{numbered, used, netOf}
-use Rattle.network_nodes.specs.Nodes.{cut}
-use Rattle.network.specs.declared.Network.{Network}
 use Rattle.network.proofs.Numbering.{cubes-at}
-use Rattle.network.proofs.Holding.{held-distinct}
 use Rattle.network_reads.specs.Reading.{readsOf, Marks}
 use Rattle.network_reads.proofs.Marking.{Gathers}
 use Rattle.network_reads.proofs.Reading.{reads-in, reads-out}
 use Rattle.network_hangs.specs.Hangs.{readBy, reached}
-use Rattle.network_hangs.specs.Parts.{Makes}
+use Rattle.network_hangs.specs.Parts.{readIf, Makes}
 
 -- ---- what the divisors among a list's variables read
 
@@ -85,39 +77,27 @@ by-divisors n d l v = iff into back
         let q = both (mem (e .number) l) (mem v (readsOf (e .cubes))) (r .2) in
         by-in n v (of-mem (e .number) l (q .0)) (rw (cubes-at n d (r .1)) (reads-out (e .cubes) v (q .1)))
 
--- those of a network by value: of the first divisors, and of those from the divisor i on
-pub asks-first : (n : Network) {set : List ℕ} (l : List ℕ) → Marks set l
-    → Gathers set (λ v. any (asks l v) (numbered (n .inputs + 0) (drop 0 (drop (n .outputs) (cut (used n) (cubesOf (n .words)))))))
-    (λ v. mem v (union l (readBy (netOf n) l)))
-asks-first n {set} l p =
-    let e : n .inputs + 0 ≡ n .inputs = omega arith in
-    let read : (v : ℕ) → any (asks l v) (numbered (n .inputs + 0) (drop (n .outputs) (cut (used n) (cubesOf (n .words))))) ≡ mem v (readBy (netOf n) l) =
-    λ v. ap (λ x. any (asks l v) (numbered x (drop (n .outputs) (cut (used n) (cubesOf (n .words)))))) e ∙ sym (by-divisors (netOf n) (held-distinct n) l v) in
-    record {
-      each = λ x.
-          ap₂ (λ (a b : Bool). a || (eqb (x % 2) 0 && b)) (p .each x) (read (x / 2))
-          ∙ turn (eqb (x % 2) 0) (mem (x / 2) l) (mem (x / 2) (readBy (netOf n) l))
-          ∙ ap (eqb (x % 2) 0 &&_) (sym (union-mem (x / 2) l (readBy (netOf n) l)));
-    }
+-- those of all divisors, and those of the first and of the rest
+pub asks-first : (n : Net) → Distinct n → {set : List ℕ} (l : List ℕ) → Marks set l
+    → Gathers set (λ v. any (asks l v) (n .divisors)) (λ v. mem v (union l (readBy n l)))
+asks-first n d {set} l p = record {
+  each = λ x.
+      ap₂ (λ (a b : Bool). a || (eqb (x % 2) 0 && b)) (p .each x) (sym (by-divisors n d l (x / 2)))
+      ∙ turn (eqb (x % 2) 0) (mem (x / 2) l) (mem (x / 2) (readBy n l))
+      ∙ ap (eqb (x % 2) 0 &&_) (sym (union-mem (x / 2) l (readBy n l)));
+}
   where
     turn : (b a c : Bool) → ((b && a) || (b && c)) ≡ (b && (a || c))
     turn true a c = refl
     turn false a c = refl
 
-module _ (l : List ℕ) (v n : ℕ) (ds : List (List (List ℕ))) (i : ℕ) where
-  pub asks-next : i < length ds → any (asks l v) (numbered (n + i) (drop i ds)) ≡
-      (mem v (cond (mem (n + i) l) (readsOf (getD ds i [])) []) || any (asks l v) (numbered (n + (i + 1)) (drop (i + 1) ds)))
-  unfolding numbered
-  asks-next h = let e : n + (i + 1) ≡ suc (n + i) = omega arith in
-      rw (drop-next ds i [] h, e) (ap (_|| any (asks l v) (numbered (suc (n + i)) (drop (i + 1) ds))) (pick (mem (n + i) l)))
-    where
-      pick : (b : Bool) → (b && mem v (readsOf (getD ds i []))) ≡ mem v (cond b (readsOf (getD ds i [])) [])
-      pick true = refl
-      pick false = sym (nil-mem [] refl v)
-
-  pub asks-done : length ds ≤ i → any (asks l v) (numbered (n + i) (drop i ds)) ≡ false
-  unfolding numbered
-  asks-done h = rw (drop-of-length-le ds h)
+pub asks-next : (l : List ℕ) {ds rest : List Node} {e : Node} → ds ≡ e ∷ rest → (v : ℕ)
+    → any (asks l v) ds ≡ (mem v (readIf (e .number) (e .cubes) l) || any (asks l v) rest)
+asks-next l {ds} {rest} {e} q v = ap (any (asks l v)) q ∙ ap (_|| any (asks l v) rest) (pick (mem (e .number) l))
+  where
+    pick : (b : Bool) → (b && mem v (readsOf (e .cubes))) ≡ mem v (cond b (readsOf (e .cubes)) [])
+    pick true = refl
+    pick false = sym (nil-mem [] refl v)
 
 -- ---- so many times over
 

@@ -6,13 +6,13 @@ use network::Network;
 ghost use mathlib.Core.List.{[], _∷_};
 ghost use Prim.Native.Nat.{_+_, _<_, _≤_};
 ghost use lib.Dec.{leb};
-ghost use lib.ListN.{length, getD};
+ghost use lib.ListN.{getD};
 ghost use Rattle.sets.specs.Lists.{keep};
 ghost use Rattle.sets.specs.Sets.{union};
 ghost use Rattle.cube.specs.Cube.{lits};
 ghost use Rattle.expression.specs.Words.{cubesOf};
 ghost use Rattle.network_nodes.specs.Nodes.{cut};
-ghost use Rattle.network.specs.Held.{mostVariables};
+ghost use Rattle.network.specs.Held.{mostOutputs, mostVariables, placeAt};
 ghost use Rattle.network.specs.Parts.{netAt, InLimits};
 ghost use Rattle.network_reads.specs.Reading.{Marks};
 ghost use Rattle.network_hangs.specs.Hangs.{readBy, reached, hangsAt};
@@ -26,13 +26,13 @@ fn alone(v: usize) -> Cube
     cube::with(cube::empty(), cube::plain(Variable(v as u32)))
 }
 
-// What divisor i reads, where the set has it.
-fn asked(words: &[u64], counts: &[usize], n: usize, m: usize, i: usize, set: Cube) -> Cube
-    requires { ⌜ (m + i < length (now counts)) × (n + i < mostVariables) ⌝ }
-    ensures { λ r. ⌜ Makes (lits set) (lits r) (readIf (n + i) (getD (cut (now (counts .entry)) (cubesOf (now (words .entry)))) (m + i) [])) ⌝ }
+// What the divisor of number v reads, where the set has it.
+fn asked(words: &[u64], counts: &[usize], n: usize, m: usize, v: usize, set: Cube) -> Cube
+    requires { ⌜ (m ≤ mostOutputs) × (v < mostVariables) ⌝ }
+    ensures { λ r. ⌜ Makes (lits set) (lits r) (readIf v (getD (cut (now (counts .entry)) (cubesOf (now (words .entry)))) (placeAt n m v) [])) ⌝ }
 {
-    if cube::has(set, cube::plain(Variable((n + i) as u32))) {
-        return network_reads::reads(network_nodes::node(words, counts, m + i));
+    if cube::has(set, cube::plain(Variable(v as u32))) {
+        return network_reads::reads(network_nodes::node(words, counts, network::place_of(n, m, v)));
     }
     cube::empty()
 }
@@ -45,7 +45,8 @@ fn once(words: &[u64], counts: &[usize], n: usize, m: usize, k: usize, set: Cube
     let mut all = set;
     let mut i = 0;
     while i < k {
-        all = cube_sets::union(all, asked(words, counts, n, m, i, set));
+        let v = network::number_of(n, i);
+        all = cube_sets::union(all, asked(words, counts, n, m, v, set));
         i += 1;
     }
     all

@@ -1,59 +1,44 @@
 -- The listing as it is handed out: each number is that of a divisor, and by the rules it is whole. Assumes nothing.
-use Prim.Native.Nat.{ℕ, _+_, _-_, _<_, _≤_}
-use mathlib.Core.Path.{_≡_, refl, ap, ap₂, _∙_, subst}
+use Prim.Native.Nat.{ℕ, _+_, _-_}
+use mathlib.Core.Path.{_≡_, refl, ap, ap₂, _∙_}
 use mathlib.Core.Bool.{Bool, true, false, cond}
 use mathlib.Core.List.{List, []}
 use native.Mathlib.Omega.{arith}
 use lib.ListN.{length, getD, drop, replicate, length-append, List·getD-append}
 use Rattle.sets.specs.Lists.{all}
 use Rattle.sets.proofs.Truth.{both, together}
-use Rattle.sets.proofs.Lists.{_∈_, all-cong}
+use Rattle.sets.proofs.Lists.{all-cong}
 use Rattle.sets.proofs.Places.{at-in}
 use Rattle.expression.specs.Expression.{expression}
-use Rattle.network.specs.Net.{Node, Net, nodes, variables, over}
+use Rattle.network.specs.Net.{Net, nodes, variables, over}
 use Rattle.network.specs.Listing.{listing}
-use Rattle.network.specs.Held.{numbered, netOf, sized, reach, ruled, rules, mostVariables}
+use Rattle.network.specs.Held.{netOf, sized, reach, ruled, rules, mostVariables}
 use Rattle.network.specs.Answers.{listable, numbersOf, listedOf}
-use Rattle.network.specs.Parts.{nodesOf, divisorsOf, netAt, InLimits, Limited}
+use Rattle.network.specs.Parts.{nodesOf, heldIn, netAt, InLimits, Limited}
 use Rattle.network.specs.declared.Network.{Network}
 use Rattle.network.specs.declared.Listed.{Listed}
-use Rattle.network.proofs.Numbering.{numbered-length, numbered-range, over-turn}
+use Rattle.network.proofs.Numbering.{over-turn}
 use Rattle.network.proofs.Listings.{listing-length, listing-number}
 use Rattle.network.proofs.Holding.{nodes-held, divisors-held}
-use Rattle.network.proofs.Parts.{divisors-length}
+use Rattle.network.proofs.Parts.{divisor-range}
 use Rattle.network_listing.specs.Parts.{PaddedList, Ordered}
-
-module _ (net : Net) (ds : List (List (List ℕ))) (e : net .divisors ≡ numbered (net .inputs) ds) where
-  abbrev n : ℕ
-  n = net .inputs
-
-  -- each listed number is that of a divisor
-  pub listing-range : (i : ℕ) → i < length (listing net) → (n ≤ getD (listing net) i 0) × (getD (listing net) i 0 < n + length ds)
-  listing-range i h =
-      let r = listing-number net (getD (listing net) i 0) (at-in (listing net) i 0 h) in
-      let q = numbered-range n ds (r .0) (subst (λ (l : List Node). r .0 ∈ l) e (r .1)) in
-      (rw (r .2) (q .0), rw (r .2) (q .1))
 
 module _ (n m k : ℕ) (words counts : List ℕ) (z : InLimits n m k words counts) (count : ℕ) (order : List ℕ) where
   abbrev held : Net
   held = netAt n m k counts words
 
-  many : length (divisorsOf m k counts words) ≡ k
-  many = divisors-length counts words m k (z .counted)
-
-  module _ (o : PaddedList (listing held) count order) where
-    pub ordered-listing : Ordered n m k words counts count order
-    ordered-listing = record {
-      held = z .counted;
-      variables = z .variables;
-      short = omega (arith, o .number, z .variables, listing-length held, numbered-length n (divisorsOf m k counts words), many);
-      counted = rw (o .places, length-append (listing held) (replicate (mostVariables - length (listing held)) 0)) (omega (arith, o .number));
-      numbers = λ i h.
-          let q : getD order i 0 ≡ getD (listing held) i 0 = ap (λ l. getD l i 0) (o .places)
-          ∙ List·getD-append (listing held) (replicate (mostVariables - length (listing held)) 0) 0 i (omega (arith, o .number)) in
-          let r = listing-range held (divisorsOf m k counts words) refl i (omega (arith, o .number)) in
-          (omega (arith, q, r .0), omega (arith, q, r .1, many));
-    }
+  -- each listed number is that of a divisor
+  pub ordered-listing : PaddedList (listing held) count order → Ordered n m k words counts count order
+  ordered-listing o = record {
+    held = z .counted;
+    variables = z .variables;
+    short = omega (arith, o .number, z .variables, listing-length held, divisors-held (heldIn n m k counts words) (z .counted));
+    counted = rw (o .places, length-append (listing held) (replicate (mostVariables - length (listing held)) 0)) (omega (arith, o .number));
+    numbers = λ i h.
+        let q : getD order i 0 ≡ getD (listing held) i 0 = ap (λ l. getD l i 0) (o .places)
+        ∙ List·getD-append (listing held) (replicate (mostVariables - length (listing held)) 0) 0 i (omega (arith, o .number)) in
+        rw q (divisor-range counts words n m k (z .counted) _ (listing-number held _ (at-in (listing held) i 0 (omega (arith, o .number)))));
+  }
 
 -- ---- what is handed out
 

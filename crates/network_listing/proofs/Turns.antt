@@ -1,19 +1,19 @@
 -- The listing turn by turn: the next number by known literals, and what the turns made so far leave to be made. Assumes nothing.
 use Prim.Native.Nat.{ℕ, zero, suc, _+_, _-_, _<_, _≤_}
 use mathlib.Core.Path.{_≡_, refl, sym, ap, ap₂, _∙_, subst}
-use mathlib.Core.Bool.{Bool, true, false, cond, not, _&&_}
-use mathlib.Core.List.{List, [], _∷_, _++_}
-use mathlib.Core.Option.{none, some, Option·none-ne-some, Option·some-injective}
+use mathlib.Core.Bool.{true, false, not, _&&_}
+use mathlib.Core.List.{List, [], _∷_, _++_, List·Memᴰ·head as here, List·Memᴰ·tail as there}
+use mathlib.Core.Option.{none, some}
 use native.Mathlib.Omega.{arith}
 use native.Mathlib.Numerals.{add-one}
-use lib.ListN.{length, getD, take, drop, set, replicate, drop-of-length-le, length-set, take-append-drop}
+use lib.ListN.{length, take, drop, set, replicate, length-set, take-append-drop}
 use lib.Seq.{length-take-le, take-suc-set, drop-set-lt, drop-drop}
 use Rattle.sets.specs.Literal.{plainOf}
 use Rattle.sets.specs.Sets.{mem, insert}
-use Rattle.sets.proofs.Places.{drop-next}
-use Rattle.network.specs.Net.{Net}
+use Rattle.sets.proofs.Lists.{_∈_}
+use Rattle.network.specs.Net.{Node, Net}
 use Rattle.network.specs.Listing.{nextReady, listMore, listing}
-use Rattle.network.specs.Held.{numbered, mostVariables}
+use Rattle.network.specs.Held.{mostVariables}
 use Rattle.network_known.specs.Known.{everyWithin, BothWays, signed}
 use Rattle.network_known.proofs.Knowing.{spans-listed}
 use Rattle.network_listing.specs.Parts.{nextIn, PaddedList}
@@ -22,42 +22,26 @@ use Rattle.network_listing.proofs.Reaching.{within-ready, plain-listed}
 
 -- ---- the next number
 
-module _ (k : List ℕ) (n : ℕ) (ds : List (List (List ℕ))) (i : ℕ) where
-  module _ (h : i < length ds) where
-    turn : nextIn k (numbered (n + i) (drop i ds)) ≡ cond (not (mem (plainOf (n + i)) k) && everyWithin k (getD ds i [])) (some (n + i))
-        (nextIn k (numbered (n + (i + 1)) (drop (i + 1) ds)))
-    unfolding nextIn numbered
-    turn = let e : n + (i + 1) ≡ suc (n + i) = omega arith in rw (drop-next ds i [] h, e)
+module _ (k : List ℕ) {ds rest : List Node} {e : Node} (q : ds ≡ e ∷ rest) where
+  pub next-found : (not (mem (plainOf (e .number)) k) && everyWithin k (e .cubes)) ≡ true → nextIn k ds ≡ some (e .number)
+  unfolding nextIn
+  next-found t = rw (q, t)
 
-    pub next-found : (not (mem (plainOf (n + i)) k) && everyWithin k (getD ds i [])) ≡ true → nextIn k (numbered (n + i) (drop i ds)) ≡ some (n + i)
-    next-found e = turn ∙ ap (λ b. cond b (some (n + i)) (nextIn k (numbered (n + (i + 1)) (drop (i + 1) ds)))) e
+  pub next-on : (not (mem (plainOf (e .number)) k) && everyWithin k (e .cubes)) ≡ false → nextIn k ds ≡ nextIn k rest
+  unfolding nextIn
+  next-on t = rw (q, t)
 
-    pub next-on : (not (mem (plainOf (n + i)) k) && everyWithin k (getD ds i [])) ≡ false
-        → nextIn k (numbered (n + i) (drop i ds)) ≡ nextIn k (numbered (n + (i + 1)) (drop (i + 1) ds))
-    next-on e = turn ∙ ap (λ b. cond b (some (n + i)) (nextIn k (numbered (n + (i + 1)) (drop (i + 1) ds)))) e
-
-  pub next-done : length ds ≤ i → nextIn k (numbered (n + i) (drop i ds)) ≡ none
-  unfolding nextIn numbered
-  next-done h = rw (drop-of-length-le ds h)
-
--- it is the number of a divisor
-pub next-range : (k : List ℕ) (n : ℕ) (ds : List (List (List ℕ))) (v : ℕ) → nextIn k (numbered n ds) ≡ some v → (n ≤ v) × (v < n + length ds)
-unfolding nextIn numbered
-next-range k n [] v e = absurd (Option·none-ne-some v e)
-next-range k n (f ∷ ds) v e = go (not (mem (plainOf n) k) && everyWithin k f) e (next-range k (suc n) ds v)
-  where
-    go : (b : Bool) → cond b (some n) (nextIn k (numbered (suc n) ds)) ≡ some v
-        → (nextIn k (numbered (suc n) ds) ≡ some v → (suc n ≤ v) × (v < suc n + length ds)) → (n ≤ v) × (v < n + suc (length ds))
-    go true p r = let q = Option·some-injective n v p in (omega arith, omega arith)
-    go false p r = let q = r p in (omega arith, omega arith)
+pub next-done : (k : List ℕ) {ds : List Node} → ds ≡ [] → nextIn k ds ≡ none
+unfolding nextIn
+next-done k e = rw e
 
 -- known literals give the next number of the definition
-pub next-ready : (n : ℕ) (listed k : List ℕ) → BothWays n listed k → (v : ℕ) (ds : List (List (List ℕ))) → n ≤ v
-    → nextIn k (numbered v ds) ≡ nextReady n listed (numbered v ds)
-unfolding nextIn numbered nextReady
-next-ready n listed k s v [] h = refl
-next-ready n listed k s v (f ∷ ds) h =
-    rw (plain-listed n listed k s v h, within-ready n listed k s f, next-ready n listed k s (suc v) ds (omega arith))
+pub next-ready : (n : ℕ) (listed k : List ℕ) → BothWays n listed k → (ds : List Node) → ((e : Node) → e ∈ ds → n ≤ e .number)
+    → nextIn k ds ≡ nextReady n listed ds
+unfolding nextIn nextReady
+next-ready n listed k s [] h = refl
+next-ready n listed k s (e ∷ ds) h = rw
+    (plain-listed n listed k s (e .number) (h e (here refl)), within-ready n listed k s (e .cubes), next-ready n listed k s ds (λ g m. h g (there m)))
 
 -- ---- the turns
 

@@ -62,7 +62,11 @@ fn next(words: &[u64], counts: &[usize], n: usize, m: usize, k: usize, known: Cu
     let mut i = 0;
     while i < k {
         let v = network::number_of(n, i);
-        if is_next(network_nodes::node(words, counts, m + i), v, known) {
+        if is_next(
+            network_nodes::node(words, counts, network::place_of(n, m, v)),
+            v,
+            known,
+        ) {
             return Place::At(v);
         }
         i += 1;

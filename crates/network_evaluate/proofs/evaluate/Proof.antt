@@ -26,4 +26,4 @@ returns-2 c =
     evaluated-is (s .args .n) (s .args .setting) _ (kept k) (c .value .ensures)
 
 pub evaluate-spec : {M : Type 1} → statement M
-evaluate-spec = tie.close (tie.spec (search needs) (search needs) (search needs) returns value-requires returns-2)
+evaluate-spec = tie.close (tie.spec (search needs) (λ c. search needs) (λ c. search needs) returns value-requires returns-2)

@@ -9,17 +9,18 @@ use lib.Seq.{getD-take, length-take-le}
 use Rattle.cube.specs.Cube.{lits}
 use Rattle.expression.specs.Words.{cubesOf}
 use Rattle.network_nodes.specs.Nodes.{cut}
-use Rattle.network.specs.Parts.{divisorsOf}
+use Rattle.network.specs.Parts.{netAt}
+use Rattle.network.specs.Held.{placeAt}
 use Rattle.network_evaluate.specs.Parts.{settledIn}
-use Rattle.network.proofs.Parts.{divisors-at}
+use Rattle.network.proofs.Parts.{place-at}
 use Rattle.network_evaluate.proofs.Settling.{settled-on, settled-done}
 use Rattle.network_evaluate.proofs.settle.Statement.{statement}
 use Rattle.network_evaluate.proofs.settle.Tie as tie
 
 abbrev Inv-loop : tie.InvT-loop
 Inv-loop words counts n m k order count t₀ i₀ t i =
-    (i ≤ count) × (settledIn n (divisorsOf m k counts words) (drop i (take count order)) (lits t) ≡ settledIn n (divisorsOf m k counts words)
-    (take count order) (lits t₀))
+    (i ≤ count) × (settledIn (netAt n m k counts words) (drop i (take count order)) (lits t)
+    ≡ settledIn (netAt n m k counts words) (take count order) (lits t₀))
 
 abbrev μ-loop : tie.MeasureT-loop
 μ-loop words counts n m k order count t₀ i₀ t i = count - i
@@ -64,19 +65,19 @@ loop-again c =
     let a = s .args in
     let o = take (a .count) (a .order .now) in
     let v : number l ≡ getD o (l .loop .i) 0 = sym (getD-take (a .count) (a .order .now) (l .loop .i) 0 (d .loop-test .taken)) in
-    let p : c .before .place-of .result ≡ a .m + (number l - a .n) = omega (arith, c .before .place-of .ensures, range d, s .pre .held) in
-    let f = divisors-at (a .counts .now) (a .words .now) (a .m) (a .k) (number l - a .n) (omega (arith, range d))
+    let p : c .before .place-of .result ≡ placeAt (a .n) (a .m) (number l) = omega (arith, c .before .place-of .ensures, range d, s .pre .held) in
+    let f = place-at (a .counts .now) (a .words .now) (a .n) (a .m) (a .k) (number l) (range d .0) (range d .1)
     ∙ ap (λ i. getD (cut (a .counts .now) (cubesOf (a .words .now))) i []) (sym p) in (
       omega arith,
-      sym (settled-on (a .n) (divisorsOf (a .m) (a .k) (a .counts .now) (a .words .now)) o (l .loop .i) (lits (l .loop .t)) (omega (arith, many s))
-          (number l) _ _ v (sym f) (c .step .ensures)) ∙ l .loop .inv .1,
+      sym (settled-on (netAt (a .n) (a .m) (a .k) (a .counts .now) (a .words .now)) o (l .loop .i) (lits (l .loop .t)) (omega (arith, many s))
+          (number l) _ _ v f (c .step .ensures)) ∙ l .loop .inv .1,
     )
 
 returns : tie.Need-returns Inv-loop μ-loop
 returns c =
     let l = c .before in
     let s = start l in
-    sym (settled-done _ _ (take (s .args .count) (s .args .order .now)) (l .loop .i) _ (omega (arith, many s))) ∙ l .loop .inv .1
+    sym (settled-done _ (take (s .args .count) (s .args .order .now)) (l .loop .i) _ (omega (arith, many s))) ∙ l .loop .inv .1
 
 pub settle-spec : {M : Type 1} → statement M
 settle-spec = tie.close (tie.spec Inv-loop μ-loop loop-holds mul-v shared-slice-read-v cast-v (search needs) step-requires add-i (search needs)

@@ -5,14 +5,17 @@ use Rattle.network_hangs.proofs.Finding.{found-marks}
 use Rattle.network_hangs.proofs.found.Statement.{statement}
 use Rattle.network_hangs.proofs.found.Tie as tie
 
+abbrev start : tie.After-node → tie.Start
+start c = c .before .before .before
+
 above-requires : tie.Need-above-requires
-above-requires c κs = omega (arith, c .before .before .before .before .before .pre .0 .variables)
+above-requires c κs = omega (arith, start (c .before .before) .pre .0 .variables)
 
 returns : tie.Need-returns
 returns c =
-    let s = c .before .before .before .before .before .before in
-    found-marks (s .pre .0) (s .pre .1) (c .before .before .before .node .ensures .0) (c .before .before .reads .ensures) (c .before .often .ensures)
-    (c .above .ensures)
+    let r = c .before .before in
+    let s = start (r .before) in
+    found-marks (s .pre .0) (s .pre .1) (r .before .node .ensures .0) (r .reads .ensures) (c .before .often .ensures) (c .above .ensures)
 
 pub found-spec : {M : Type 1} → statement M
-found-spec = tie.close (tie.spec (search needs) (search needs) (search needs) above-requires returns)
+found-spec = tie.close (tie.spec (search needs) (search needs) (λ c κs. search needs) above-requires returns)

@@ -37,17 +37,19 @@ returns-2 c =
     let s = t .before .before .before .before .before in
     hangs-past (s .args .n) (s .args .i) (kept (t .before)) (t .if1 .taken) (c .empty2 .ensures)
 
+-- where it was judged, of the place where the arrays are lent
+abbrev judged : tie.After-counts2 → tie.After-struct-known
+judged c = c .before .before .before .before .before
+
 found-requires : tie.Need-found-requires
-found-requires c κs =
-    let k = c .before .before .before .before .before in
-    (limited k, omega arith)
+found-requires c κs = (limited (judged c), omega arith)
 
 returns-3 : tie.Need-returns-3
 returns-3 c =
-    let k = c .before .before .before .before .before .before in
+    let k = judged (c .before) in
     let s = k .before .before .before .before in
     hangs-found (s .args .n) (s .args .i) (kept k) (c .found .ensures)
 
 pub hangs-spec : {M : Type 1} → statement M
-hangs-spec = tie.close (tie.spec (search needs) (search needs) (search needs) (search needs) returns add-if1 (search needs) returns-2 (search needs)
-    (search needs) found-requires returns-3)
+hangs-spec = tie.close (tie.spec (search needs) (λ c. search needs) (λ c. search needs) (search needs) returns add-if1 (search needs) returns-2
+    (λ c. search needs) (λ c. search needs) found-requires returns-3)

@@ -1,28 +1,31 @@
 -- `network_hangs::once` meets its contract. The loop's invariant: the set, with what the divisors from i on read, is the variables and
 -- what all divisors among them read. Assumes nothing.
-use Prim.Native.Nat.{ℕ, _+_, _-_, _≤_}
-use mathlib.Core.Path.{_≡_, sym, subst}
-use mathlib.Core.Bool.{cond}
+use Prim.Native.Nat.{ℕ, _-_, _≤_}
+use mathlib.Core.Path.{_≡_, ap, subst}
 use mathlib.Core.List.{List, []}
 use native.Mathlib.Omega.{arith}
 use borrow.Author.Needs.{needs}
-use lib.ListN.{length, drop, getD}
+use lib.ListN.{drop, getD}
 use Rattle.sets.specs.Lists.{any}
 use Rattle.sets.specs.Sets.{mem, union}
 use Rattle.cube.specs.Cube.{lits}
-use Rattle.network.specs.Held.{numbered}
-use Rattle.network.specs.Parts.{divisorsOf, heldIn, netAt}
-use Rattle.network.proofs.Parts.{divisors-length, divisors-at}
-use Rattle.network_reads.specs.Reading.{readsOf, Marks}
+use Rattle.expression.specs.Words.{cubesOf}
+use Rattle.network_nodes.specs.Nodes.{cut}
+use Rattle.network.specs.Held.{netOf, numberAt, placeAt}
+use Rattle.network.specs.Parts.{heldIn, netAt}
+use Rattle.network.proofs.Parts.{divisors-next, divisors-done}
+use Rattle.network.proofs.Holding.{held-distinct}
+use Rattle.network_reads.specs.Reading.{Marks}
 use Rattle.network_reads.proofs.Marking.{Gathers, gather-more, gather-done}
 use Rattle.network_hangs.specs.Hangs.{readBy}
-use Rattle.network_hangs.proofs.Reading.{asks, asks-first, asks-next, asks-done}
+use Rattle.network_hangs.specs.Parts.{readIf}
+use Rattle.network_hangs.proofs.Reading.{asks, asks-first, asks-next}
 use Rattle.network_hangs.proofs.once.Statement.{statement}
 use Rattle.network_hangs.proofs.once.Tie as tie
 
 abbrev Inv-loop : tie.InvT-loop
 Inv-loop words counts n m k set all₀ i₀ all i =
-    (i ≤ k) × ((l : List ℕ) → Marks (lits set) l → Gathers (lits all) (λ v. any (asks l v) (numbered (n + i) (drop i (divisorsOf m k counts words))))
+    (i ≤ k) × ((l : List ℕ) → Marks (lits set) l → Gathers (lits all) (λ v. any (asks l v) (drop i (netAt n m k counts words .divisors)))
     (λ v. mem v (union l (readBy (netAt n m k counts words) l))))
 
 abbrev μ-loop : tie.MeasureT-loop
@@ -31,36 +34,31 @@ abbrev μ-loop : tie.MeasureT-loop
 abbrev start : tie.At-loop Inv-loop μ-loop → tie.Start Inv-loop μ-loop
 start l = l .before .before .before
 
--- the expressions of the divisors
-abbrev held : tie.At-loop Inv-loop μ-loop → List (List (List ℕ))
-held l = let a = start l .args in divisorsOf (a .m) (a .k) (a .counts .now) (a .words .now)
-
-many : (l : tie.At-loop Inv-loop μ-loop) → length (held l) ≡ start l .args .k
-many l = let a = start l .args in divisors-length (a .counts .now) (a .words .now) (a .m) (a .k) (start l .pre .counted)
+-- the number of divisor i
+number : (c : tie.After-number-of Inv-loop μ-loop) → c .number-of .result ≡ numberAt (start (c .before .before) .args .n) (c .before .before .loop .i)
+number c = omega (arith, c .number-of .ensures, start (c .before .before) .pre .variables)
 
 loop-holds : tie.Need-loop-holds Inv-loop μ-loop
 loop-holds c =
     let a = c .before .before .args in
-    (omega arith, asks-first (heldIn (a .n) (a .m) (a .k) (a .counts .now) (a .words .now)))
+    let h = heldIn (a .n) (a .m) (a .k) (a .counts .now) (a .words .now) in
+    (omega arith, asks-first (netOf h) (held-distinct h))
 
 asked-requires : tie.Need-asked-requires Inv-loop μ-loop
-asked-requires c κs =
-    let s = start (c .before) in
-    (omega (arith, s .pre .counted), omega (arith, s .pre .variables))
+asked-requires c κs = let z = start (c .before .before) .pre in (z .narrow, omega (arith, number c, z .variables))
 
 loop-again : tie.Need-loop-again Inv-loop μ-loop
 loop-again c =
     let w = c .before in
-    let l = w .before .before in
-    let a = start l .args in
-    let i = l .loop .i in (
+    let l = w .before .before .before in
+    let a = start l .args in (
       omega arith,
       λ t p.
-          gather-more (cond (mem (a .n + i) t) (readsOf (getD (held l) i [])) []) _ _ _
-          (λ v. asks-next t v (a .n) (held l) i (omega (arith, many l)))
+          gather-more _ _ _ _
+          (asks-next t (divisors-next (a .counts .now) (a .words .now) (a .n) (a .m) (a .k) (start l .pre .counted) (l .loop .i) (omega arith)))
           (c .union .ensures)
-          (subst (λ f. Marks (lits (w .asked .result)) (cond (mem (a .n + i) t) (readsOf f) []))
-          (sym (divisors-at (a .counts .now) (a .words .now) (a .m) (a .k) i (omega arith))) (w .asked .ensures .each t p))
+          (subst (λ v. Marks (lits (w .asked .result)) (readIf v (getD (cut (a .counts .now) (cubesOf (a .words .now))) (placeAt (a .n) (a .m) v) []) t))
+          (number (w .before)) (w .asked .ensures .each t p))
           (l .loop .inv .1 t p),
     )
 
@@ -68,7 +66,8 @@ returns : tie.Need-returns Inv-loop μ-loop
 returns c =
     let l = c .before in
     let a = start l .args in
-    record { each = λ t p. gather-done _ _ (λ v. asks-done t v (a .n) (held l) (l .loop .i) (omega (arith, many l))) (l .loop .inv .1 t p) }
+    let e = divisors-done (a .counts .now) (a .words .now) (a .n) (a .m) (a .k) (start l .pre .counted) (l .loop .i) (omega arith) in
+    record { each = λ t p. gather-done _ _ (λ v. ap (any (asks t v)) e) (l .loop .inv .1 t p) }
 
 pub once-spec : {M : Type 1} → statement M
-once-spec = tie.close (tie.spec Inv-loop μ-loop loop-holds asked-requires (search needs) (search needs) (search needs) loop-again returns)
+once-spec = tie.close (tie.spec Inv-loop μ-loop loop-holds (search needs) asked-requires (search needs) (search needs) (search needs) loop-again returns)

@@ -4,17 +4,19 @@ use mathlib.Core.Path.{_≡_, sym, _∙_, ap, subst}
 use mathlib.Core.Option.{some}
 use native.Mathlib.Omega.{arith}
 use borrow.Author.Needs.{needs}
-use lib.ListN.{length, drop, take}
+use lib.ListN.{take}
 use Rattle.cube.specs.Cube.{lits}
 use Rattle.expression.specs.Answers.{placeOf}
 use Rattle.network.specs.Net.{Net}
 use Rattle.network.specs.Listing.{nextReady}
-use Rattle.network.specs.Parts.{netAt, nodesOf}
+use Rattle.network.specs.Parts.{netAt, heldIn}
 use Rattle.network_listing.specs.Parts.{nextIn}
-use Rattle.network.proofs.Parts.{divisors-length}
-use Rattle.network.proofs.Numbering.{numbered-length}
+use Rattle.network.specs.declared.Network.{Network}
+use Rattle.network.proofs.Parts.{divisor-range}
+use Rattle.network.proofs.Listings.{next-some}
+use Rattle.network.proofs.Holding.{held-distinct, divisors-held}
 use Rattle.network.specs.Held.{mostVariables}
-use Rattle.network_listing.proofs.Turns.{Turn, turn-first, turn-more, turn-none, turn-last, next-ready, next-range}
+use Rattle.network_listing.proofs.Turns.{Turn, turn-first, turn-more, turn-none, turn-last, next-ready}
 use Rattle.network_listing.proofs.list.Statement.{statement}
 use Rattle.network_listing.proofs.list.Tie as tie
 
@@ -31,20 +33,14 @@ start l = l .before .before .before .before
 abbrev held : tie.At-loop Inv-loop μ-loop → Net
 held l = let a = start l .args in netAt (a .n) (a .m) (a .k) (a .counts .now) (a .words .now)
 
-many : (s : tie.Start Inv-loop μ-loop) → length (netAt (s .args .n) (s .args .m) (s .args .k) (s .args .counts .now) (s .args .words .now) .divisors)
-    ≡ s .args .k
-many s =
-    let a = s .args in
-    numbered-length (a .n) (drop (a .m) (nodesOf (a .m + a .k) (a .counts .now) (a .words .now)))
-    ∙ divisors-length (a .counts .now) (a .words .now) (a .m) (a .k) (s .pre .counted)
+-- the same as a struct
+abbrev lent : tie.Start Inv-loop μ-loop → Network
+lent s = let a = s .args in heldIn (a .n) (a .m) (a .k) (a .counts .now) (a .words .now)
 
 -- the next number by the literals of what is known is that of the definition
 same : (l : tie.At-loop Inv-loop μ-loop) → nextIn (lits (l .loop .known)) (held l .divisors) ≡ nextReady (held l .inputs)
     (take (l .loop .count) (l .loop .order)) (held l .divisors)
-same l =
-    let a = start l .args in
-    next-ready (a .n) (take (l .loop .count) (l .loop .order)) (lits (l .loop .known)) (l .loop .inv .1 .spans) (a .n)
-    (drop (a .m) (nodesOf (a .m + a .k) (a .counts .now) (a .words .now))) (omega arith)
+same l = next-ready (start l .args .n) _ _ (l .loop .inv .1 .spans) (held l .divisors) (held-distinct (lent (start l)) .above)
 
 -- where a number was found
 abbrev head : tie.After-known-told Inv-loop μ-loop → tie.At-loop Inv-loop μ-loop
@@ -55,14 +51,16 @@ found c = sym (ap placeOf (sym (c .before .f .given .1)) ∙ c .before .before .
 
 range : (c : tie.After-known-told Inv-loop μ-loop) → c .before .f .given .0 .0 < mostVariables
 range c =
-    let s = start (head c) in
+    let l = head c in
+    let s = start l in
     let a = s .args in
-    let r = next-range (lits (head c .loop .known)) (a .n) (drop (a .m) (nodesOf (a .m + a .k) (a .counts .now) (a .words .now)))
-    (c .before .f .given .0 .0) (found c) in
-    omega (arith, s .pre .variables, divisors-length (a .counts .now) (a .words .now) (a .m) (a .k) (s .pre .counted))
+    let x = next-some (a .n) (take (l .loop .count) (l .loop .order)) (held l .divisors) (c .before .f .given .0 .0) (sym (same l) ∙ found c) in
+    let r = divisor-range (a .counts .now) (a .words .now) (a .n) (a .m) (a .k) (s .pre .counted) (c .before .f .given .0 .0) (x .node, x .inside, x .number) in
+    omega (arith, s .pre .variables)
 
 loop-holds : tie.Need-loop-holds Inv-loop μ-loop
-loop-holds c = let s = c .before .before .before in (omega arith, turn-first _ _ _ (omega (arith, many s)) (c .below .ensures))
+loop-holds c = let s = c .before .before .before in
+    (omega arith, turn-first _ _ _ (omega (arith, divisors-held (lent s) (s .pre .counted))) (c .below .ensures))
 
 returns : tie.Need-returns Inv-loop μ-loop
 returns c =
@@ -100,5 +98,5 @@ returns-2 c =
     turn-last (held l) (l .loop .order) (l .loop .count) (lits (l .loop .known)) _ (omega (arith, start l .pre .variables)) (l .loop .inv .1) (omega arith)
 
 pub list-spec : {M : Type 1} → statement M
-list-spec = tie.close (tie.spec Inv-loop μ-loop (search needs) loop-holds (search needs) (search needs) (search needs) returns cast-order mul-order
-    array-write-order both-requires (search needs) (search needs) loop-again returns-2)
+list-spec = tie.close (tie.spec Inv-loop μ-loop (search needs) loop-holds (λ c κs. search needs) (λ c. search needs) (λ c. search needs) returns
+    cast-order mul-order array-write-order both-requires (search needs) (search needs) loop-again returns-2)

@@ -27,4 +27,4 @@ returns-2 : tie.Need-returns-2
 returns-2 c = listed-is _ _ (allowed (c .before .before .before .before .before)) (c .list .ensures)
 
 pub listing-spec : {M : Type 1} → statement M
-listing-spec = tie.close (tie.spec (search needs) (search needs) returns (search needs) (search needs) list-requires returns-2)
+listing-spec = tie.close (tie.spec (search needs) (search needs) returns (λ c. search needs) (λ c. search needs) list-requires returns-2)

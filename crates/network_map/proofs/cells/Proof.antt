@@ -48,5 +48,5 @@ returns : tie.Need-returns Inv-loop μ-loop
 returns c = record { each = λ j v h b. c .before .loop .inv .2 j v (omega arith) b }
 
 pub cells-spec : {M : Type 1} → statement M
-cells-spec = tie.close (tie.spec Inv-loop μ-loop (search needs) loop-holds (search needs) (search needs) (search needs) (search needs) loop-again
+cells-spec = tie.close (tie.spec Inv-loop μ-loop (search needs) loop-holds (search needs) (λ c κs. search needs) (search needs) (search needs) loop-again
     returns)

@@ -23,6 +23,10 @@ shape c = shape-of _ (search needs) (search needs)
 small : (c : tie.Else1) → Limited (c .before .before .args .n)
 small c = sized-out (c .before .before .args .n) (shape c) (listable-sized (c .before .before .args .n) (allowed c))
 
+-- where the listing was judged, of the place where the arrays are lent
+abbrev judged : tie.After-counts2 → tie.Else2
+judged c = c .before .before .before .before
+
 returns : tie.Need-returns
 returns c = rules-no (c .before .before .args .n) (sym (c .before .is-listable .ensures) ∙ not-true _ (c .if1 .taken))
 
@@ -32,18 +36,18 @@ returns-2 c =
     sym (rules-as (e .before .before .args .n) (shape e) (allowed e) ∙ rw (sym (c .before .is-acyclic .ensures) ∙ not-true _ (c .if2 .taken)))
 
 add-is-lawful : tie.Need-add-is-lawful
-add-is-lawful c = let z = small (c .before .before .before .before .before .before .before) in omega (arith, z .narrow, z .variables)
+add-is-lawful c = let z = small (judged (c .before) .before .before) in omega (arith, z .narrow, z .variables)
 
 is-lawful-requires : tie.Need-is-lawful-requires
-is-lawful-requires c κs = small (c .before .before .before .before .before .before .before) .counted
+is-lawful-requires c κs = small (judged (c .before) .before .before) .counted
 
 returns-3 : tie.Need-returns-3
 returns-3 c =
-    let a = c .before .before .before .before .before .before in
+    let a = judged (c .before .before) in
     let e = a .before .before in
     let n = e .before .before .args .n in
     c .is-lawful .ensures ∙ sym (rules-as n (shape e) (allowed e) ∙ rw (sym (a .before .is-acyclic .ensures) ∙ not-false _ (a .if2 .left)))
 
 pub follows-spec : {M : Type 1} → statement M
-follows-spec = tie.close (tie.spec (search needs) returns (search needs) returns-2 (search needs) (search needs) add-is-lawful is-lawful-requires
+follows-spec = tie.close (tie.spec (search needs) returns (search needs) returns-2 (λ c. search needs) (λ c. search needs) add-is-lawful is-lawful-requires
     returns-3)
