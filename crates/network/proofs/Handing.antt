@@ -6,6 +6,7 @@ use native.Mathlib.Omega.{arith}
 use lib.ListN.{length, take, drop, length-append, length-map}
 use lib.Seq.{take-append-seam, drop-append-seam, take-at}
 use Rattle.sets.specs.Lists.{total}
+use Rattle.sets.proofs.Rows.{nil-of}
 use Rattle.expression.specs.Words.{cubesOf, spareOf}
 use Rattle.expression.proofs.Words.{words-ext, cubes-length, spare-length}
 use Rattle.network.specs.Net.{Node, Net, nodes}
@@ -61,12 +62,8 @@ pub shape-of : (n : Network) → length (n .counts) ≡ nodeSlots → length (n 
 shape-of n a b = record {
   slots = a;
   places = omega (arith, cubes-length (n .words));
-  whole = none (spareOf (n .words)) (omega (arith, spare-length (n .words), cubes-length (n .words)));
+  whole = nil-of (spareOf (n .words)) (omega (arith, spare-length (n .words), cubes-length (n .words)));
 }
-  where
-    none : (l : List ℕ) → length l ≡ 0 → l ≡ []
-    none [] z = refl
-    none (x ∷ l) z = absurd (omega arith)
 
 -- two structs that hold one network are the same
 pub holds-one : (n p : Network) (m : Net) → Typed n → Typed p → Holds n m → Holds p m → n ≡ p

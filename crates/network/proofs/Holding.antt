@@ -1,20 +1,20 @@
 -- What a network's fields mean: the slots in use alone count, the counts cut the cubes into nodes, and the test `rules` says what the
 -- paper's rules say. Assumes nothing.
-use Prim.Native.Nat.{ℕ, zero, suc, _+_, _-_, _<_, _≤_}
+use Prim.Native.Nat.{ℕ, _+_, _-_, _<_, _≤_}
 use mathlib.Core.Path.{_≡_, refl, sym, ap, ap₂, _∙_}
 use mathlib.Core.Logic.{_↔_}
 use mathlib.Core.Bool.{Bool, true, cond, _&&_}
 use mathlib.Core.List.{List, [], _∷_, _++_}
-use native.Mathlib.Nat.{zero-add}
 use native.Mathlib.Omega.{arith}
 use lib.Dec.{leb}
 use lib.ListN.{length, getD, take, drop, length-take, length-drop, take-append-drop}
-use lib.Seq.{length-take-le, take-nil, getD-take, getD-drop, take-take, take-add}
+use lib.Seq.{length-take-le, getD-take, getD-drop, take-take, take-add}
 use borrow.Author.Tests.{leb-true, le-leb, eqb-true, eq-eqb}
 use Rattle.sets.specs.Lists.{all, total}
 use Rattle.sets.specs.Masks.{bit, packed}
 use Rattle.sets.proofs.Truth.{both, together}
-use Rattle.sets.proofs.Lists.{all-in, all-out}
+use Rattle.sets.proofs.Lists.{all-in, all-out, all-append}
+use Rattle.sets.proofs.Rows.{drop-take}
 use Rattle.expression.specs.Words.{cubesOf}
 use Rattle.expression.specs.Expression.{expression}
 use Rattle.network.specs.Net.{Net, cubesAt, nodes, over, cubeCount, literalCount}
@@ -30,7 +30,6 @@ use Rattle.network.specs.Handed.{Shaped}
 use Rattle.network.specs.Answers.{evaluated}
 use Rattle.network.specs.declared.Network.{Network}
 use Rattle.network.specs.declared.Number.the-variants.{Is, No}
-use Rattle.network.proofs.Places.{all-append}
 use Rattle.network.proofs.Numbering.{numbered-length, numbered-cubes, numbered-at, numbered-distinct, known-below, below-known, over-in}
 use Rattle.network.proofs.Numbering.{over-out, nodes-closed, number-place}
 use Rattle.network.proofs.Listings.{listing-acyclic, good-sound}
@@ -44,11 +43,6 @@ unfolding cut
 cut-all p [] f = refl
 cut-all p (n ∷ ns) f =
     rw (take-add n (total (λ c. c) ns) f, all-append p (take n f) (take (total (λ c. c) ns) (drop n f))) (ap (all p (take n f) &&_) (cut-all p ns (drop n f)))
-
-drop-take : {A : Type 0} (n m : ℕ) (l : List A) → drop n (take (n + m) l) ≡ take m (drop n l)
-drop-take zero m l = rw (zero-add m)
-drop-take (suc n) m [] = rw (take-nil, take-nil)
-drop-take (suc n) m (x ∷ l) = let e : suc n + m ≡ suc (n + m) = omega arith in rw e (drop-take n m l)
 
 -- cubes past those in use do not count
 pub cut-used : (ns : List ℕ) (f : List (List ℕ)) → cut ns (take (total (λ c. c) ns) f) ≡ cut ns f

@@ -1,13 +1,13 @@
 -- Nodes laid one after the other in words and counts: none, one more, all; and then the struct holds the network. Assumes nothing.
-use Prim.Native.Nat.{ℕ, zero, suc, _+_, _-_, _<_, _≤_}
+use Prim.Native.Nat.{ℕ, suc, _+_, _-_, _<_, _≤_}
 use mathlib.Core.Path.{_≡_, refl, sym, ap, ap₂, _∙_, subst}
 use mathlib.Core.List.{List, [], _∷_, _++_, map, map-append, append-assoc}
-use native.Mathlib.Numerals.{add-one}
 use native.Mathlib.Omega.{arith}
 use lib.ListN.{length, take, drop, set, getD, replicate, length-append, length-map}
-use lib.Seq.{take-suc, take-all, length-take-le, set-at, take-at, drop-at}
+use lib.Seq.{take-all, length-take-le, set-at, take-at, drop-at}
 use Rattle.sets.specs.Lists.{total}
 use Rattle.sets.proofs.Lists.{total-append}
+use Rattle.sets.proofs.Rows.{take-next, drop-replicate}
 use Rattle.expression.specs.Words.{cubesOf, Placed}
 use Rattle.expression.proofs.Words.{zeros}
 use Rattle.network.specs.Net.{Net, nodes}
@@ -16,11 +16,6 @@ use Rattle.network.proofs.Handing.{flat-length, flat-last}
 
 pub laid-none : LaidNodes (replicate wordSlots 0) (replicate nodeSlots 0) 0 []
 laid-none = record { place = refl; counts = refl; cubes = zeros cubeSlots }
-
-drop-blank : {A : Type 0} (k n : ℕ) (x : A) → drop k (replicate n x) ≡ replicate (n - k) x
-drop-blank zero n x = let e : n ≡ n - 0 = omega arith in ap (λ m. replicate m x) e
-drop-blank (suc k) zero x = let e : 0 ≡ 0 - suc k = omega arith in ap (λ m. replicate m x) e
-drop-blank (suc k) (suc n) x = let e : n - k ≡ suc n - suc k = omega arith in drop-blank k n x ∙ ap (λ m. replicate m x) e
 
 module _ {ws sizes : List ℕ} {to : ℕ} {fs : List (List (List ℕ))} (l : LaidNodes ws sizes to fs) where
   laid-size : length (flat fs) ≡ to
@@ -57,7 +52,7 @@ module _ {ws sizes : List ℕ} {to : ℕ} {fs : List (List (List ℕ))} (l : Lai
       cubes-next =
           p .cubes
           ∙ ap₂ (λ (x y : List (List ℕ)). x ++ (f ++ drop (length f) y)) laid-front laid-rest
-          ∙ ap (λ (y : List (List ℕ)). flat fs ++ (f ++ y)) (drop-blank (length f) (cubeSlots - to) [] ∙ ap (λ (z : ℕ). replicate z []) left)
+          ∙ ap (λ (y : List (List ℕ)). flat fs ++ (f ++ y)) (drop-replicate (length f) (cubeSlots - to) [] ∙ ap (λ (z : ℕ). replicate z []) left)
           ∙ sym (append-assoc (flat fs) f _)
           ∙ ap (_++ replicate (cubeSlots - (to + k)) []) (sym (flat-last fs f))
 
@@ -77,7 +72,7 @@ module _ {ws sizes : List ℕ} {to i : ℕ} (fs : List (List (List ℕ))) (l : L
       subst (LaidNodes new (set sizes i k) (to + k)) (sym more) (laid-next l (sym (length-take-le i fs (omega arith))) (omega arith) n p)
     where
       more : take (i + 1) fs ≡ take i fs ++ (f ∷ [])
-      more = ap (λ j. take j fs) (add-one i) ∙ take-suc fs i [] h ∙ ap (λ (g : List (List ℕ)). take i fs ++ (g ∷ [])) (sym e)
+      more = take-next fs i [] h ∙ ap (λ (g : List (List ℕ)). take i fs ++ (g ∷ [])) (sym e)
 
   pub laid-all : length fs ≤ i → LaidNodes ws sizes to fs
   laid-all h = subst (LaidNodes ws sizes to) (take-all i fs h) l

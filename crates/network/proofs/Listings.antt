@@ -14,14 +14,14 @@ use borrow.Author.Tests.{not-true, ltb-true, ltb-false}
 use Rattle.sets.specs.Lists.{all, pairwise}
 use Rattle.sets.specs.Sets.{mem, asc}
 use Rattle.sets.proofs.Truth.{both, either, neither, together, decided, clash, refuted}
-use Rattle.sets.proofs.Lists.{_∈_, all-out, map-in, map-out, pairwise-imp}
+use Rattle.sets.proofs.Lists.{_∈_, all-out, all-fails, map-in, map-out, pairwise-imp}
 use Rattle.sets.proofs.Sets.{mem-of, of-mem}
 use Rattle.network.specs.Net.{Node, Net, nodes, HasVariable}
 use Rattle.network.specs.Listing.{ready, nextReady, listMore, listing}
 use Rattle.network.specs.Meaning.{Reads, Through, ListedNext, IsDivisor, Closed, Distinct, Sound, differ}
 use Rattle.network.specs.Meaning.Through.{itself, others}
 use Rattle.network.specs.Rules.{InTurn, Good}
-use Rattle.network.proofs.Places.{split-in, all-fails, differ-in, once-le, once-cons, once-all, once-in}
+use Rattle.network.proofs.Places.{split-in, differ-in, once-le, once-cons, once-all, once-in}
 use Rattle.network.proofs.Numbering.{read-passes, numbers-ahead, cubes-at, numbered-distinct, nodes-closed, below-known}
 
 -- ---- ready

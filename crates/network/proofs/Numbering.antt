@@ -13,6 +13,7 @@ use Rattle.sets.specs.Lists.{all, from}
 use Rattle.sets.specs.Sets.{asc, mem}
 use Rattle.sets.proofs.Truth.{both, either, decided, clash, iff}
 use Rattle.sets.proofs.Lists.{_∈_, all-in, all-out, all-cong, map-in, map-out, ahead}
+use Rattle.sets.proofs.Places.{at-in}
 use Rattle.sets.proofs.Sets.{from-asc, from-mem, mem-of, of-mem}
 use Rattle.network.specs.Net.{Node, Net, nodes, variables, HasVariable, known, over, cubesAt}
 use Rattle.network.specs.Meaning.{Reads, IsVariable, Closed, Distinct}
@@ -69,10 +70,9 @@ numbered-get v (f ∷ fs) (suc i) d h = let e : v + suc i ≡ suc v + i = omega 
 
 -- and each of those numbers is there, with its expression
 pub numbered-in : (v : ℕ) (fs : List (List (List ℕ))) (i : ℕ) → i < length fs → record { number = v + i; cubes = getD fs i [] } ∈ numbered v fs
-unfolding numbered
-numbered-in v [] i h = absurd (omega arith)
-numbered-in v (f ∷ fs) zero h = let e : v + 0 ≡ v = omega arith in rw e (here refl)
-numbered-in v (f ∷ fs) (suc i) h = let e : v + suc i ≡ suc v + i = omega arith in rw e (there (numbered-in (suc v) fs i (omega arith)))
+numbered-in v fs i h =
+    let d : Node = record { number = 0; cubes = [] } in
+    subst (λ e. e ∈ numbered v fs) (numbered-get v fs i d h) (at-in (numbered v fs) i d (omega (arith, numbered-length v fs)))
 
 -- where it is found by its number
 pub numbered-at : (v : ℕ) (fs : List (List (List ℕ))) (i : ℕ) → cubesAt (v + i) (numbered v fs) ≡ getD fs i []

@@ -2,15 +2,16 @@
 use Prim.Native.Nat.{ℕ, suc, _<_, _≤_}
 use mathlib.Core.Path.{_≡_, refl, sym, ap, subst}
 use mathlib.Core.Logic.{inl, inr}
-use mathlib.Core.Bool.{Bool, true, false, not, _&&_, and-assoc}
+use mathlib.Core.Bool.{true, false, not}
 use mathlib.Core.List.{List, [], _∷_, _++_, List·Memᴰ·head as here, List·Memᴰ·tail as there, List·Memᴰ·not-nil, List·Memᴰ·cases-cons, Memᴰ·append-right}
 use native.Mathlib.Omega.{arith}
 use lib.Dec.{eqb}
 use lib.ListN.{length}
 use borrow.Author.Tests.{eqb-false, eq-eqb, ne-eqb, not-true}
-use Rattle.sets.specs.Lists.{all, keep, pairwise}
+use Rattle.sets.specs.Lists.{keep, pairwise}
 use Rattle.sets.specs.Sets.{mem}
 use Rattle.sets.proofs.Truth.{neither, decided, clash}
+pub use Rattle.sets.proofs.Lists.{all-append}
 use Rattle.sets.proofs.Lists.{_∈_, all-in, all-out, keep-in, keep-all, keep-fewer, ahead}
 use Rattle.sets.proofs.Sets.{mem-of, of-mem}
 use Rattle.network.specs.Meaning.{differ}
@@ -20,18 +21,6 @@ module _ {A : Type 0} where
   pub split-in : {x : A} {l : List A} → x ∈ l → (a : List A) × (b : List A) × (l ≡ a ++ (x ∷ b))
   split-in {x} (here {xs = l} e) = ([], l, ap (_∷ l) (sym e))
   split-in (there {x = y} m) = let r = split-in m in (y ∷ r .0, r .1, ap (y ∷_) (r .2))
-
-  -- some element fails a test that not all pass
-  pub all-fails : (f : A → Bool) (l : List A) → all f l ≡ false → (x : A) × (x ∈ l) × (f x ≡ false)
-  all-fails f [] h = clash refl h
-  all-fails f (x ∷ l) h = elim (decided (f x)) [
-    | inl e ↦ let q = all-fails f l (rw e at h) in (q .0, there (q .1), q .2)
-    | inr e ↦ (x, here refl, e)
-  ]
-
-  pub all-append : (f : A → Bool) (l m : List A) → all f (l ++ m) ≡ (all f l && all f m)
-  all-append f [] m = refl
-  all-append f (x ∷ l) m = rw (all-append f l m) (sym (and-assoc (f x) (all f l) (all f m)))
 
 -- ---- numbers that differ
 

@@ -1,7 +1,7 @@
 -- What a set of variables becomes where a variable is asked for, and where one is taken out. Assumes nothing.
 use Prim.Native.Nat.{ℕ, _+_, _/_, _%_}
 use mathlib.Core.Path.{_≡_, refl, sym, ap, ap₂, _∙_}
-use mathlib.Core.Bool.{Bool, true, false, cond, not, _&&_, _||_, and-true}
+use mathlib.Core.Bool.{Bool, true, false, cond, not, _&&_, _||_, and-true, and-false}
 use mathlib.Core.List.{List, [], _∷_}
 use native.Mathlib.Omega.{arith}
 use lib.Dec.{leb, eqb}
@@ -50,22 +50,11 @@ above-next {set} {left} {r} {one} v s e m = record {
   where
     turn : (u : ℕ) (b a : Bool) → ((b && (a && leb v u)) && not (b && (eqb u v || false))) ≡ (b && (a && leb (v + 1) u))
     turn u b a = elim (stand u v) [
-      | below h _ _ ↦ rw (lt-leb v u h, lt-leb (v + 1) u (omega arith), ne-eqb u v (λ q. omega arith)) (low b a)
-      | equal h _ _ ↦ rw (le-leb v u (omega arith), lt-leb (v + 1) u (omega arith), eq-eqb u v h) (here b a)
-      | beyond h _ _ ↦ rw (le-leb v u (omega arith), le-leb (v + 1) u (omega arith), ne-eqb u v (λ q. omega arith)) (high b a)
+      | below h _ _ ↦ rw (lt-leb v u h, lt-leb (v + 1) u (omega arith), ne-eqb u v (λ q. omega arith), and-false a, and-false b)
+      | equal h _ _ ↦ rw (le-leb v u (omega arith), lt-leb (v + 1) u (omega arith), eq-eqb u v h, and-true a, and-false a, and-true b, and-false b) (here b)
+      | beyond h _ _ ↦ rw (le-leb v u (omega arith), le-leb (v + 1) u (omega arith), ne-eqb u v (λ q. omega arith), and-false b) (and-true (b && (a && true)))
     ]
       where
-        low : (b a : Bool) → ((b && (a && false)) && not (b && false)) ≡ (b && (a && false))
-        low true true = refl
-        low true false = refl
-        low false a = refl
-
-        here : (b a : Bool) → ((b && (a && true)) && not (b && true)) ≡ (b && (a && false))
-        here true true = refl
-        here true false = refl
-        here false a = refl
-
-        high : (b a : Bool) → ((b && (a && true)) && not (b && false)) ≡ (b && (a && true))
-        high true true = refl
-        high true false = refl
-        high false a = refl
+        here : (b : Bool) → ((b && a) && not b) ≡ false
+        here true = and-false a
+        here false = refl

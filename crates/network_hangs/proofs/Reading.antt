@@ -3,13 +3,13 @@ use Prim.Native.Nat.{ℕ, zero, suc, _+_, _/_, _%_}
 use mathlib.Core.Path.{_≡_, refl, sym, ap, ap₂, _∙_, subst}
 use mathlib.Core.Logic.{inl, inr}
 use mathlib.Core.Bool.{Bool, true, false, cond, _&&_, _||_}
-use mathlib.Core.List.{List, [], _∷_, List·Memᴰ·head as here, List·Memᴰ·tail as there}
+use mathlib.Core.List.{List, [], _∷_, List·Memᴰ·head as here, List·Memᴰ·tail as there, List·Memᴰ·not-nil}
 use native.Mathlib.Numerals.{add-one}
 use lib.Dec.{eqb}
 use borrow.Author.Tests.{eqb-true}
 use Rattle.sets.specs.Lists.{any}
 use Rattle.sets.specs.Sets.{mem, union}
-use Rattle.sets.proofs.Truth.{iff, both, together, either, or-left, or-right, clash}
+use Rattle.sets.proofs.Truth.{iff, both, together, either, or-left, or-right, clash, decided}
 use Rattle.sets.proofs.Lists.{_∈_, any-in, any-out}
 use Rattle.sets.proofs.Sets.{mem-of, of-mem, union-mem, nil-mem}
 use Rattle.network.specs.Net.{Node, Net, cubesAt}
@@ -47,14 +47,11 @@ module _ (n : Net) where
   reads-divisor u v r = go (n .divisors) r
     where
       go : (l : List Node) → Reads (cubesAt u l) v → (e : Node) × (e ∈ l) × (u ≡ e .number) × Reads (e .cubes) v
-      go [] (c, m, q) = absurd (mathlib.Core.List.List·Memᴰ·not-nil m)
-      go (e ∷ l) r = pick (eqb u (e .number)) refl r (go l)
-        where
-          pick : (b : Bool) → eqb u (e .number) ≡ b → Reads (cond b (e .cubes) (cubesAt u l)) v
-              → (Reads (cubesAt u l) v → (g : Node) × (g ∈ l) × (u ≡ g .number) × Reads (g .cubes) v)
-              → (g : Node) × (g ∈ (e ∷ l)) × (u ≡ g .number) × Reads (g .cubes) v
-          pick true t r k = (e, here refl, eqb-true u (e .number) t, r)
-          pick false t r k = let q = k r in (q .0, there (q .1), q .2, q .3)
+      go [] (c, m, q) = absurd (List·Memᴰ·not-nil m)
+      go (e ∷ l) r = elim (decided (eqb u (e .number))) [
+        | inl t ↦ (e, here refl, eqb-true u (e .number) t, rw t at r)
+        | inr t ↦ let q = go l (rw t at r) in (q .0, there (q .1), q .2, q .3)
+      ]
 
 -- a divisor is among the variables of l and reads v
 abbrev pub asks : List ℕ → ℕ → Node → Bool

@@ -1,6 +1,7 @@
 -- Cubes with the literals of known variables, all or those of value 1: what one variable more makes of them. Assumes nothing.
 use Prim.Native.Nat.{ℕ, _+_, _/_, _%_, _<_, _≤_, _*_}
 use mathlib.Core.Path.{_≡_, refl, sym, ap, _∙_}
+use mathlib.Core.Logic.{inl, inr}
 use mathlib.Core.Bool.{Bool, true, false, cond, not, _&&_, _||_, or-true, or-false, or-assoc}
 use mathlib.Core.List.{List, [], _∷_, _++_}
 use native.Mathlib.Omega.{arith}
@@ -8,8 +9,8 @@ use lib.Dec.{ltb, eqb}
 use borrow.Author.Tests.{lt-ltb, le-ltb, eq-eqb, ne-eqb, eqb-true, eqb-false}
 use Rattle.sets.specs.Sets.{mem, insert}
 use Rattle.sets.specs.Literal.{plainOf, negatedOf}
-use Rattle.sets.proofs.Truth.{both, iff, stand, below, equal, beyond}
-use Rattle.sets.proofs.Sets.{insert-mem}
+use Rattle.sets.proofs.Truth.{both, iff, decided, clash, stand, below, equal, beyond}
+use Rattle.sets.proofs.Sets.{insert-mem, mem-append}
 use Rattle.cube.specs.Cube.{joined, width}
 use Rattle.expression.specs.Value.{lit}
 use Rattle.network_known.specs.Known.{known, BothWays, Truths, signed}
@@ -32,11 +33,6 @@ pub joined-past : (v : ℕ) (b : Bool) (c : List ℕ) → width ≤ v → c ≡ 
 joined-past v b c h = rw (le-ltb (signed v b) (2 * width) (signed-large v b h))
 
 -- ---- known variables
-
-mem-append : (z : ℕ) (a b : List ℕ) → mem z (a ++ b) ≡ (mem z a || mem z b)
-unfolding mem
-mem-append z [] b = refl
-mem-append z (x ∷ a) b = rw (mem-append z a b) (sym (or-assoc (eqb z x) (mem z a) (mem z b)))
 
 -- a variable more is known
 pub known-input : (n x : ℕ) → (eqb x n || known n [] x) ≡ known (n + 1) [] x
@@ -69,33 +65,18 @@ self-unknown v = rw (le-ltb v v (omega arith))
 
 -- a literal is the one of v with value 1
 signed-eq : (l v : ℕ) (b : Bool) → eqb l (signed v b) ≡ (eqb (l / 2) v && cond (eqb (l % 2) 0) b (not b))
-signed-eq l v true = iff to from
-  where
-    to : eqb l (plainOf v) ≡ true → (eqb (l / 2) v && cond (eqb (l % 2) 0) true false) ≡ true
-    to h = let q = eqb-true l (plainOf v) h in rw (eq-eqb (l / 2) v (omega arith), eq-eqb (l % 2) 0 (omega arith))
-
-    even : (x : Bool) → cond x true false ≡ true → x ≡ true
-    even true h = refl
-    even false h = h
-
-    from : (eqb (l / 2) v && cond (eqb (l % 2) 0) true false) ≡ true → eqb l (plainOf v) ≡ true
-    from h =
-        let p = both (eqb (l / 2) v) (cond (eqb (l % 2) 0) true false) h in
-        eq-eqb l (plainOf v) (omega (arith, eqb-true (l / 2) v (p .0), eqb-true (l % 2) 0 (even (eqb (l % 2) 0) (p .1))))
-signed-eq l v false = iff to from
-  where
-    to : eqb l (negatedOf v) ≡ true → (eqb (l / 2) v && cond (eqb (l % 2) 0) false true) ≡ true
-    to h = let q = eqb-true l (negatedOf v) h in rw (eq-eqb (l / 2) v (omega arith), ne-eqb (l % 2) 0 (λ e. omega arith))
-
-    odd : (x : Bool) → cond x false true ≡ true → x ≡ false
-    odd true h = sym h
-    odd false h = refl
-
-    from : (eqb (l / 2) v && cond (eqb (l % 2) 0) false true) ≡ true → eqb l (negatedOf v) ≡ true
-    from h =
-        let p = both (eqb (l / 2) v) (cond (eqb (l % 2) 0) false true) h in
-        let q = eqb-false (l % 2) 0 (odd (eqb (l % 2) 0) (p .1)) in
-        eq-eqb l (negatedOf v) (omega (arith, eqb-true (l / 2) v (p .0)))
+signed-eq l v true = iff
+    (λ h. let q = eqb-true l (plainOf v) h in rw (eq-eqb (l / 2) v (omega arith), eq-eqb (l % 2) 0 (omega arith)))
+    (λ h. let p = both (eqb (l / 2) v) (cond (eqb (l % 2) 0) true false) h in elim (decided (eqb (l % 2) 0)) [
+      | inl e ↦ eq-eqb l (plainOf v) (omega (arith, eqb-true (l / 2) v (p .0), eqb-true (l % 2) 0 e))
+      | inr e ↦ clash (p .1) (rw e)
+    ])
+signed-eq l v false = iff
+    (λ h. let q = eqb-true l (negatedOf v) h in rw (eq-eqb (l / 2) v (omega arith), ne-eqb (l % 2) 0 (λ e. omega arith)))
+    (λ h. let p = both (eqb (l / 2) v) (cond (eqb (l % 2) 0) false true) h in elim (decided (eqb (l % 2) 0)) [
+      | inl e ↦ clash (p .1) (rw e)
+      | inr e ↦ let q = eqb-false (l % 2) 0 e in eq-eqb l (negatedOf v) (omega (arith, eqb-true (l / 2) v (p .0)))
+    ])
 
 -- a literal of v is one of its two
 of-variable : (l v : ℕ) → (eqb l (negatedOf v) || eqb l (plainOf v)) ≡ eqb (l / 2) v

@@ -43,15 +43,9 @@ module _ (n m k : ℕ) (words counts : List ℕ) (z : InLimits n m k words count
 -- ---- what is handed out
 
 module _ (n : Network) where
-  listed-as : (r : Listed) (b : Bool) → listable n ≡ b → PaddedList (cond b (listing (netOf n)) []) (r .count) (r .order) → r ≡ listedOf n
+  pub listed-as : (r : Listed) (b : Bool) → listable n ≡ b → PaddedList (cond b (listing (netOf n)) []) (r .count) (r .order) → r ≡ listedOf n
   unfolding listedOf numbersOf
   listed-as r b e l = rw e (ap₂ (λ (c : ℕ) (o : List ℕ). record { count = c; order = o }) (l .number) (l .places))
-
-  pub listed-no : (r : Listed) → listable n ≡ false → PaddedList [] (r .count) (r .order) → r ≡ listedOf n
-  listed-no r e l = listed-as r false e l
-
-  pub listed-is : (r : Listed) → listable n ≡ true → PaddedList (listing (netOf n)) (r .count) (r .order) → r ≡ listedOf n
-  listed-is r e l = listed-as r true e l
 
   pub listable-no : sized n ≡ false → listable n ≡ false
   unfolding listable

@@ -4,19 +4,12 @@ use mathlib.Core.Path.{_≡_, refl, sym, ap, ap₂, _∙_}
 use mathlib.Core.List.{List, []}
 use native.Mathlib.Omega.{arith}
 use lib.ListN.{length, take, drop, getD, List·getD-eq-default}
-use lib.Seq.{take-add, take-all}
+use lib.Seq.{take-all}
 use Rattle.sets.specs.Lists.{total}
-use Rattle.sets.proofs.Lists.{total-append}
 use Rattle.sets.proofs.Places.{total-next}
 use Rattle.expression.proofs.Words.{part-held}
 use Rattle.network_nodes.specs.Nodes.{cut, countBefore}
 use Rattle.network_nodes.proofs.Cutting.{cut-node, cut-length}
-
--- the sum of a front part is no more than that of a longer one
-pub front-le : {A : Type 0} (g : A → ℕ) (l : List A) (j i : ℕ) → j ≤ i → total g (take j l) ≤ total g (take i l)
-front-le g l j i h =
-    let e : j + (i - j) ≡ i = omega arith in
-    omega (arith, total-append g (take j l) (take (i - j) (drop j l)), ap (total g) (sym (take-add j (i - j) l) ∙ ap (λ n. take n l) e))
 
 -- one count more
 pub start-next : (cs : List ℕ) (i sum : ℕ) → i < length cs → sum ≡ countBefore i cs → sum + getD cs i 0 ≡ countBefore (i + 1) cs

@@ -2,12 +2,12 @@
 use Prim.Native.Nat.{ℕ, _+_, _/_, _%_, _<_, _≤_}
 use mathlib.Core.Path.{_≡_, refl, sym, ap, ap₂, _∙_, subst}
 use mathlib.Core.Logic.{inl, inr, _↔_}
-use mathlib.Core.Bool.{Bool, true, false, cond, _&&_, _||_}
+use mathlib.Core.Bool.{Bool, true, false, cond, _&&_, _||_, and-true, and-false, or-false}
 use mathlib.Core.List.{List, [], _∷_, List·Memᴰ·head as here, List·Memᴰ·tail as there}
 use native.Mathlib.Omega.{arith}
 use lib.Dec.{leb, eqb}
 use lib.ListN.{length, getD, drop, drop-of-length-le}
-use borrow.Author.Tests.{eq-eqb, ne-eqb, eqb-true, le-leb, lt-leb}
+use borrow.Author.Tests.{eq-eqb, ne-eqb, eqb-true, eqb-false, le-leb, lt-leb}
 use Rattle.sets.specs.Literal.{plainOf, negatedOf}
 use Rattle.sets.specs.Sets.{mem}
 use Rattle.sets.proofs.Truth.{iff, both, either, or-left, or-right, clash, decided, stand, below, equal, beyond}
@@ -45,14 +45,8 @@ variable-is v c = iff into back
         let r = variables-out v c h in
         elim (decided (eqb (r .0 % 2) 0)) [
           | inl t ↦ let e : r .0 ≡ plainOf v = omega (arith, eqb-true (r .0 % 2) 0 t, r .2) in or-left _ _ (ap (λ x. mem x c) (sym e) ∙ mem-of (r .1))
-          | inr t ↦ let e : r .0 ≡ negatedOf v = odd (r .0) (r .2) t in or-right (mem (plainOf v) c) _ (ap (λ x. mem x c) (sym e) ∙ mem-of (r .1))
-        ]
-      where
-        odd : (x : ℕ) → v ≡ x / 2 → eqb (x % 2) 0 ≡ false → x ≡ negatedOf v
-        odd x p t = elim (stand (x % 2) 0) [
-          | below l _ _ ↦ absurd (omega arith)
-          | equal e _ _ ↦ clash (eq-eqb (x % 2) 0 e) t
-          | beyond l _ _ ↦ omega arith
+          | inr t ↦ let e : r .0 ≡ negatedOf v = omega (arith, eqb-false (r .0 % 2) 0 t, r .2) in
+              or-right (mem (plainOf v) c) _ (ap (λ x. mem x c) (sym e) ∙ mem-of (r .1))
         ]
 
     back : (mem (plainOf v) c || mem (negatedOf v) c) ≡ true → mem v (variablesOf c) ≡ true
@@ -70,23 +64,15 @@ onward-first l u = rw (le-leb 0 u (omega arith))
 
 pub onward-next : (v : ℕ) (l : List ℕ) (u : ℕ) → onward v l u ≡ (mem u (cond (mem v l) (v ∷ []) []) || onward (v + 1) l u)
 unfolding mem
-onward-next v l u = elim (stand u v) [
-  | below h _ _ ↦ rw (lt-leb v u h, lt-leb (v + 1) u (omega arith)) (none (mem v l) (ne-eqb u v (λ e. omega arith)))
-  | equal e _ _ ↦ rw (e, le-leb v v (omega arith), lt-leb (v + 1) v (omega arith)) (one (mem v l) (eq-eqb v v refl))
-  | beyond h _ _ ↦ rw (le-leb v u (omega arith), le-leb (v + 1) u (omega arith)) (more (mem v l) (ne-eqb u v (λ e. omega arith)))
-]
+onward-next v l u = rw (alone (mem v l)) (elim (stand u v) [
+  | below h _ _ ↦ rw (lt-leb v u h, lt-leb (v + 1) u (omega arith), ne-eqb u v (λ e. omega arith), and-false (mem v l))
+  | equal e _ _ ↦ rw (e, le-leb v v (omega arith), lt-leb (v + 1) v (omega arith), eq-eqb v v refl, and-true (mem v l)) (sym (or-false (mem v l)))
+  | beyond h _ _ ↦ rw (le-leb v u (omega arith), le-leb (v + 1) u (omega arith), ne-eqb u v (λ e. omega arith), and-false (mem v l))
+])
   where
-    none : (b : Bool) → eqb u v ≡ false → false ≡ (mem u (cond b (v ∷ []) []) || false)
-    none true e = rw e
-    none false e = refl
-
-    one : (b : Bool) → eqb v v ≡ true → b ≡ (mem v (cond b (v ∷ []) []) || false)
-    one true e = rw e
-    one false e = refl
-
-    more : (b : Bool) → eqb u v ≡ false → mem u l ≡ (mem u (cond b (v ∷ []) []) || mem u l)
-    more true e = rw e
-    more false e = refl
+    alone : (b : Bool) → mem u (cond b (v ∷ []) []) ≡ (b && eqb u v)
+    alone true = or-false (eqb u v)
+    alone false = refl
 
 -- past the last variable of a cube there is none
 pub onward-done : (c : Cube) (v : ℕ) → width ≤ v → (u : ℕ) → onward v (variablesOf (lits c)) u ≡ false

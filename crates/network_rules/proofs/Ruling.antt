@@ -1,14 +1,15 @@
 -- The rules, and the literal count: which tests decide them, of the nodes as they are held. Assumes nothing.
 use Prim.Native.Nat.{ℕ, _+_, _≤_}
 use mathlib.Core.Path.{_≡_, refl, sym, ap, ap₂, _∙_}
-use mathlib.Core.Bool.{Bool, true, false, cond, _&&_}
+use mathlib.Core.Logic.{inl, inr}
+use mathlib.Core.Bool.{Bool, true, false, _&&_}
 use mathlib.Core.List.{List}
 use native.Mathlib.Omega.{arith}
 use lib.Dec.{leb, ltb, eqb}
 use lib.ListN.{length}
 use borrow.Author.Tests.{lt-leb, ltb-false}
 use Rattle.sets.specs.Lists.{all, total}
-use Rattle.sets.proofs.Truth.{both, clash}
+use Rattle.sets.proofs.Truth.{both, clash, decided}
 use Rattle.expression.specs.Expression.{expression, literalsOf}
 use Rattle.expression.specs.Answers.{capped}
 use Rattle.network.specs.Net.{nodes, over}
@@ -23,11 +24,10 @@ use Rattle.network.proofs.Holding.{nodes-held, divisors-held}
 use Rattle.network.proofs.Limits.{sized-out, rules-literals}
 
 pub leb-capped : (t : ℕ) → leb (capped t) mostLiterals ≡ leb t mostLiterals
-leb-capped t = go (ltb t 18446744073709551616) refl
-  where
-    go : (b : Bool) → ltb t 18446744073709551616 ≡ b → leb (cond b t 18446744073709551615) mostLiterals ≡ leb t mostLiterals
-    go true e = refl
-    go false e = sym (lt-leb t mostLiterals (omega (arith, ltb-false t 18446744073709551616 e)))
+leb-capped t = elim (decided (ltb t 18446744073709551616)) [
+  | inl e ↦ rw e
+  | inr e ↦ rw e (sym (lt-leb t mostLiterals (omega (arith, ltb-false t 18446744073709551616 e))))
+]
 
 module _ (n : Network) where
   -- without a listing the rules are broken

@@ -19,8 +19,8 @@ few-outputs : (c : tie.Else2) → upTo mostOutputs (c .before .before .before .b
 few-outputs c = sym (c .before .up-to2 .ensures) ∙ not-false _ (c .if2 .left)
 
 -- where both were tested, of the place where the variables were
-abbrev tested : tie.Else3 → tie.Else2
-tested c = c .before .before .before
+abbrev outputs-tested : tie.Else3 → tie.Else2
+outputs-tested c = c .before .before .before
 
 returns : tie.Need-returns
 returns c = sized-inputs (c .before .before .args .n) (sym (c .before .up-to .ensures) ∙ not-true _ (c .if1 .taken))
@@ -41,12 +41,12 @@ returns-3 c =
 
 add-start : tie.Need-add-start
 add-start c =
-    let o = tested (c .before .before .before) in
+    let o = outputs-tested (c .before .before .before) in
     omega (arith, up-out mostOutputs (o .before .before .before .before .args .n .outputs) (few-outputs o))
 
 returns-4 : tie.Need-returns-4
 returns-4 c =
-    let o = tested (c .before .before .before .before) in
+    let o = outputs-tested (c .before .before .before .before) in
     let e = o .before .before in
     let n = e .before .before .args .n in
     ap (λ t. leb t mostCubes) (c .start .ensures) ∙ sized-cubes n (few-inputs e) (few-outputs o) (omega (arith, up-out mostInputs (n .inputs) (few-inputs e)))

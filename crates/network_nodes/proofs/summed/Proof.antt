@@ -5,7 +5,8 @@ use native.Mathlib.Omega.{arith}
 use borrow.Author.Needs.{needs}
 use lib.ListN.{take}
 use Rattle.sets.specs.Lists.{total}
-use Rattle.network_nodes.proofs.Starting.{front-le, start-next}
+use Rattle.sets.proofs.Lists.{total-take-le}
+use Rattle.network_nodes.proofs.Starting.{start-next}
 use Rattle.network_nodes.proofs.summed.Statement.{statement}
 use Rattle.network_nodes.proofs.summed.Tie as tie
 
@@ -22,7 +23,7 @@ returns c =
     omega (
       arith,
       start-next (s .args .counts .now) (h .loop .j) (h .loop .sum) (omega (arith, s .pre)) (h .loop .inv .2),
-      front-le (λ x. x) (s .args .counts .now) (h .loop .j + 1) (s .args .i) (omega arith),
+      total-take-le (λ x. x) (s .args .counts .now) (h .loop .j + 1) (s .args .i) (omega arith),
     )
 
 loop-again : tie.Need-loop-again Inv-loop μ-loop
