@@ -17,12 +17,12 @@ use Rattle.factor.specs.Text.{formText}
 use Rattle.network.specs.Net.{Node, Net, literalCount, cubesAt}
 use Rattle.extract_laws.specs.Divisor.{Divisor, pair, sum, own}
 use Rattle.extract_laws.specs.Extract.{weight}
-use Rattle.extract_laws.specs.Run.{Stop, done, asked, numbers, rows, Made, Result, run}
+use Rattle.extract_laws.specs.Run.{Stop, done, asked, numbers, rows, Made, Result, run, askedSteps}
 use Rattle.image_laws.specs.Image.{imageOf}
 use Rattle.network.specs.Handed.{Return, gives, refuses}
 use Rattle.image_laws.specs.Reading.{readImage}
 use Rattle.cases.specs.Tests.{alike, equalCubes, sameInteger, sameDivisor, turn, sameStop, equalNode, sameNet}
-use Rattle.cases.specs.Cases.{Case, hasCokernels, divides, hasText, counts, weighs, takes, ends, hasImage, readsBack, whole, begins, finishes}
+use Rattle.cases.specs.Cases.{Case, hasCokernels, divides, hasText, counts, weighs, takes, ends, hasImage, readsBack, begins, finishes}
 use Rattle.cases.specs.Cases.{readAs, isRight}
 use Rattle.cases.specs.Meaning.{Says}
 
@@ -118,6 +118,6 @@ holds-says (hasText f t) h = same-eq (formText (formOf f)) t h
 holds-says (counts n l) h = eqb-true (literalCount n) l h
 holds-says (weighs n d w) h = integer-eq (weight n d) w h
 holds-says (takes n v d w) h = begins-eq (run 1 n) v d w h
-holds-says (ends n k l s) h = finishes-eq (run whole n) k l s h
+holds-says (ends n k l s) h = finishes-eq (run askedSteps n) k l s h
 holds-says (hasImage n k b) h = same-eq (imageOf (run k n .network)) b h
 holds-says (readsBack b n k) h = read-eq (readImage b) (run k n .network) h

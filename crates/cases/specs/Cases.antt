@@ -13,7 +13,7 @@ use Rattle.factor.specs.Text.{formText}
 use Rattle.network.specs.Net.{Net, literalCount, cubesAt}
 use Rattle.extract_laws.specs.Divisor.{Divisor, sum, own}
 use Rattle.extract_laws.specs.Extract.{weight}
-use Rattle.extract_laws.specs.Run.{Stop, done, Made, Result, run}
+use Rattle.extract_laws.specs.Run.{Stop, done, Made, Result, run, askedSteps}
 use Rattle.image_laws.specs.Image.{imageOf}
 use Rattle.network.specs.Handed.{Return, gives, refuses}
 use Rattle.image_laws.specs.Reading.{readImage}
@@ -41,10 +41,6 @@ pub data Case : Type 0 where
 
 -- ---- the test
 
--- the program asks for 64 steps
-abbrev pub whole : ℕ
-whole = 64
-
 -- one step, with this divisor and weight, and the node of the number holds the divisor
 unfoldable pub begins : Result → ℕ → Divisor → ℤ → Bool
 begins r v d w =
@@ -67,7 +63,7 @@ isRight (hasText f t) = same (formText (formOf f)) t
 isRight (counts n l) = eqb (literalCount n) l
 isRight (weighs n d w) = sameInteger (weight n d) w
 isRight (takes n v d w) = begins (run 1 n) v d w
-isRight (ends n k l s) = finishes (run whole n) k l s
+isRight (ends n k l s) = finishes (run askedSteps n) k l s
 isRight (hasImage n k b) = same (imageOf (run k n .network)) b
 isRight (readsBack b n k) = readAs (readImage b) (run k n .network)
 

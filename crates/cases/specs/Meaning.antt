@@ -9,11 +9,11 @@ use Rattle.factor.specs.Text.{formText}
 use Rattle.network.specs.Net.{literalCount, cubesAt}
 use Rattle.extract_laws.specs.Divisor.{own}
 use Rattle.extract_laws.specs.Extract.{weight}
-use Rattle.extract_laws.specs.Run.{Made, run}
+use Rattle.extract_laws.specs.Run.{Made, run, askedSteps}
 use Rattle.image_laws.specs.Image.{imageOf}
 use Rattle.network.specs.Handed.{gives}
 use Rattle.image_laws.specs.Reading.{readImage}
-use Rattle.cases.specs.Cases.{Case, hasCokernels, divides, hasText, counts, weighs, takes, ends, hasImage, readsBack, whole}
+use Rattle.cases.specs.Cases.{Case, hasCokernels, divides, hasText, counts, weighs, takes, ends, hasImage, readsBack}
 
 abbrev pub Says : Case → Type 0
 Says (hasCokernels f l) = cokernels f ≡ l
@@ -24,6 +24,6 @@ Says (weighs n d w) = weight n d ≡ w
 Says (takes n v d w) =
     (map (λ (s : Made). s .divisor) (run 1 n .steps) ≡ d ∷ []) × (map (λ (s : Made). s .weight) (run 1 n .steps) ≡ w ∷ [])
     × (cubesAt v (run 1 n .network .divisors) ≡ own d)
-Says (ends n k l s) = (length (run whole n .steps) ≡ k) × (literalCount (run whole n .network) ≡ l) × (run whole n .stop ≡ s)
+Says (ends n k l s) = (length (run askedSteps n .steps) ≡ k) × (literalCount (run askedSteps n .network) ≡ l) × (run askedSteps n .stop ≡ s)
 Says (hasImage n k b) = imageOf (run k n .network) ≡ b
 Says (readsBack b n k) = readImage b ≡ gives (run k n .network)

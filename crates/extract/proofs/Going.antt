@@ -18,11 +18,11 @@ use Rattle.network.specs.Handed.{Holds, Shaped}
 use Rattle.network.specs.declared.Network.{Network}
 use Rattle.network.proofs.Holding.{rules-divisors, rules-iff}
 use Rattle.network.proofs.Limits.{rules-sized}
-use Rattle.extract_laws.specs.Divisor as extraction
+use Rattle.extract_laws.specs.Divisor as divisors
 use Rattle.extract_laws.specs.Extract.{step}
-use Rattle.extract_laws.specs.Run as laws
+use Rattle.extract_laws.specs.Run as runs
 use Rattle.extract_laws.specs.Run.{weighing, making, Result, Move, finished, makes, done, asked, move, ended, prepare, runFrom}
-use Rattle.extract_laws.specs.Meaning.{Good, Within, Worth, Allows}
+use Rattle.extract_laws.specs.Meaning.{Worth, Allows}
 use Rattle.extract_laws.specs.Meaning.Allows.{nothing, noNumber, noRows, next}
 use Rattle.extract_laws.proofs.Running.{from-none, from-finished, from-stuck, from-make}
 use Rattle.extract_laws.proofs.Moving.{worth-done, move-iff}
@@ -36,7 +36,7 @@ use Rattle.extract_step.specs.Replace.{outcome, After, Stepped}
 use Rattle.extract_step.specs.declared.Outcome.the-variants as Outcome
 use Rattle.extract_step.specs.declared.Next.{Next}
 use Rattle.extract_step.proofs.Keeping.{Takes, takes-is, takes-rules, takes-arranged}
-use Rattle.extract.specs.Answers.{stopOf, madeOf, noMade, places, Lists, Told}
+use Rattle.extract.specs.Answers.{stopOf, madeOf, noMade, places, Told}
 use Rattle.extract.specs.Parts.{Runnable, madeBy, endedAt, reasonOf, stoppedWith}
 use Rattle.extract.specs.declared.Made.{Made}
 use Rattle.extract.specs.declared.Stop.{Stop}
@@ -46,11 +46,11 @@ use Rattle.extract.proofs.Taking.Choice.{nothingLeft, oneTaken}
 use Rattle.extract.proofs.Taking.Taken.{wasMade, wasNot}
 
 -- steps, and then a run
-abbrev after : List laws.Made → Result → Result
+abbrev after : List runs.Made → Result → Result
 after l r = record { network = r .network; stop = r .stop; steps = l ++ r .steps }
 
 -- the steps that a list has
-abbrev listed : ℕ → List Made → List laws.Made
+abbrev listed : ℕ → List Made → List runs.Made
 listed count list = map madeOf (take count list)
 
 -- of a run of k steps from m so many steps are listed, it goes on from the network for the steps left, and s is the best step there
@@ -77,18 +77,12 @@ going-first k n list s a r e c = record {
 
 -- a network that a run comes to
 module _ (n : Network) (shape : Shaped n) (r : Runnable n) where
-  ready-good : Good (netOf n)
-  ready-good = rules-good n shape (r .lawful)
-
-  ready-within : Within (netOf n)
-  ready-within = rules-within n shape (r .lawful)
-
   -- the numbers are not used up by the steps, each of which made a divisor
   ready-few : n .divisors < mostVariables
   ready-few = let w = rules-iff n shape .0 (r .lawful) .lawful in omega (arith, w .inputs, w .within .variables, rules-divisors n shape (r .lawful))
 
   -- and the one that a step leads to
-  module _ (d : extraction.Divisor) (p : Next) (t : Takes (netOf n) d p) where
+  module _ (d : divisors.Divisor) (p : Next) (t : Takes (netOf n) d p) where
     next-is : netOf (p .network) ≡ step (netOf n) d
     next-is = takes-is n shape (r .lawful) d p t
 
@@ -120,7 +114,7 @@ run-finished zero n e = from-none n ∙ rw e
 run-finished (suc left) n e = from-finished left n e
 
 -- a divisor is left, and no step to make
-run-asked : (n : Net) (d : extraction.Divisor) → Worth n d → runFrom 0 n ≡ record { network = n; stop = asked; steps = [] }
+run-asked : (n : Net) (d : divisors.Divisor) → Worth n d → runFrom 0 n ≡ record { network = n; stop = asked; steps = [] }
 run-asked n d w = from-none n ∙ go (move n) ((move-iff n (move n)) .0 refl)
   where
     go : (m : Move) → Allows n m
@@ -156,50 +150,42 @@ module _ {k : ℕ} {m : Net} {list : List Made} {count left : ℕ} {net : Networ
 
   going-stop : (x : Stop) → runFrom left (netOf net) ≡ record { network = netOf net; stop = stopOf x; steps = [] }
       → Told (some (runFrom k m)) (stoppedWith x net count list)
-  going-stop x e = subst (λ (z : Result). Told (some z) (stoppedWith x net count list)) (sym whole) ((x, refl, refl), g .ready .held, lists)
-    where
-      whole : runFrom k m ≡ record { network = netOf net; stop = stopOf x; steps = listed count list }
-      whole =
-          g .goes ∙ ap (after (listed count list)) e
-          ∙ ap (λ (l : List laws.Made). record { network = netOf net; stop = stopOf x; steps = l }) (append-nil (listed count list))
+  going-stop x e =
+      subst (λ (z : Result). Told (some z) (stoppedWith x net count list))
+      (sym (g .goes ∙ ap (after (listed count list)) e
+      ∙ ap (λ (l : List runs.Made). record { network = netOf net; stop = stopOf x; steps = l }) (append-nil (listed count list))))
+      ((x, refl, refl), g .ready .held, record { number = sym made-length; steps = refl; rest = g .rest })
 
-      lists : Lists (record { count = count; list = list }) (listed count list)
-      lists = record {
-        number = sym made-length;
-        steps = ap (λ (c : ℕ). listed c list) made-length;
-        rest = ap (λ (c : ℕ). drop c list) made-length ∙ g .rest ∙ ap (λ (c : ℕ). replicate (places - c) noMade) (sym made-length);
-      }
-
-  choice : Choice (netOf net) s
-  choice = chosen-as net s (g .ready .tidy) (g .chosen)
+  chosen-here : Choice (netOf net) s
+  chosen-here = chosen-as net s (g .ready .tidy) (g .chosen)
 
   -- no weight above 0
   pub going-done : ltZ (pos 0) (s .weight) ≡ false → Told (some (runFrom k m)) (stoppedWith Done net count list)
-  going-done h = elim choice [ nothingLeft p e ↦ going-stop Done (run-finished left (netOf net) e) | oneTaken p w q ↦ clash p h ]
+  going-done h = elim chosen-here [ nothingLeft p e ↦ going-stop Done (run-finished left (netOf net) e) | oneTaken p w q ↦ clash p h ]
 
   -- no step is left to make
   pub going-ended : left ≡ 0 → Told (some (runFrom k m)) (stoppedWith (endedAt (s .weight)) net count list)
-  going-ended z = elim choice [
+  going-ended z = elim chosen-here [
     | nothingLeft p e ↦ rw p (going-stop Done (run-finished left (netOf net) e))
     | oneTaken p w q ↦ rw p (going-stop Asked (ap (λ (x : ℕ). runFrom x (netOf net)) z ∙ run-asked (netOf net) (divisorOf (s .divisor)) w))
   ]
 
   module _ (h : ltZ (pos 0) (s .weight) ≡ true) where
     worth : Worth (netOf net) (divisorOf (s .divisor)) × (weighedOf s ≡ weighing (netOf net) (divisorOf (s .divisor)))
-    worth = elim choice [ nothingLeft p e ↦ clash h p | oneTaken p w q ↦ (w, q) ]
+    worth = elim chosen-here [ nothingLeft p e ↦ clash h p | oneTaken p w q ↦ (w, q) ]
 
     module _ (l : 0 < left) (t : Next) (o : Stepped net (outcome net (s .divisor)) t) where
-      taken : Taken (netOf net) (divisorOf (s .divisor)) t
-      taken =
-          stepped-as net (s .divisor) t (g .ready .tidy) (ready-within net (g .shape) (g .ready) .literals)
-          (ready-good net (g .shape) (g .ready)) (worth .0) o
+      step-taken : Taken (netOf net) (divisorOf (s .divisor)) t
+      step-taken =
+          stepped-as net (s .divisor) t (g .ready .tidy) (rules-within net (g .shape) (g .ready .lawful) .literals)
+          (rules-good net (g .shape) (g .ready .lawful)) (worth .0) o
 
       some-left : left ≡ suc (left - 1)
       some-left = omega arith
 
       -- no number or no rows for the step
       pub going-full : (t .outcome ≡ Outcome.Made → ⊥) → Told (some (runFrom k m)) (stoppedWith (reasonOf (t .outcome)) net count list)
-      going-full f = elim taken [
+      going-full f = elim step-taken [
         | wasMade q e i ↦ absurd (f q)
         | wasNot q e ↦ going-stop (reasonOf (t .outcome))
             (ap (λ (z : ℕ). runFrom z (netOf net)) some-left ∙ from-stuck (left - 1) (netOf net) (stopOf (reasonOf (t .outcome))) e)
@@ -208,7 +194,7 @@ module _ {k : ℕ} {m : Net} {list : List Made} {count left : ℕ} {net : Networ
       -- the step is made, and listed
       module _ (shape-t : Shaped (t .network))
           (x : Made) (y : x ≡ madeBy s (t .number) (t .literals)) (b : Step) (c : Chosen (chosenIn (t .network)) b) (q : t .outcome ≡ Outcome.Made) where
-        abbrev d : extraction.Divisor
+        abbrev d : divisors.Divisor
         d = divisorOf (s .divisor)
 
         step-made : After (netOf net) d t → madeOf x ≡ making (netOf net) d
@@ -226,34 +212,25 @@ module _ {k : ℕ} {m : Net} {list : List Made} {count left : ℕ} {net : Networ
             × (t .network .inputs + t .network .divisors ≡ suc (net .inputs + net .divisors))
 
         pub going-on : Onward
-        going-on = elim taken [ wasMade p e i ↦ go e i | wasNot p e ↦ absurd (p q) ]
+        going-on = elim step-taken [ wasMade p e i ↦ go e i | wasNot p e ↦ absurd (p q) ]
           where
             go : move (netOf net) ≡ makes d → Takes (netOf net) d t → Onward
-            go e i = (
-              record {
-                ready = ready;
-                shape = shape-t;
-                few = omega (arith, g .few, more .0);
-                long = length-set list count x ∙ g .long;
-                rest = listed-rest x;
-                chosen = c;
-                goes = g .goes ∙ ap (after (listed count list)) (ap (λ (z : ℕ). runFrom z (netOf net)) some-left ∙ from-make (left - 1) (netOf net) d e)
-                    ∙ ap (λ (l : List laws.Made). record { network = ran .network; stop = ran .stop; steps = l })
-                    (sym (append-assoc (listed count list) (making (netOf net) d ∷ []) (ran .steps)))
-                    ∙ ap₂ (λ (l : List laws.Made) (z : Net). after l (runFrom (left - 1) z))
-                    (sym (listed-next x ∙ ap (λ (z : laws.Made). listed count list ++ (z ∷ [])) (step-made (i .after)))) (sym is);
-              },
-              omega (arith, more),
-            )
-              where
-                ran : Result
-                ran = runFrom (left - 1) (prepare (step (netOf net) d))
-
-                ready : Runnable (t .network)
-                ready = next-ready net (g .shape) (g .ready) d t i
-
-                is : netOf (t .network) ≡ prepare (step (netOf net) d)
-                is = next-is net (g .shape) (g .ready) d t i ∙ sym (prepare-same (step (netOf net) d))
-
-                more : (t .network .divisors ≡ suc (net .divisors)) × (t .network .inputs ≡ net .inputs)
-                more = next-divisors net (g .shape) (g .ready) d t i
+            go e i =
+                let more = next-divisors net (g .shape) (g .ready) d t i in
+                let is = next-is net (g .shape) (g .ready) d t i ∙ sym (prepare-same (step (netOf net) d)) in
+                let later = runFrom (left - 1) (prepare (step (netOf net) d)) in (
+                  record {
+                    ready = next-ready net (g .shape) (g .ready) d t i;
+                    shape = shape-t;
+                    few = omega (arith, g .few);
+                    long = length-set list count x ∙ g .long;
+                    rest = listed-rest x;
+                    chosen = c;
+                    goes = g .goes ∙ ap (after (listed count list)) (ap (λ (z : ℕ). runFrom z (netOf net)) some-left ∙ from-make (left - 1) (netOf net) d e)
+                        ∙ ap (λ (l : List runs.Made). record { network = later .network; stop = later .stop; steps = l })
+                        (sym (append-assoc (listed count list) (making (netOf net) d ∷ []) (later .steps)))
+                        ∙ ap₂ (λ (l : List runs.Made) (z : Net). after l (runFrom (left - 1) z))
+                        (sym (listed-next x ∙ ap (λ (z : runs.Made). listed count list ++ (z ∷ [])) (step-made (i .after)))) (sym is);
+                  },
+                  omega arith,
+                )

@@ -1,6 +1,6 @@
 -- Where a run starts: from the network in cube order, or nowhere where a rule is broken. Assumes nothing.
 use Prim.Native.Nat.{ℕ}
-use mathlib.Core.Path.{_≡_, refl, sym, ap, _∙_, subst}
+use mathlib.Core.Path.{_≡_, refl, sym, _∙_, subst}
 use mathlib.Core.Bool.{true, false}
 use mathlib.Core.Option.{some}
 use native.Mathlib.Omega.{arith}
@@ -13,22 +13,14 @@ use Rattle.network.proofs.Ruling.{rules-lawful}
 use Rattle.network.proofs.Handing.{holds-net}
 use Rattle.extract_laws.specs.Run.{runFrom, inOrder, run}
 use Rattle.extract_laws.specs.Meaning.{Good, Within}
-use Rattle.extract_laws.proofs.Arranging.{
-  in-order-inputs,
-  in-order-outputs,
-  in-order-variables,
-  in-order-cubes,
-  in-order-literals,
-  in-order-good,
-  in-order-ordered,
-}
+use Rattle.extract_laws.proofs.Arranging.{in-order-inputs, in-order-outputs, in-order-variables, in-order-cubes, in-order-literals, in-order-good}
+use Rattle.extract_laws.proofs.Arranging.{in-order-ordered}
 use Rattle.extract_laws.proofs.Preparing.{prepare-same}
 use Rattle.extract_laws.proofs.Following.{rules-good, rules-within, holds-rules}
 use Rattle.extract_tidy.proofs.Arranged.{arranged-in}
 use Rattle.extract.specs.Answers.{noSteps, runOn, Told}
 use Rattle.extract.specs.Parts.{Runnable}
 use Rattle.extract.specs.declared.Answer.the-variants.{Refused}
-use Rattle.extract.specs.declared.Steps.{Steps}
 use Rattle.extract.specs.declared.Ran.{Ran}
 
 module _ (n p : Network) (shape : Shaped n)
@@ -70,4 +62,4 @@ module _ (n p : Network) (shape : Shaped n)
 pub refused-told : (k : ℕ) (n : Network) (t : Ran) → rules n ≡ false → t .answer ≡ Refused 10 → Blank (t .network) → t .steps ≡ noSteps
     → Told (runOn k n) t
 unfolding runOn
-refused-told k n t r a b e = rw r (a, b, record { number = ap (λ (s : Steps). s .count) e; steps = refl; rest = ap (λ (s : Steps). s .list) e })
+refused-told k n t r a b e = rw r (a, b, rw e (record { number = refl; steps = refl; rest = refl }))

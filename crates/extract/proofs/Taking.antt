@@ -2,15 +2,17 @@
 use Prim.Native.Nat.{ℕ, _≤_}
 use mathlib.Core.Path.{_≡_, refl, sym, ap, _∙_, subst}
 use mathlib.Core.Bool.{Bool, true, false, cond}
+use mathlib.Core.Logic.{inl, inr}
 use mathlib.Core.Option.{Option, none, some}
 use native.Mathlib.Omega.{arith}
 use lib.IntN.{pos}
 use lib.Signed.{ltZ}
 use borrow.Author.Tests.{le-ltb}
+use Rattle.sets.proofs.Truth.{decided}
 use Rattle.network.specs.Net.{Net, literalCount}
 use Rattle.network.specs.Held.{netOf, mostLiterals}
 use Rattle.network.specs.declared.Network.{Network}
-use Rattle.extract_laws.specs.Divisor as extraction
+use Rattle.extract_laws.specs.Divisor as divisors
 use Rattle.extract_laws.specs.Extract.{weight, best, step}
 use Rattle.extract_laws.specs.Run.{Weighed, weighing, Move, finished, stuck, makes, roomFor, choose, move}
 use Rattle.extract_laws.specs.Meaning.{Good, Worth, Allows}
@@ -43,16 +45,16 @@ worth-as : (n : Net) (s : Step) → Chosen (worthIn n (best n)) s → Choice n s
 unfolding worthIn move choose
 worth-as n s = go (best n) refl
   where
-    go : (o : Option extraction.Divisor) → best n ≡ o → Chosen (worthIn n o) s → Choice n s
+    go : (o : Option divisors.Divisor) → best n ≡ o → Chosen (worthIn n o) s → Choice n s
     go none e h = nothingLeft (ap (λ (t : Step). ltZ (pos 0) (t .weight)) h) (ap (choose n) e)
-    go (some d) e h = weigh (ltZ (pos 0) (weight n d)) refl h
-      where
-        weigh : (b : Bool) → ltZ (pos 0) (weight n d) ≡ b → Chosen (cond b (some (weighing n d)) none) s → Choice n s
-        weigh true w h =
-            let q : divisorOf (s .divisor) ≡ d = ap (λ (t : Weighed). t .divisor) h in
-            oneTaken (ap (λ (t : Weighed). ltZ (pos 0) (t .weight)) h ∙ w) (subst (Worth n) (sym q) (record { best = best-iff n d .0 e; above = w }))
-            (h ∙ ap (weighing n) (sym q))
-        weigh false w h = nothingLeft (ap (λ (t : Step). ltZ (pos 0) (t .weight)) h) (ap (choose n) e ∙ rw w)
+    go (some d) e h = elim (decided (ltZ (pos 0) (weight n d))) [
+      | inl w ↦
+          let k : weighedOf s ≡ weighing n d = rw w at h in
+          let q : divisorOf (s .divisor) ≡ d = ap (λ (t : Weighed). t .divisor) k in
+          oneTaken (ap (λ (t : Weighed). ltZ (pos 0) (t .weight)) k ∙ w) (subst (Worth n) (sym q) (record { best = best-iff n d .0 e; above = w }))
+          (k ∙ ap (weighing n) (sym q))
+      | inr w ↦ nothingLeft (ap (λ (t : Step). ltZ (pos 0) (t .weight)) (rw w at h)) (ap (choose n) e ∙ rw w)
+    ]
 
 pub chosen-as : (n : Network) (s : Step) → arranged n ≡ true → Chosen (chosenIn n) s → Choice (netOf n) s
 unfolding chosenIn
@@ -61,7 +63,7 @@ chosen-as n s a h = worth-as (netOf n) s (subst (λ (b : Bool). Chosen (cond b (
 -- ---- the step
 
 -- there is room, and the network after the step is held; or there is none
-pub data Taken (n : Net) (d : extraction.Divisor) (t : Next) : Type 0 where
+pub data Taken (n : Net) (d : divisors.Divisor) (t : Next) : Type 0 where
   wasMade : t .outcome ≡ Outcome.Made → move n ≡ makes d → Takes n d t → Taken n d t
   wasNot : (t .outcome ≡ Outcome.Made → ⊥) → move n ≡ stuck (stopOf (reasonOf (t .outcome))) → Taken n d t
 

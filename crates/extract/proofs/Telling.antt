@@ -2,7 +2,7 @@
 use Prim.Native.Nat.{ℕ, zero, suc, _+_, _<_, _≤_}
 use mathlib.Core.Path.{_≡_, refl, sym, ap, ap₂, _∙_, subst}
 use mathlib.Core.Logic.{_↔_}
-use mathlib.Core.Bool.{Bool, true, _&&_}
+use mathlib.Core.Bool.{true}
 use mathlib.Core.List.{List, [], _∷_, map, nil≢cons, cons≢nil, head-eq-of-cons-eq, tail-eq-of-cons-eq}
 use mathlib.Core.Option.{Option, none, some}
 use native.Mathlib.Omega.{arith}
@@ -19,17 +19,18 @@ use Rattle.network.specs.Handed.{Holds, Shaped}
 use Rattle.network.specs.Answers.{counted, evaluated}
 use Rattle.network.specs.declared.Network.{Network}
 use Rattle.network.specs.declared.Number.the-variants.{Is}
-use Rattle.network.proofs.Handing.{holds-net, holds-one, blank-one, Typed}
-use Rattle.extract_laws.specs.Run as extraction
-use Rattle.extract_laws.specs.Run.{Result, done, asked, numbers, rows, run}
+use Rattle.network.proofs.Handing.{holds-net, holds-one, blank-one}
+use Rattle.extract_laws.specs.Run as runs
+use Rattle.extract_laws.specs.Run.{Result, done, asked, numbers, rows, startOf, run}
 use Rattle.extract_laws.specs.Meaning.{Leads, StepOf, Ends, fall}
-use Rattle.extract_laws.proofs.Running.{first, run-leads, run-stop, run-few, run-network-add, run-stop-add}
-use Rattle.extract_laws.proofs.Keeping.{leads-counts, first-good, run-good, run-literals}
+use Rattle.extract_laws.proofs.Running.{run-leads, run-stop, run-few, run-network-add, run-stop-add}
+use Rattle.extract_laws.proofs.Keeping.{leads-counts, start-good, run-good, run-literals}
 use Rattle.extract_laws.proofs.Following.{rules-good, run-rules, run-evaluated}
 use Rattle.extract_divisor.specs.Divisor.{divisorOf}
 use Rattle.extract_divisor.specs.declared.Divisor.{Divisor}
 use Rattle.extract_divisor.specs.declared.Divisor.the-variants.{Pair, Sum}
-use Rattle.extract.specs.Answers.{stopOf, madeOf, Lists, runOn, Told}
+use Rattle.extract.specs.Answers.{stopOf, madeOf, stepsOf, Lists, runOn, Told}
+use Rattle.extract.specs.Typed.{fitDivisor, fitStep, FitRan}
 use Rattle.extract.specs.declared.Stop.{Stop}
 use Rattle.extract.specs.declared.Stop.the-variants.{Done, Asked, Numbers, Rows}
 use Rattle.extract.specs.declared.Answer.the-variants.{Stopped}
@@ -38,11 +39,6 @@ use Rattle.extract.specs.declared.Steps.{Steps}
 use Rattle.extract.specs.declared.Ran.{Ran}
 
 -- ---- one answer
-
--- the parts of a step as the language holds them
-abbrev pub fitDivisor : Divisor → Bool
-fitDivisor (Pair p q) = true
-fitDivisor (Sum a b) = fitCube a && fitCube b
 
 divisor-one : (d e : Divisor) → fitDivisor d ≡ true → fitDivisor e ≡ true → divisorOf d ≡ divisorOf e → d ≡ e
 divisor-one (Pair p q) (Pair r s) h k e =
@@ -56,12 +52,9 @@ divisor-one (Sum a b) (Sum c d) h k e =
     let q = both (fitCube c) (fitCube d) k in
     ap₂ Sum (cube-one a c (p .0) (q .0) x) (cube-one b d (p .1) (q .1) y)
 
-abbrev pub fitStep : Made → Bool
-fitStep s = fitDivisor (s .divisor)
-
 step-one : (s t : Made) → fitStep s ≡ true → fitStep t ≡ true → madeOf s ≡ madeOf t → s ≡ t
 step-one s t h k e = λ i. record {
-  divisor = divisor-one (s .divisor) (t .divisor) h k (ap (λ (m : extraction.Made). m .divisor) e) i;
+  divisor = divisor-one (s .divisor) (t .divisor) h k (ap (λ (m : runs.Made). m .divisor) e) i;
   weight = e i .weight;
   uses = e i .uses;
   number = record { 0 = e i .number };
@@ -81,7 +74,7 @@ list-one (suc k) (x ∷ l) (y ∷ m) h g e r =
     ap₂ _∷_ (step-one x y (p .0) (q .0) (head-eq-of-cons-eq e)) (list-one k l m (p .1) (q .1) (tail-eq-of-cons-eq e) r)
 
 -- the value that means a stop reason
-back : extraction.Stop → Stop
+back : runs.Stop → Stop
 back done = Done
 back asked = Asked
 back numbers = Numbers
@@ -97,16 +90,12 @@ back-stop Rows = refl
 stop-one : (x y : Stop) → stopOf x ≡ stopOf y → x ≡ y
 stop-one x y e = sym (back-stop x) ∙ ap back e ∙ back-stop y
 
--- an answer whose words and masks are of 64 bits
-pub record FitRan (r : Ran) : Type 0 where
-  pub network : Typed (r .network)
-  pub steps : all fitStep (r .steps .list) ≡ true
-
-lists-one : (s t : Steps) (l : List extraction.Made) → all fitStep (s .list) ≡ true → all fitStep (t .list) ≡ true → Lists s l → Lists t l → s ≡ t
-lists-one s t l h k p q = λ i. record {
-  count = (p .number ∙ sym (q .number)) i;
-  list = list-one (length l) (s .list) (t .list) h k (p .steps ∙ sym (q .steps)) (p .rest ∙ sym (q .rest)) i;
-}
+lists-one : (s t : Steps) (l : List runs.Made) → all fitStep (s .list) ≡ true → all fitStep (t .list) ≡ true → Lists s l → Lists t l → s ≡ t
+lists-one s t l h k p q =
+    let e : t .count ≡ s .count = q .number ∙ sym (p .number) in λ i. record {
+      count = sym e i;
+      list = list-one (s .count) (s .list) (t .list) h k (p .steps ∙ sym (rw e at (q .steps))) (p .rest ∙ sym (rw e at (q .rest))) i;
+    }
 
 -- two answers to one run are the same
 pub told-one : (k : ℕ) (n : Network) (r s : Ran) → FitRan r → FitRan s → Told (runOn k n) r → Told (runOn k n) s → r ≡ s
@@ -125,38 +114,34 @@ told-one k n r s a b = go (runOn k n)
 
 -- ---- in the paper's words
 
--- the steps that an answer lists
-abbrev pub stepsOf : Ran → List extraction.Made
-stepsOf r = map madeOf (take (r .steps .count) (r .steps .list))
-
-ran-told : (k : ℕ) (n : Network) (r : Ran) → rules n ≡ true → Told (runOn k n) r → Told (some (run k (netOf n))) r
+pub ran-told : (k : ℕ) (n : Network) (r : Ran) → rules n ≡ true → Told (runOn k n) r → Told (some (run k (netOf n))) r
 unfolding runOn
 ran-told k n r h t = rw h at t
 
 module _ (k : ℕ) (n : Network) (r : Ran) (shape : Shaped n)
     (h : rules n ≡ true) (t : Told (runOn k n) r) where
-  told : Told (some (run k (netOf n))) r
-  told = ran-told k n r h t
+  answered : Told (some (run k (netOf n))) r
+  answered = ran-told k n r h t
 
   ran-steps : stepsOf r ≡ run k (netOf n) .steps
-  ran-steps = let l = told .2 in ap (λ (c : ℕ). map madeOf (take c (r .steps .list))) (l .number) ∙ l .steps
+  ran-steps = answered .2 .steps
 
-  ran-network : netOf (r .network) ≡ run k (netOf n) .network
-  ran-network = holds-net (r .network) (run k (netOf n) .network) (told .1) ((run-good k (netOf n) (rules-good n shape h)) .inTurn)
+  pub ran-network : netOf (r .network) ≡ run k (netOf n) .network
+  ran-network = holds-net (r .network) (run k (netOf n) .network) (answered .1) ((run-good k (netOf n) (rules-good n shape h)) .inTurn)
 
   -- the resulting network follows the rules and keeps the limits
   pub ran-rules : rules (r .network) ≡ true
-  ran-rules = run-rules n (r .network) shape k h (told .1)
+  ran-rules = run-rules n (r .network) shape k h (answered .1)
 
   -- outputs after a run are those before, for every setting
   pub ran-outputs : (s : ℕ) → evaluated (r .network) s ≡ evaluated n s
-  ran-outputs = run-evaluated n (r .network) shape k h (told .1)
+  ran-outputs = run-evaluated n (r .network) shape k h (answered .1)
 
   -- each step listed takes the best divisor of the network that it is made on
-  pub ran-leads : Leads (first (netOf n)) (stepsOf r) (netOf (r .network))
+  pub ran-leads : Leads (startOf (netOf n)) (stepsOf r) (netOf (r .network))
   ran-leads =
-      subst (λ (l : List extraction.Made). Leads (first (netOf n)) l (netOf (r .network))) (sym ran-steps)
-      (subst (Leads (first (netOf n)) (run k (netOf n) .steps)) (sym ran-network) (run-leads k (netOf n)))
+      subst (λ (l : List runs.Made). Leads (startOf (netOf n)) l (netOf (r .network))) (sym ran-steps)
+      (subst (Leads (startOf (netOf n)) (run k (netOf n) .steps)) (sym ran-network) (run-leads k (netOf n)))
 
   -- the literal count, counted over the resulting network, is that of the start less the weights of the steps
   pub ran-literals : (counted n ≡ Is (literalCount (netOf n))) × (counted (r .network) ≡ Is (literalCount (netOf (r .network))))
@@ -170,19 +155,19 @@ module _ (k : ℕ) (n : Network) (r : Ran) (shape : Shaped n)
   )
 
   -- each step listed carries the number of its node, and the literals of the network after it: those before it less the weight
-  pub ran-counts : (s : extraction.Made) → s ∈ stepsOf r → StepOf (first (netOf n)) (stepsOf r) s
-  ran-counts = leads-counts ran-leads (first-good (netOf n) (rules-good n shape h))
+  pub ran-counts : (s : runs.Made) → s ∈ stepsOf r → StepOf (startOf (netOf n)) (stepsOf r) s
+  ran-counts = leads-counts ran-leads (start-good (netOf n) (rules-good n shape h))
 
   -- a run of k steps makes at most k
   pub ran-few : length (stepsOf r) ≤ k
-  ran-few = subst (λ (l : List extraction.Made). length l ≤ k) (sym ran-steps) (run-few k (netOf n))
+  ran-few = subst (λ (l : List runs.Made). length l ≤ k) (sym ran-steps) (run-few k (netOf n))
 
   -- it stops for the first reason that applies
   pub ran-stop : (x : Stop) → (r .answer ≡ Stopped x) ↔ Ends k (length (stepsOf r)) (netOf (r .network)) (stopOf x)
-  ran-stop x = go (told .0)
+  ran-stop x = go (answered .0)
     where
       ends : Ends k (length (run k (netOf n) .steps)) (run k (netOf n) .network) (stopOf x) ≡ Ends k (length (stepsOf r)) (netOf (r .network)) (stopOf x)
-      ends = ap₂ (λ (l : List extraction.Made) (m : Net). Ends k (length l) m (stopOf x)) (sym ran-steps) (sym ran-network)
+      ends = ap₂ (λ (l : List runs.Made) (m : Net). Ends k (length l) m (stopOf x)) (sym ran-steps) (sym ran-network)
 
       go : ((s : Stop) × (r .answer ≡ Stopped s) × (stopOf s ≡ run k (netOf n) .stop))
           → (r .answer ≡ Stopped x) ↔ Ends k (length (stepsOf r)) (netOf (r .network)) (stopOf x)

@@ -9,7 +9,7 @@ use lib.ListN.{length, take, drop, replicate}
 use Rattle.network.specs.Held.{netOf, rules, mostVariables}
 use Rattle.network.specs.Handed.{Holds, Blank}
 use Rattle.network.specs.declared.Network.{Network}
-use Rattle.extract_laws.specs.Run as extraction
+use Rattle.extract_laws.specs.Run as runs
 use Rattle.extract_laws.specs.Run.{Result, done, asked, numbers, rows, run}
 use Rattle.extract_divisor.specs.Divisor.{divisorOf}
 use Rattle.extract_divisor.specs.declared.Divisor.the-variants.{Pair}
@@ -21,14 +21,14 @@ use Rattle.extract.specs.declared.Steps.{Steps}
 use Rattle.extract.specs.declared.Ran.{Ran}
 
 -- the stop reason that a value means
-abbrev pub stopOf : Stop → extraction.Stop
+abbrev pub stopOf : Stop → runs.Stop
 stopOf Done = done
 stopOf Asked = asked
 stopOf Numbers = numbers
 stopOf Rows = rows
 
 -- the step made that a value means
-abbrev pub madeOf : Made → extraction.Made
+abbrev pub madeOf : Made → runs.Made
 madeOf s = record { divisor = divisorOf (s .divisor); weight = s .weight; uses = s .uses; number = s .number .0; literals = s .literals }
 
 -- the step of zeros
@@ -49,11 +49,18 @@ places = mostVariables
 abbrev pub noSteps : Steps
 noSteps = record { count = 0; list = replicate places noMade }
 
+-- the steps that are counted, and those that an answer lists
+abbrev pub madeIn : Steps → List runs.Made
+madeIn s = map madeOf (take (s .count) (s .list))
+
+abbrev pub stepsOf : Ran → List runs.Made
+stepsOf r = madeIn (r .steps)
+
 -- so many steps, each as it was made, and steps of zeros after them
-pub record Lists (s : Steps) (l : List extraction.Made) : Type 0 where
+pub record Lists (s : Steps) (l : List runs.Made) : Type 0 where
   pub number : s .count ≡ length l
-  pub steps : map madeOf (take (length l) (s .list)) ≡ l
-  pub rest : drop (length l) (s .list) ≡ replicate (places - length l) noMade
+  pub steps : madeIn s ≡ l
+  pub rest : drop (s .count) (s .list) ≡ replicate (places - s .count) noMade
 
 -- a run of k steps, of a network by the rules
 unfoldable pub runOn : ℕ → Network → Option Result

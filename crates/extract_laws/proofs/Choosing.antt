@@ -15,7 +15,7 @@ use Rattle.sets.proofs.Orders.{Strict, asym, not-after, lex-self, lex-trans, le
 use Rattle.network.specs.Net.{Net}
 use Rattle.extract_laws.specs.Divisor.{Divisor, pair, sum}
 use Rattle.extract_laws.specs.Extract.{weight, candidates, sooner, better, top, bestOf, best}
-use Rattle.extract_laws.specs.Meaning.{Best}
+use Rattle.extract_laws.specs.Meaning.{Foremost}
 
 -- ---- the orders
 
@@ -90,11 +90,7 @@ module _ {A : Type 0} (r : A → A → Bool) (o : Strict r) where
   top-in x (y ∷ l) = pick-in (r y x) x y l (top-in (cond (r y x) y x) l)
 
   picked : (x y : A) → (r x (cond (r y x) y x) ≡ false) × (r y (cond (r y x) y x) ≡ false)
-  picked x y = go (r y x) refl
-    where
-      go : (b : Bool) → r y x ≡ b → (r x (cond b y x) ≡ false) × (r y (cond b y x) ≡ false)
-      go true e = (asym r o y x e, o .irrefl y)
-      go false e = (o .irrefl x, e)
+  picked x y = elim (decided (r y x)) [ inl e ↦ rw e (asym r o y x e, o .irrefl y) | inr e ↦ rw e (o .irrefl x, e) ]
 
   pub top-first : (x : A) (l : List A) {y : A} → y ∈ (x ∷ l) → r y (top r x l) ≡ false
   top-first x [] m = elim (List·Memᴰ·cases-cons m) [ inl e ↦ rw e (o .irrefl x) | inr i ↦ absurd (List·Memᴰ·not-nil i) ]
@@ -112,7 +108,7 @@ module _ {A : Type 0} (r : A → A → Bool) (o : Strict r) where
 
 module _ (n : Net) where
   -- the best is the candidate that none is better than
-  pub best-in : (d : Divisor) → d ∈ candidates n → ((e : Divisor) → e ∈ candidates n → better n e d ≡ false) → Best n d
+  pub best-in : (d : Divisor) → d ∈ candidates n → ((e : Divisor) → e ∈ candidates n → better n e d ≡ false) → Foremost n d
   unfolding better
   best-in d m h = record {
     chosen = m;
@@ -124,7 +120,7 @@ module _ (n : Net) where
   }
 
   -- which none is better than
-  pub best-out : (d : Divisor) → Best n d → (e : Divisor) → e ∈ candidates n → better n e d ≡ false
+  pub best-out : (d : Divisor) → Foremost n d → (e : Divisor) → e ∈ candidates n → better n e d ≡ false
   unfolding better
   best-out d b e i = rw (b .heaviest e i) (elim (decided (ltZ (weight n e) (weight n d))) [
     | inl t ↦ rw t
@@ -132,19 +128,19 @@ module _ (n : Net) where
   ])
 
   -- and there is one such at most
-  pub best-unique : (d e : Divisor) → Best n d → Best n e → d ≡ e
+  pub best-unique : (d e : Divisor) → Foremost n d → Foremost n e → d ≡ e
   best-unique d e p q = better-order n .linear d e (best-out e q d (p .chosen)) (best-out d p e (q .chosen))
 
   -- a step takes the greatest weight, on a tie the first divisor
-  pub best-iff : (d : Divisor) → (best n ≡ some d) ↔ Best n d
+  pub best-iff : (d : Divisor) → (best n ≡ some d) ↔ Foremost n d
   unfolding best bestOf
   best-iff d = go (candidates n) refl
     where
-      found : (e : Divisor) (l : List Divisor) → candidates n ≡ e ∷ l → Best n (top (better n) e l)
+      found : (e : Divisor) (l : List Divisor) → candidates n ≡ e ∷ l → Foremost n (top (better n) e l)
       found e l p = best-in (top (better n) e l) (rw p (top-in (better n) (better-order n) e l))
           (λ g m. top-first (better n) (better-order n) e l (subst (g ∈_) p m))
 
-      go : (l : List Divisor) → candidates n ≡ l → (bestOf n l ≡ some d) ↔ Best n d
+      go : (l : List Divisor) → candidates n ≡ l → (bestOf n l ≡ some d) ↔ Foremost n d
       go [] p = (λ h. absurd (Option·none-ne-some d h), λ b. absurd (List·Memᴰ·not-nil (subst (d ∈_) p (b .chosen))))
       go (e ∷ l) p = (λ h. let q : top (better n) e l ≡ d = cc in rw q at (found e l p), λ b. ap some (best-unique (top (better n) e l) d (found e l p) b))
 

@@ -15,25 +15,17 @@ use Rattle.network.specs.Evaluation.{evaluate}
 use Rattle.network.specs.Held.{mostVariables, mostCubes}
 use Rattle.extract_laws.specs.Divisor.{Divisor}
 use Rattle.extract_laws.specs.Extract.{weight, step}
-use Rattle.extract_laws.specs.Run.{Made, making, prepare, inOrder, run}
+use Rattle.extract_laws.specs.Run.{Made, making, prepare, inOrder, startOf, run}
 use Rattle.extract_laws.specs.Meaning.{Good, Within, Fit, Worth, Leads, StepOf, fall}
 use Rattle.extract_laws.specs.Meaning.Leads.{stay, onward}
 use Rattle.extract_laws.proofs.Weighing.{step-literals, step-smaller}
 use Rattle.extract_laws.proofs.Offering.{candidate-fit}
 use Rattle.extract_laws.proofs.Making.{step-variables}
 use Rattle.extract_laws.proofs.Stepping.{step-good, step-evaluate}
-use Rattle.extract_laws.proofs.Arranging.{
-  in-order-literals,
-  in-order-cubes,
-  in-order-inputs,
-  in-order-outputs,
-  in-order-variables,
-  in-order-evaluate,
-  in-order-good,
-  in-order-ordered,
-}
-use Rattle.extract_laws.proofs.Preparing.{prepare-same, prepares}
-use Rattle.extract_laws.proofs.Running.{first, run-leads, run-arranged}
+use Rattle.extract_laws.proofs.Arranging.{in-order-literals, in-order-cubes, in-order-inputs, in-order-outputs, in-order-variables}
+use Rattle.extract_laws.proofs.Arranging.{in-order-evaluate, in-order-good, in-order-ordered}
+use Rattle.extract_laws.proofs.Preparing.{prepare-same, prepare-keeps}
+use Rattle.extract_laws.proofs.Running.{run-leads, run-arranged}
 
 -- ---- steps
 
@@ -46,25 +38,25 @@ abbrev after : Net → Divisor → Net
 after n d = prepare (step n d)
 
 after-good : {n : Net} {d : Divisor} → Good n → Worth n d → Good (after n d)
-after-good {n} {d} g w = prepares .good (step n d) (step-good n g d (worth-fit g w))
+after-good {n} {d} g w = prepare-keeps .good (step n d) (step-good n g d (worth-fit g w))
 
 -- the inputs and outputs stay
 leads-inputs : {n m : Net} {l : List Made} → Leads n l m → m .inputs ≡ n .inputs
 leads-inputs stay = refl
-leads-inputs (onward {n = n} d w a b t) = leads-inputs t ∙ prepares .inputs (step n d)
+leads-inputs (onward {n = n} d w a b t) = leads-inputs t ∙ prepare-keeps .inputs (step n d)
 
 leads-outputs : {n m : Net} {l : List Made} → Leads n l m → length (m .outputs) ≡ length (n .outputs)
 leads-outputs stay = refl
-leads-outputs (onward {n = n} d w a b t) = leads-outputs t ∙ prepares .outputs (step n d) ∙ length-map (n .outputs) _
+leads-outputs (onward {n = n} d w a b t) = leads-outputs t ∙ prepare-keeps .outputs (step n d) ∙ length-map (n .outputs) _
 
 -- the most variables and cubes are not passed by a step
 leads-numbers : {n m : Net} {l : List Made} → Leads n l m → variables m ≤ max mostVariables (variables n)
 leads-numbers stay = omega arith
-leads-numbers (onward {n = n} d w a b t) = omega (arith, leads-numbers t, prepares .variables (step n d), step-variables n d)
+leads-numbers (onward {n = n} d w a b t) = omega (arith, leads-numbers t, prepare-keeps .variables (step n d), step-variables n d)
 
 leads-cubes : {n m : Net} {l : List Made} → Leads n l m → cubeCount m ≤ max mostCubes (cubeCount n)
 leads-cubes stay = omega arith
-leads-cubes (onward {n = n} d w a b t) = omega (arith, leads-cubes t, prepares .cubes (step n d))
+leads-cubes (onward {n = n} d w a b t) = omega (arith, leads-cubes t, prepare-keeps .cubes (step n d))
 
 -- the rules are kept
 leads-good : {n m : Net} {l : List Made} → Leads n l m → Good n → Good m
@@ -76,13 +68,13 @@ leads-evaluate : {n m : Net} {l : List Made} → Leads n l m → Good n → (s :
 leads-evaluate stay g s = refl
 leads-evaluate (onward {n = n} d w a b t) g s =
     let f = worth-fit g w in
-    leads-evaluate t (after-good g w) s ∙ prepares .evaluate (step n d) (step-good n g d f) s ∙ step-evaluate n g d f s
+    leads-evaluate t (after-good g w) s ∙ prepare-keeps .evaluate (step n d) (step-good n g d f) s ∙ step-evaluate n g d f s
 
 -- each step takes one literal off at least
 leads-fewer : {n m : Net} {l : List Made} → Leads n l m → Good n → literalCount m + length l ≤ literalCount n
 leads-fewer stay g = omega arith
 leads-fewer (onward {n = n} d w a b t) g =
-    omega (arith, leads-fewer t (after-good g w), prepares .literals (step n d), step-smaller n g d (worth-fit g w .whole) (w .above))
+    omega (arith, leads-fewer t (after-good g w), prepare-keeps .literals (step n d), step-smaller n g d (worth-fit g w .whole) (w .above))
 
 -- each step is made of the best divisor of the network that those before it lead to
 pub leads-counts : {n m : Net} {l : List Made} → Leads n l m → Good n → (s : Made) → s ∈ l → StepOf n l s
@@ -126,28 +118,21 @@ leads-literals (onward {n = n} {l = l} d w a b t) g =
 
 -- ---- a run
 
-pub first-good : (n : Net) → Good n → Good (first n)
-first-good n g = prepares .good (inOrder n) (in-order-good n g)
+pub start-good : (n : Net) → Good n → Good (startOf n)
+start-good n g = prepare-keeps .good (inOrder n) (in-order-good n g)
 
 module _ (k : ℕ) (n : Net) where
   -- the inputs and outputs stay
   pub run-inputs : run k n .network .inputs ≡ n .inputs
-  run-inputs = leads-inputs (run-leads k n) ∙ prepares .inputs (inOrder n) ∙ in-order-inputs n
+  run-inputs = leads-inputs (run-leads k n) ∙ prepare-keeps .inputs (inOrder n) ∙ in-order-inputs n
 
   pub run-outputs : length (run k n .network .outputs) ≡ length (n .outputs)
-  run-outputs = leads-outputs (run-leads k n) ∙ prepares .outputs (inOrder n) ∙ in-order-outputs n
-
-  -- no run passes the most variables or cubes
-  pub run-numbers : variables (run k n .network) ≤ max mostVariables (variables n)
-  run-numbers = omega (arith, leads-numbers (run-leads k n), prepares .variables (inOrder n), in-order-variables n)
-
-  pub run-cubes : cubeCount (run k n .network) ≤ max mostCubes (cubeCount n)
-  run-cubes = omega (arith, leads-cubes (run-leads k n), prepares .cubes (inOrder n), in-order-cubes n)
+  run-outputs = leads-outputs (run-leads k n) ∙ prepare-keeps .outputs (inOrder n) ∙ in-order-outputs n
 
   module _ (g : Good n) where
     -- the rules are kept, and the cubes handed back are in cube order
     pub run-good : Good (run k n .network)
-    run-good = leads-good (run-leads k n) (first-good n g)
+    run-good = leads-good (run-leads k n) (start-good n g)
 
     pub run-ordered : (f : List (List ℕ)) → f ∈ nodes (run k n .network) → ordered f ≡ true
     run-ordered f m = in-order-ordered (run k n .network) run-good f (subst (λ (z : Net). f ∈ nodes z) (sym (run-arranged k n)) m)
@@ -155,22 +140,18 @@ module _ (k : ℕ) (n : Net) where
     -- outputs after a run are those before, for every setting
     pub run-evaluate : (s : ℕ) → evaluate (run k n .network) s ≡ evaluate n s
     run-evaluate s =
-        leads-evaluate (run-leads k n) (first-good n g) s ∙ prepares .evaluate (inOrder n) (in-order-good n g) s ∙ in-order-evaluate n s
+        leads-evaluate (run-leads k n) (start-good n g) s ∙ prepare-keeps .evaluate (inOrder n) (in-order-good n g) s ∙ in-order-evaluate n s
 
     -- the literal count falls by exactly the sum of the steps' weights
     pub run-literals : pos (literalCount (run k n .network)) ≡ pos (literalCount n) -ℤ fall (run k n .steps)
     run-literals =
-        leads-literals (run-leads k n) (first-good n g)
+        leads-literals (run-leads k n) (start-good n g)
         ∙ ap (λ z. pos z -ℤ fall (run k n .steps)) (ap literalCount (prepare-same (inOrder n)) ∙ in-order-literals n)
-
-    -- and so by one at least with each step
-    pub run-fewer : literalCount (run k n .network) + length (run k n .steps) ≤ literalCount n
-    run-fewer = omega (arith, leads-fewer (run-leads k n) (first-good n g), prepares .literals (inOrder n), in-order-literals n)
 
     -- the limits are kept
     pub run-within : Within n → Within (run k n .network)
-    run-within h = record {
-      variables = omega (arith, run-numbers, h .variables);
-      cubes = omega (arith, run-cubes, h .cubes);
-      literals = omega (arith, run-fewer, h .literals);
+    run-within h = let l = run-leads k n in record {
+      variables = omega (arith, leads-numbers l, prepare-keeps .variables (inOrder n), in-order-variables n, h .variables);
+      cubes = omega (arith, leads-cubes l, prepare-keeps .cubes (inOrder n), in-order-cubes n, h .cubes);
+      literals = omega (arith, leads-fewer l (start-good n g), prepare-keeps .literals (inOrder n), in-order-literals n, h .literals);
     }

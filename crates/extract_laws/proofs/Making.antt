@@ -56,12 +56,7 @@ module _ (n : Net) (d : Divisor) where
 
   -- a sum over the nodes of the step's network
   pub step-total : (g : List (List ℕ) → ℕ) → total g (nodes (step n d)) ≡ total (λ f. g (rewrite (2 * nextFree n) d f)) (nodes n) + g (own d)
-  step-total g = omega (
-    arith,
-    ap (total g) step-nodes,
-    total-append g (map (rewrite (2 * nextFree n) d) (nodes n)) (own d ∷ []),
-    total-map g (rewrite (2 * nextFree n) d) (nodes n),
-  )
+  step-total g = rw (step-nodes, total-append g (map (rewrite (2 * nextFree n) d) (nodes n)) (own d ∷ []), total-map) (omega arith)
 
   -- a divisor of the step's network is an old one, rewritten, or the new one
   pub step-divisor : (e : Node) → e ∈ step n d .divisors → ((c : Node) × (c ∈ n .divisors) × (e ≡ redo (2 * nextFree n) d c))
@@ -71,12 +66,7 @@ module _ (n : Net) (d : Divisor) where
 
   -- one variable more
   pub step-variables : variables (step n d) ≡ suc (variables n)
-  step-variables = omega (
-    arith,
-    length-append (map (redo (2 * nextFree n) d) (n .divisors))
-        (record { number = nextFree n; cubes = own d } ∷ []),
-    length-map (n .divisors) (redo (2 * nextFree n) d),
-  )
+  step-variables = simp (length-append, length-map) (omega arith)
 
   -- the next free number is next in turn
   pub step-turn : InTurn n → InTurn (step n d)

@@ -14,7 +14,7 @@ use Rattle.network.specs.Held.{mostVariables, mostCubes}
 use Rattle.extract_laws.specs.Divisor.{Divisor}
 use Rattle.extract_laws.specs.Extract.{weight, best, step}
 use Rattle.extract_laws.specs.Run.{numbers, rows, Move, finished, stuck, makes, roomFor, choose, move}
-use Rattle.extract_laws.specs.Meaning.{Best, Worth, Done, Allows}
+use Rattle.extract_laws.specs.Meaning.{Foremost, Worth, Done, Allows}
 use Rattle.extract_laws.specs.Meaning.Allows.{nothing, noNumber, noRows, next}
 use Rattle.extract_laws.proofs.Choosing.{heavier-order, best-iff, best-none, best-unique}
 
@@ -37,7 +37,7 @@ module _ (n : Net) where
       fits d w true false p q = next w (ltb-true _ _ p) (ltb-false _ _ q)
       fits d w false c p q = noNumber w (ltb-false _ _ p)
 
-      weigh : (d : Divisor) → Best n d → (b : Bool) → ltZ (pos 0) (weight n d) ≡ b
+      weigh : (d : Divisor) → Foremost n d → (b : Bool) → ltZ (pos 0) (weight n d) ≡ b
           → Allows n (cond b (cond (ltb (variables n) mostVariables) (cond (ltb mostCubes (cubeCount (step n d))) (stuck rows) (makes d)) (stuck numbers))
           finished)
       weigh d t true p = fits d (record { best = t; above = p }) (ltb (variables n) mostVariables) (ltb mostCubes (cubeCount (step n d))) refl refl

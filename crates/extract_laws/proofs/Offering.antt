@@ -2,14 +2,14 @@
 use Prim.Native.Nat.{ℕ, _<_}
 use mathlib.Core.Path.{_≡_, refl, sym, ap, ap₂, _∙_, subst}
 use mathlib.Core.Logic.{_⊎_, inl, inr, _↔_}
-use mathlib.Core.Bool.{Bool, true, false, cond, _&&_}
+use mathlib.Core.Bool.{true, false, _&&_}
 use mathlib.Core.List.{List, [], _∷_, _++_, map, List·Memᴰ·head as here, List·Memᴰ·tail as there, List·Memᴰ·not-nil, List·Memᴰ·cases-cons, Memᴰ·cast}
 use mathlib.Core.List.{Memᴰ·append-left, Memᴰ·append-right, List·Memᴰ·append-cases, List·Memᴰ·eq-of-singleton}
 use native.Mathlib.Omega.{arith}
 use lib.Dec.{ltb}
 use borrow.Author.Tests.{ltb-true, lt-ltb}
 use Rattle.sets.specs.Sets.{sub, apart, asc, without, before}
-use Rattle.sets.proofs.Truth.{decided}
+use Rattle.sets.proofs.Truth.{both, decided}
 use Rattle.sets.proofs.Lists.{_∈_, map-in, map-out, ahead, all-out}
 use Rattle.sets.proofs.Orders.{before-order, asym}
 use Rattle.sets.proofs.Sets.{mem-of, union-right, without-asc, proper-sub}
@@ -19,7 +19,7 @@ use Rattle.network.specs.Net.{Net, nodes}
 use Rattle.extract_laws.specs.Divisor.{Divisor, pair, sum, own, small, sound}
 use Rattle.extract_laws.specs.Extract.{gather, pairsIn, smallerFirst, sumOf, sumsIn, candidates}
 use Rattle.extract_laws.specs.Meaning.{Good, other, Used, Divides, Fit}
-use Rattle.extract_laws.specs.Meaning.Divides.{literals, parts}
+use Rattle.extract_laws.specs.Meaning.Divides.{literals, twoParts}
 use Rattle.extract_laws.proofs.Using.{cube-asc, cube-proper, sum-parts, apart-flip, small-sub, use-out}
 use Rattle.extract_laws.proofs.Replacing.{own-reads}
 use Rattle.extract_laws.proofs.Parting.{less-left, less-right, parts-apart, parts-differ, parts-use}
@@ -89,22 +89,13 @@ pub sum-of-out : (c e : List ℕ) (d : Divisor) → d ∈ sumOf c e
     × (((d ≡ sum (without c e) (without e c)) × (before (without c e) (without e c) ≡ true))
     ⊎ ((d ≡ sum (without e c) (without c e)) × (before (without c e) (without e c) ≡ false)))
 unfolding sumOf smallerFirst
-sum-of-out c e d m = go (small (without c e)) (small (without e c)) refl refl m
-  where
-    turn : (t : Bool) → before (without c e) (without e c) ≡ t → d ≡ cond t (sum (without c e) (without e c)) (sum (without e c) (without c e))
-        → ((d ≡ sum (without c e) (without e c)) × (before (without c e) (without e c) ≡ true))
-        ⊎ ((d ≡ sum (without e c) (without c e)) × (before (without c e) (without e c) ≡ false))
-    turn true h p = inl (p, h)
-    turn false h p = inr (p, h)
-
-    go : (s t : Bool) → small (without c e) ≡ s → small (without e c) ≡ t
-        → d ∈ cond (s && t) (cond (before (without c e) (without e c)) (sum (without c e) (without e c)) (sum (without e c) (without c e)) ∷ []) []
-        → (small (without c e) ≡ true) × (small (without e c) ≡ true)
-        × (((d ≡ sum (without c e) (without e c)) × (before (without c e) (without e c) ≡ true))
-        ⊎ ((d ≡ sum (without e c) (without c e)) × (before (without c e) (without e c) ≡ false)))
-    go true true h k i = (h, k, turn (before (without c e) (without e c)) refl (List·Memᴰ·eq-of-singleton i))
-    go true false h k i = absurd (List·Memᴰ·not-nil i)
-    go false t h k i = absurd (List·Memᴰ·not-nil i)
+sum-of-out c e d m = elim (decided (small (without c e) && small (without e c))) [
+  | inl h ↦
+      let p = both (small (without c e)) _ h in
+      let q = List·Memᴰ·eq-of-singleton (rw h at m) in
+      (p .0, p .1, elim (decided (before (without c e) (without e c))) [ inl t ↦ inl (rw t at q, t) | inr t ↦ inr (rw t at q, t) ])
+  | inr h ↦ absurd (List·Memᴰ·not-nil (rw h at m))
+]
 
 -- ---- the candidates
 
@@ -113,26 +104,19 @@ module _ (n : Net) (g : Good n) where
   in-asc {f} m i = cube-asc f (g .expressions f m) i
 
   pairs-divide : {f : List (List ℕ)} → f ∈ nodes n → (c : List ℕ) → c ∈ f → (d : Divisor) → d ∈ pairsIn c → Divides n d
-  pairs-divide m c i d k = go (pairs-out c (in-asc m i) d k)
-    where
-      go : (p : ℕ) × (q : ℕ) × (d ≡ pair p q) × (p ∈ c) × (q ∈ c) × (p < q) → Divides n d
-      go (p, q, e, x, y, l) = subst (Divides n) (sym e) (literals m i x y l)
+  pairs-divide m c i d k = let r = pairs-out c (in-asc m i) d k in subst (Divides n) (sym (r .2)) (literals m i (r .3) (r .4) (r .5))
 
   sums-divide : {f : List (List ℕ)} → f ∈ nodes n → (c e : List ℕ) → c ∈ f → e ∈ f → (d : Divisor) → d ∈ sumOf c e → Divides n d
-  sums-divide m c e i j d k = go (sum-of-out c e d k)
-    where
-      go : (small (without c e) ≡ true) × (small (without e c) ≡ true)
-          × (((d ≡ sum (without c e) (without e c)) × (before (without c e) (without e c) ≡ true))
-          ⊎ ((d ≡ sum (without e c) (without c e)) × (before (without c e) (without e c) ≡ false))) → Divides n d
-      go (sc, se, inl (p, l)) = subst (Divides n) (sym p) (parts m i j (sym (less-left c e (in-asc m i))) (sym (less-right c e (in-asc m j))) sc se l)
-      go (sc, se, inr (p, l)) = subst (Divides n) (sym p) (parts m j i (sym (less-left e c (in-asc m j))) (sym (less-right e c (in-asc m i))) se sc turned)
-        where
-          turned : before (without e c) (without c e) ≡ true
-          turned = elim (decided (before (without e c) (without c e))) [
-            | inl q ↦ q
-            | inr q ↦ absurd (parts-differ (without c e) (without e c) sc (parts-apart c e)
-                (before-order .linear (without c e) (without e c) l q))
-          ]
+  sums-divide m c e i j d k =
+      let (sc, se, o) = sum-of-out c e d k in
+      elim o [
+        | inl (p, l) ↦ subst (Divides n) (sym p) (twoParts m i j (sym (less-left c e (in-asc m i))) (sym (less-right c e (in-asc m j))) sc se l)
+        | inr (p, l) ↦ subst (Divides n) (sym p) (twoParts m j i (sym (less-left e c (in-asc m j))) (sym (less-right e c (in-asc m i))) se sc
+            (elim (decided (before (without e c) (without c e))) [
+              | inl q ↦ q
+              | inr q ↦ absurd (parts-differ (without c e) (without e c) sc (parts-apart c e) (before-order .linear (without c e) (without e c) l q))
+            ]))
+      ]
 
   candidate-out : (d : Divisor) → d ∈ candidates n → Divides n d
   unfolding candidates
@@ -151,7 +135,7 @@ module _ (n : Net) (g : Good n) where
   unfolding candidates
   candidate-in d (literals {c = c} m i k l h) =
       Memᴰ·append-left (gather sumsIn (nodes n)) (gather-in (gather pairsIn) m (gather-in pairsIn i (pairs-made c (in-asc m i) k l h)))
-  candidate-in d (parts {f = f} {c = c} {e = e} {a = a} {b = b} m i j p q sa sb l) =
+  candidate-in d (twoParts {f = f} {c = c} {e = e} {a = a} {b = b} m i j p q sa sb l) =
       Memᴰ·append-right (gather (gather pairsIn) (nodes n)) (gather-in sumsIn m
       (sums-made f (sum a b) i j differ (subst (_∈ sumOf c e) same (w .0)) (subst (_∈ sumOf e c) same (w .1))))
     where
@@ -177,7 +161,7 @@ module _ (n : Net) (g : Good n) where
   divides-used : {d : Divisor} → Divides n d → (sound d ≡ true) × Used n d
   unfolding sub
   divides-used (literals {f = f} {c = c} {p = p} {q = q} m i k l h) = (lt-ltb p q h, (f, m, (c, i, rw (mem-of k, mem-of l))))
-  divides-used (parts {f = f} {c = c} {e = e} {a = a} {b = b} m i j p q sa sb l) =
+  divides-used (twoParts {f = f} {c = c} {e = e} {a = a} {b = b} m i j p q sa sb l) =
       let ea : a ≡ without c e = p ∙ less-left c e (in-asc m i) in
       let eb : b ≡ without e c = q ∙ less-right c e (in-asc m j) in (
         rw (

@@ -41,16 +41,12 @@ both-ways true false = refl
 both-ways false true = refl
 both-ways false false = refl
 
-and-no : (b : Bool) → (b && false) ≡ false
-and-no true = refl
-and-no false = refl
-
 -- they are a use of the sum that they make
 pub parts-use : (c e : List ℕ) → asc e ≡ true → (f : List (List ℕ)) → e ∈ f → useOf (without c e) (without e c) f c ≡ true
 parts-use c e he f m = use-in (without c e) (without e c) f c (record {
   inside = without-sub c e;
-  free = apart-in (without c (without c e)) (without e c) (λ z k. rw (without-mem, (both (mem z c) _ (sym (without-mem z c (without c e)) ∙ k)) .0)
-      (and-no (mem z e)));
+  free = apart-in (without c (without c e)) (without e c) (λ z k.
+      rw (without-mem, (both (mem z c) _ (sym (without-mem z c (without c e)) ∙ k)) .0, and-comm (mem z e) false));
   partner = rw (ext (other (without c e) (without e c) c) e (union-asc (without c (without c e)) (without e c) (without-asc e c he)) he
       (λ z. simp (union-mem, without-mem) (both-ways (mem z c) (mem z e)))) m;
 })

@@ -9,9 +9,9 @@ pub prepare-same : (n : Net) → prepare n ≡ n
 unfolding prepare
 prepare-same n = refl
 
-pub prepares : Prepares prepare
+pub prepare-keeps : Prepares prepare
 unfolding prepare
-prepares = record {
+prepare-keeps = record {
   inputs = λ n. refl;
   outputs = λ n. refl;
   variables = λ n. refl;

@@ -1,7 +1,7 @@
 -- What divisors read after a step: what they read before, or the new one, which reads no more than those that it stands in; so none reads
 -- itself through others. Assumes nothing.
-use Prim.Native.Nat.{ℕ, _*_, _/_, _<_}
-use mathlib.Core.Path.{_≡_, refl, sym, ap, _∙_, subst}
+use Prim.Native.Nat.{ℕ, _*_, _<_}
+use mathlib.Core.Path.{_≡_, refl, sym, ap, subst}
 use mathlib.Core.Logic.{_⊎_, inl, inr}
 use mathlib.Core.Bool.{true}
 use mathlib.Core.List.{List, map}
@@ -23,17 +23,8 @@ use Rattle.extract_laws.proofs.Making.{next-free, below-free, step-divi
 module _ (n : Net) (g : Good n) (d : Divisor) (fit : Fit n d) where
   old-below : {c : Node} → c ∈ n .divisors → c .number < nextFree n
   old-below {c} m =
-      let fs = map (λ (e : Node). e .cubes) (n .divisors) in
-      omega (
-        arith,
-        next-free n,
-        (numbered-range (n .inputs) fs c (subst (λ (l : List Node). c ∈ l) (g .inTurn) m)) .1,
-        length-map (n .divisors)
-            (λ (e : Node). e .cubes),
-      )
-
-  half : 2 * nextFree n / 2 ≡ nextFree n
-  half = omega arith
+      let r = numbered-range (n .inputs) (map (λ (e : Node). e .cubes) (n .divisors)) c (subst (λ (l : List Node). c ∈ l) (g .inTurn) m) in
+      omega (arith, next-free n, r .1, length-map (n .divisors) (λ (e : Node). e .cubes))
 
   -- what the node of the number u read before the step: an old one what its expression did, the new one what the divisor does
   abbrev From : ℕ → ℕ → Type 0
@@ -71,7 +62,7 @@ module _ (n : Net) (g : Good n) (d : Divisor) (fit : Fit n d) where
       → From (e .number) v ⊎ ((v ≡ nextFree n) × ((c : Node) × (c ∈ n .divisors) × (e .number ≡ c .number) × Hit c))
   edge e m v r = elim (step-divisor n d e m) [
     | inl (c, i, p) ↦ elim (rewrite-reads (2 * nextFree n) d (c .cubes) v (subst (λ (z : Node). Reads (z .cubes) v) p r)) [
-      | inl (q, h) ↦ inr (q ∙ half, (c, i, ap (λ (z : Node). z .number) p, h))
+      | inl (q, h) ↦ inr (omega arith, (c, i, ap (λ (z : Node). z .number) p, h))
       | inr q ↦ inl (inl (c, i, ap (λ (z : Node). z .number) p, q))
     ]
     | inr p ↦ inl (inr (ap (λ (z : Node). z .number) p, subst (λ (z : Node). Reads (z .cubes) v) p r))
@@ -110,11 +101,8 @@ module _ (n : Net) (g : Good n) (d : Divisor) (fit : Fit n d) where
       go (inr (z, (c, j, p, b))) k = (c, j, b, inl p)
 
   which : (e : Node) → e ∈ step n d .divisors → (e .number < nextFree n) ⊎ (e .number ≡ nextFree n)
-  which e m = elim (step-divisor n d e m) [
-    | inl (c, i, p) ↦ inl (rw (ap (λ (z : Node). z .number) p) (old-below i))
-    | inr p ↦ inr
-        (ap (λ (z : Node). z .number) p)
-  ]
+  which e m = elim (step-divisor n d e m)
+      [ inl (c, i, p) ↦ inl (rw (ap (λ (z : Node). z .number) p) (old-below i)) | inr p ↦ inr (ap (λ (z : Node). z .number) p) ]
 
   starts : {u v : ℕ} → Through (step n d) u v → (u < nextFree n) ⊎ (u ≡ nextFree n)
   starts (itself {e = e} m i r) = which e m

@@ -10,14 +10,14 @@ use Rattle.network.specs.Net.{Net}
 use Rattle.extract_laws.specs.Divisor.{Divisor}
 use Rattle.extract_laws.specs.Extract.{step}
 use Rattle.extract_laws.specs.Run.{Stop, done, numbers, rows, Made, Result, Move, finished, stuck, makes, move, ended, making, prepare, runFrom}
-use Rattle.extract_laws.specs.Run.{inOrder, run}
+use Rattle.extract_laws.specs.Run.{inOrder, startOf, run}
 use Rattle.extract_laws.specs.Meaning.{Allows, Leads, Ends}
 use Rattle.extract_laws.specs.Meaning.Allows.{nothing, noNumber, noRows, next}
 use Rattle.extract_laws.specs.Meaning.Leads.{stay, onward}
 use Rattle.extract_laws.specs.Meaning.Ends.{isDone, isAsked, isNumbers, isRows}
 use Rattle.extract_laws.proofs.Arranging.{in-order-once, step-arranged}
 use Rattle.extract_laws.proofs.Moving.{worth-done, move-iff}
-use Rattle.extract_laws.proofs.Preparing.{prepares}
+use Rattle.extract_laws.proofs.Preparing.{prepare-keeps}
 
 -- ---- a run from a network that is prepared, step by step
 
@@ -45,7 +45,7 @@ from-make k n d e = rw (e, runFrom)
 -- ---- how it goes, and why it ends
 
 -- what a run of k steps from n leaves
-record Ran (k : ℕ) (n : Net) (r : Result) : Type 0 where
+record Leaves (k : ℕ) (n : Net) (r : Result) : Type 0 where
   pub leads : Leads n (r .steps) (r .network)
   pub ends : Ends k (length (r .steps)) (r .network) (r .stop)
 
@@ -61,18 +61,18 @@ ends-few (isAsked e w) = omega arith
 ends-few (isNumbers l w h) = omega arith
 ends-few (isRows l w h i) = omega arith
 
-ran : (k : ℕ) (n : Net) → Ran k n (runFrom k n)
-ran zero n = rw (from-none n) (go (move n) ((move-iff n (move n)) .0 refl))
+from-leaves : (k : ℕ) (n : Net) → Leaves k n (runFrom k n)
+from-leaves zero n = rw (from-none n) (go (move n) ((move-iff n (move n)) .0 refl))
   where
-    go : (m : Move) → Allows n m → Ran 0 n (record { network = n; stop = ended m; steps = [] })
+    go : (m : Move) → Allows n m → Leaves 0 n (record { network = n; stop = ended m; steps = [] })
     go m (nothing h) = record { leads = stay; ends = isDone (omega arith) h }
     go m (noNumber w l) = record { leads = stay; ends = isAsked refl w }
     go m (noRows w l h) = record { leads = stay; ends = isAsked refl w }
     go m (next w l h) = record { leads = stay; ends = isAsked refl w }
-ran (suc k) n = go (move n) refl ((move-iff n (move n)) .0 refl) (λ d. ran k (prepare (step n d)))
+from-leaves (suc k) n = go (move n) refl ((move-iff n (move n)) .0 refl) (λ d. from-leaves k (prepare (step n d)))
   where
-    go : (m : Move) → move n ≡ m → Allows n m → ((d : Divisor) → Ran k (prepare (step n d)) (runFrom k (prepare (step n d))))
-        → Ran (suc k) n (runFrom (suc k) n)
+    go : (m : Move) → move n ≡ m → Allows n m → ((d : Divisor) → Leaves k (prepare (step n d)) (runFrom k (prepare (step n d))))
+        → Leaves (suc k) n (runFrom (suc k) n)
     go m e (nothing h) t = rw (from-finished k n e) (record { leads = stay; ends = isDone (omega arith) h })
     go m e (noNumber w l) t = rw (from-stuck k n numbers e) (record { leads = stay; ends = isNumbers (omega arith) w l })
     go m e (noRows w l h) t = rw (from-stuck k n rows e) (record { leads = stay; ends = isRows (omega arith) w l h })
@@ -97,29 +97,25 @@ ends-one k j n (isRows l w a b) (isAsked e v) = absurd (omega arith)
 ends-one k j n (isRows l w a b) (isNumbers i v c) = absurd (omega arith)
 ends-one k j n (isRows l w a b) (isRows i v c d) = refl
 
--- the network that a run starts from: in cube order, and prepared
-abbrev pub first : Net → Net
-first n = prepare (inOrder n)
-
 module _ (k : ℕ) (n : Net) where
-  run-ran : Ran k (first n) (run k n)
+  run-leaves : Leaves k (startOf n) (run k n)
   unfolding run
-  run-ran = ran k (first n)
+  run-leaves = from-leaves k (startOf n)
 
   -- each step of a run takes the best divisor of the network that it is made on
-  pub run-leads : Leads (first n) (run k n .steps) (run k n .network)
-  run-leads = run-ran .leads
+  pub run-leads : Leads (startOf n) (run k n .steps) (run k n .network)
+  run-leads = run-leaves .leads
 
   -- the stop is the first reason that applies: done, asked, numbers, rows
   pub run-stop : (r : Stop) → (run k n .stop ≡ r) ↔ Ends k (length (run k n .steps)) (run k n .network) r
   run-stop r = (
-    λ e. subst (Ends k (length (run k n .steps)) (run k n .network)) e (run-ran .ends),
-    λ h. ends-one k (length (run k n .steps)) (run k n .network) (run-ran .ends) h,
+    λ e. subst (Ends k (length (run k n .steps)) (run k n .network)) e (run-leaves .ends),
+    λ h. ends-one k (length (run k n .steps)) (run k n .network) (run-leaves .ends) h,
   )
 
   -- no more steps than asked
   pub run-few : length (run k n .steps) ≤ k
-  run-few = ends-few (run-ran .ends)
+  run-few = ends-few (run-leaves .ends)
 
 -- ---- runs add up
 
@@ -143,29 +139,25 @@ from-add (suc s) t n =
 -- where the cubes are in order, they are so after steps
 leads-arranged : {n m : Net} {l : List Made} → Leads n l m → inOrder n ≡ n → inOrder m ≡ m
 leads-arranged stay e = e
-leads-arranged (onward {n = n} d w l h t) e = leads-arranged t (prepares .order (step n d) (step-arranged n d (w .best .chosen)))
+leads-arranged (onward {n = n} d w l h t) e = leads-arranged t (prepare-keeps .order (step n d) (step-arranged n d (w .best .chosen)))
 
 -- and what is prepared is so after steps
 leads-prepared : {n m : Net} {l : List Made} → Leads n l m → prepare n ≡ n → prepare m ≡ m
 leads-prepared stay e = e
-leads-prepared (onward {n = n} d w l h t) e = leads-prepared t (prepares .once (step n d))
+leads-prepared (onward {n = n} d w l h t) e = leads-prepared t (prepare-keeps .once (step n d))
 
 module _ (s : ℕ) (n : Net) where
   -- a run leaves a network whose cubes are in order
   pub run-arranged : inOrder (run s n .network) ≡ run s n .network
-  run-arranged = leads-arranged (run-leads s n) (prepares .order (inOrder n) (in-order-once n))
-
-  -- and that is prepared
-  pub run-prepared : prepare (run s n .network) ≡ run s n .network
-  run-prepared = leads-prepared (run-leads s n) (prepares .once (inOrder n))
+  run-arranged = leads-arranged (run-leads s n) (prepare-keeps .order (inOrder n) (in-order-once n))
 
   again : (t : ℕ) → run t (run s n .network) ≡ runFrom t (run s n .network)
   unfolding run
-  again t = ap (runFrom t) (ap prepare run-arranged ∙ run-prepared)
+  again t = ap (runFrom t) (ap prepare run-arranged ∙ leads-prepared (run-leads s n) (prepare-keeps .once (inOrder n)))
 
   later : (t : ℕ) → run (s + suc t) n ≡ then (run s n) (run (suc t) (run s n .network))
   unfolding run
-  later t = from-add s t (first n) ∙ ap (then (run s n)) (sym (again (suc t)))
+  later t = from-add s t (startOf n) ∙ ap (then (run s n)) (sym (again (suc t)))
 
   none-more : let m = run s n .network in run 0 m ≡ record { network = m; stop = ended (move m); steps = [] }
   none-more = again 0 ∙ from-none (run s n .network)

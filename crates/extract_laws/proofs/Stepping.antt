@@ -12,7 +12,7 @@ use Rattle.expression.specs.Value.{lit, value}
 use Rattle.expression.proofs.Values.{lit-plain}
 use Rattle.network.specs.Net.{Net, nodes}
 use Rattle.network.specs.Listing.{listing}
-use Rattle.network.specs.Evaluation.{settle, answers, evaluate}
+use Rattle.network.specs.Evaluation.{settle, evaluate}
 use Rattle.network.specs.Meaning.{Reads, Consistent}
 use Rattle.network.proofs.Evaluating.{evaluate-settled, evaluate-read}
 use Rattle.network.proofs.Listings.{good-sound}
@@ -35,8 +35,7 @@ module _ (n : Net) (g : Good n) (d : Divisor) (fit : Fit n d) where
   step-good = record {
     expressions = λ f i. elim (step-node n d f i) [
       | inl p ↦ rw p (fit .formed)
-      | inr (h, k, p) ↦ rw p
-          (rewrite-expression (nextFree n) d h (g .expressions h k) (below-free n g h k))
+      | inr (h, k, p) ↦ rw p (rewrite-expression (nextFree n) d h (g .expressions h k) (below-free n g h k))
     ];
     known = λ f i v r. elim (step-node n d f i) [
       | inl p ↦ omega (arith, step-variables n d, fit .known v (subst (λ z. Reads z v) p r))
@@ -64,19 +63,15 @@ module _ (n : Net) (g : Good n) (d : Divisor) (fit : Fit n d) where
         (Memᴰ·append-right (map (redo (2 * nextFree n) d) (n .divisors)) (here refl)))
 
     -- what fits the step's network fits the network before
-    pub step-consistent : Consistent n s a
+    step-consistent : Consistent n s a
     step-consistent =
         mapped-consistent (rewrite (2 * nextFree n) d) n a kept s (record { inputs = c .inputs; divisors = λ e i. c .divisors e (Memᴰ·append-left _ i) })
 
-    -- with the same outputs
-    pub step-answers : answers (step n d) a ≡ answers n a
-    step-answers = mapped-answers (rewrite (2 * nextFree n) d) n a kept
-
-  -- outputs after a step are those before, for every setting
+  -- with the same outputs: those after a step are those before, for every setting
   pub step-evaluate : (s : ℕ) → evaluate (step n d) s ≡ evaluate n s
   step-evaluate s =
       let a = settle (step n d) (listing (step n d)) (bit s) in
       let c = evaluate-settled (step n d) (good-sound (step n d) step-good) s in
       evaluate-read (step n d) (good-sound (step n d) step-good) s a c
-      ∙ ap packed (step-answers (bit s) a c)
+      ∙ ap packed (mapped-answers (rewrite (2 * nextFree n) d) n a (kept (bit s) a c))
       ∙ sym (evaluate-read n (good-sound n g) s a (step-consistent (bit s) a c))

@@ -1,8 +1,8 @@
--- The literals that a step saves are its weight; how many cubes it leaves. Assumes nothing.
+-- The literals that a step saves are its weight. Assumes nothing.
 use Prim.Native.Nat.{ℕ, suc, _+_, _*_, _-_, _<_}
 use mathlib.Core.Path.{_≡_, refl, sym, ap, _∙_}
 use mathlib.Core.Bool.{true, false, not}
-use mathlib.Core.List.{List, [], _∷_, map, Memᴰ·cast}
+use mathlib.Core.List.{List, map, Memᴰ·cast}
 use native.Mathlib.Nat.{add-zero}
 use native.Mathlib.Omega.{arith}
 use lib.Dec.{ltb}
@@ -26,11 +26,6 @@ use Rattle.extract_laws.specs.Meaning.{Good, Parts, other, Partner}
 use Rattle.extract_laws.proofs.Using.{cube-asc, cubes-differ, differ-in, differ-out, sum-parts, part-asc, use-out, use-partner, hit-inside, use-one-way}
 use Rattle.extract_laws.proofs.Replacing.{new-absent}
 use Rattle.extract_laws.proofs.Making.{below-free, step-total}
-
--- as many as there are
-pub total-one : (l : List (List ℕ)) → total (λ c. 1) l ≡ length l
-total-one [] = refl
-total-one (c ∷ l) = omega (arith, total-one l)
 
 -- ---- sums over the cubes of a rewriting
 
@@ -87,28 +82,22 @@ module _ (k : ℕ) (d : Divisor) (s : sound d ≡ true) (f : List (List ℕ)) (e
   old-cubes = total-const length base (length (part d)) (found d f) (λ c m. let i = keep-out (hit d f) f m in
       length-rejoin c (part d) (cube-asc f e (i .0)) (part-asc d s) (hit-inside d f c (i .1)))
 
--- a pair saves a literal in each use
-pub pair-saves : (k p q : ℕ) → sound (pair p q) ≡ true → (f : List (List ℕ)) → expression f ≡ true → ((v : ℕ) → Reads f v → v < k)
-    → literalsOf f ≡ literalsOf (rewrite (2 * k) (pair p q) f) + uses (pair p q) f
-pair-saves k p q s f e u =
-    omega (
-      arith,
-      rewrite-total (2 * k) (pair p q) f length,
-      new-cubes k (pair p q) s f e u,
-      old-cubes k (pair p q) s f e u,
-      total-split length
-          (hit (pair p q) f) f,
-    )
-
 saved : (u la lb k B rest new ab ba whole : ℕ) → la + lb ≡ suc k → ab ≡ B + u * la → ba ≡ B + u * lb → new ≡ (B + u) + rest → whole ≡ (ab + ba) + rest
     → whole ≡ new + (B + u * k)
 saved u la lb k B rest new ab ba whole e h1 h2 h3 h4 = omega (arith, ap (u *_) e)
 
--- a sum saves its bases, and the literals of its parts but one in each use
-pub sum-saves : (k : ℕ) (a b : List ℕ) → sound (sum a b) ≡ true → (f : List (List ℕ)) → expression f ≡ true → ((v : ℕ) → Reads f v → v < k)
-    → literalsOf f ≡ literalsOf (rewrite (2 * k) (sum a b) f) + (literalsOf (bases (sum a b) f) + uses (sum a b) f * ((length a + length b) - 1))
+-- what a divisor saves: in each use of a pair a literal; of a sum the bases, and the literals of the parts but one in each use
+abbrev gain : Divisor → List (List ℕ) → ℕ
+gain (pair p q) f = uses (pair p q) f
+gain (sum a b) f = literalsOf (bases (sum a b) f) + uses (sum a b) f * ((length a + length b) - 1)
+
+saves : (k : ℕ) (d : Divisor) → sound d ≡ true → (f : List (List ℕ)) → expression f ≡ true → ((v : ℕ) → Reads f v → v < k)
+    → literalsOf f ≡ literalsOf (rewrite (2 * k) d f) + gain d f
 unfolding small
-sum-saves k a b s f e u =
+saves k (pair p q) s f e u =
+    let d = pair p q in
+    omega (arith, rewrite-total (2 * k) d f length, new-cubes k d s f e u, old-cubes k d s f e u, total-split length (hit d f) f)
+saves k (sum a b) s f e u =
     let w = sum-parts a b s in
     rw (total-map length (λ c. without c a) (keep (useOf a b f) f))
     (saved (uses (sum a b) f) (length a) (length b) ((length a + length b) - 1) (total (λ c. length (without c a)) (keep (useOf a b f) f))
@@ -120,16 +109,6 @@ sum-saves k a b s f e u =
     union-length (without c a) b (without-asc c a (cube-asc f e (p .0))) ((use-out a b f c (p .1)) .free)))
     (rewrite-total (2 * k) (sum a b) f length ∙ ap (_+ total length (keep (λ c. not (gone (sum a b) f c)) f)) (new-cubes k (sum a b) s f e u))
     (sum-total a b w f e length))
-
--- what a divisor saves: in each use of a pair a literal; of a sum the bases, and the literals of the parts but one in each use
-abbrev gain : Divisor → List (List ℕ) → ℕ
-gain (pair p q) f = uses (pair p q) f
-gain (sum a b) f = literalsOf (bases (sum a b) f) + uses (sum a b) f * ((length a + length b) - 1)
-
-saves : (k : ℕ) (d : Divisor) → sound d ≡ true → (f : List (List ℕ)) → expression f ≡ true → ((v : ℕ) → Reads f v → v < k)
-    → literalsOf f ≡ literalsOf (rewrite (2 * k) d f) + gain d f
-saves k (pair p q) s f e u = pair-saves k p q s f e u
-saves k (sum a b) s f e u = sum-saves k a b s f e u
 
 -- ---- in a network
 
@@ -163,13 +142,17 @@ module _ (n : Net) (g : Good n) (d : Divisor) (s : sound d ≡ true) where
   step-literals = rw (gained n d) (minus (literalCount (step n d)) (total (gain d) (nodes n)) (literalCount n) (literalsOf (own d))
       (omega (arith, step-total n d literalsOf, total-saved)))
 
-  -- so a weight above 0 makes the network smaller
-  pub step-smaller : ltZ (pos 0) (weight n d) ≡ true → literalCount (step n d) < literalCount n
-  step-smaller w = go (weight n d) w step-literals
+  abbrev Falls : ℤ → Type 0
+  Falls z = (w : ℕ) × (z ≡ pos w) × (0 < w) × (literalCount (step n d) + w ≡ literalCount n)
+
+  -- so a weight above 0 is a number that the count falls by
+  pub step-falls : ltZ (pos 0) (weight n d) ≡ true → Falls (weight n d)
+  step-falls w = go (weight n d) w step-literals
     where
-      go : (z : ℤ) → ltZ (pos 0) z ≡ true → pos (literalCount (step n d)) ≡ pos (literalCount n) -ℤ z → literalCount (step n d) < literalCount n
-      go (pos m) h e =
-          let q = ap (_+ℤ pos m) e ∙ -ℤ-+ℤ-cancel (pos (literalCount n)) (pos m) in
-          let r : literalCount (step n d) + m ≡ literalCount n = cc in
-          omega (arith, ltb-true 0 m h)
+      go : (z : ℤ) → ltZ (pos 0) z ≡ true → pos (literalCount (step n d)) ≡ pos (literalCount n) -ℤ z → Falls z
+      go (pos m) h e = let q = ap (_+ℤ pos m) e ∙ -ℤ-+ℤ-cancel (pos (literalCount n)) (pos m) in (m, refl, ltb-true 0 m h, cc)
       go (negsuc m) h e = clash h refl
+
+  -- and makes the network smaller
+  pub step-smaller : ltZ (pos 0) (weight n d) ≡ true → literalCount (step n d) < literalCount n
+  step-smaller w = let f = step-falls w in omega (arith, f .2, f .3)

@@ -69,7 +69,7 @@ pub data Divides (n : Net) : Divisor → Type 0 where
   literals : {f : List (List ℕ)} {c : List ℕ} {p q : ℕ} → List·Memᴰ f (nodes n) → List·Memᴰ c f → List·Memᴰ p c → List·Memᴰ q c → p < q
       → Divides n (pair p q)
   -- two cubes of one node less their common base, where both parts have one or two literals, the smaller part first
-  parts : {f : List (List ℕ)} {c e a b : List ℕ} → List·Memᴰ f (nodes n) → List·Memᴰ c f → List·Memᴰ e f
+  twoParts : {f : List (List ℕ)} {c e a b : List ℕ} → List·Memᴰ f (nodes n) → List·Memᴰ c f → List·Memᴰ e f
       → a ≡ without c (meet c e) → b ≡ without e (meet c e) → small a ≡ true → small b ≡ true → before a b ≡ true → Divides n (sum a b)
 
 -- a divisor that a network can take: its own node is an expression over known variables
@@ -81,14 +81,14 @@ pub record Fit (n : Net) (d : Divisor) : Type 0 where
 -- ---- the choice
 
 -- the divisor has the greatest weight, and of those that have it it is the first
-pub record Best (n : Net) (d : Divisor) : Type 0 where
+pub record Foremost (n : Net) (d : Divisor) : Type 0 where
   pub chosen : List·Memᴰ d (candidates n)
   pub heaviest : (e : Divisor) → List·Memᴰ e (candidates n) → ltZ (weight n d) (weight n e) ≡ false
   pub first : (e : Divisor) → List·Memᴰ e (candidates n) → weight n e ≡ weight n d → sooner e d ≡ false
 
 -- it is the best one, and its weight is above 0
 pub record Worth (n : Net) (d : Divisor) : Type 0 where
-  pub best : Best n d
+  pub best : Foremost n d
   pub above : ltZ (pos 0) (weight n d) ≡ true
 
 -- no divisor has a weight above 0

@@ -82,6 +82,14 @@ runFrom (suc k) n = elim (move n) [
 unfoldable pub inOrder : Net → Net
 inOrder n = mapNodes sort n
 
+-- the network that a run starts from: in cube order, and prepared
+abbrev pub startOf : Net → Net
+startOf n = prepare (inOrder n)
+
 -- a run of k steps
 unfoldable pub run : ℕ → Net → Result
-run k n = runFrom k (prepare (inOrder n))
+run k n = runFrom k (startOf n)
+
+-- the steps that the program asks for
+abbrev pub askedSteps : ℕ
+askedSteps = 64

@@ -7,7 +7,7 @@ use native.Mathlib.Omega.{arith}
 use lib.ListN.{take}
 use Rattle.network.specs.Held.{rules}
 use Rattle.network.specs.Net.{Net}
-use Rattle.extract_laws.specs.Run.{run}
+use Rattle.extract_laws.specs.Run.{run, askedSteps}
 use Rattle.extract.specs.Answers.{madeOf}
 use Rattle.table.specs.Table.{readText}
 use Rattle.table.specs.Answers as table
@@ -17,8 +17,8 @@ use Rattle.table.specs.declared.Table.{Table}
 use Rattle.table.proofs.Telling.{told-refused}
 use Rattle.table.proofs.Keeping.{read-net, read-rules}
 use Rattle.report.specs.Report.{ranText, outcomeText, reportOf}
-use Rattle.report.specs.Parts.{Above, foundText, Steady, Explored}
-use Rattle.report.specs.Parts.Above.{none}
+use Rattle.report.specs.Parts.{EachSized, foundText, Steady, Explored}
+use Rattle.report.specs.Parts.EachSized.{none}
 use Rattle.report.specs.declared.Findings.{Findings}
 use Rattle.report.proofs.Lines.{found-read, found-refused}
 
@@ -32,7 +32,7 @@ module _ (t : List ℕ) (r : Table) (h : table.Told (readText t) r) where
   found-refusal k e f q = (
     record {
       few = omega (arith, q .1);
-      above = subst (λ (i : ℕ). Above (map madeOf (take i (f .steps .list)))) (sym (q .1)) none;
+      each = subst (λ (i : ℕ). EachSized (map madeOf (take i (f .steps .list)))) (sym (q .1)) none;
     },
     found-refused f k (q .0 ∙ e) ∙ sym (ap outcomeText (told-refused r (readText t) h k e)),
   )
@@ -44,4 +44,4 @@ module _ (t : List ℕ) (r : Table) (h : table.Told (readText t) r) where
     pub found-run : (f : Findings) → Explored (r .network) f → Steady (f .steps) × (foundText f ≡ reportOf t)
     unfolding reportOf outcomeText
     found-run f x = let s = read-net t r h e in
-        (x .steady, found-read f (x .answer) ∙ x .text ∙ ap (λ (n : Net). ranText n (run 64 n)) (s .2) ∙ sym (ap outcomeText (s .1)))
+        (x .steady, found-read f (x .answer) ∙ x .text ∙ ap (λ (n : Net). ranText n (run askedSteps n)) (s .2) ∙ sym (ap outcomeText (s .1)))

@@ -11,12 +11,11 @@ use Rattle.letters.specs.Letters.{decimal, nameText}
 use Rattle.letters_products.specs.Products.{literalText, cubeText}
 use Rattle.extract_laws.specs.Divisor.{Divisor, pair, sum}
 use Rattle.extract_laws.specs.Run.{Stop, Made}
-use Rattle.extract.specs.Answers.{madeOf, noMade}
-use Rattle.extract.specs.declared.Made as extract
-use Rattle.extract.specs.Answers.{stopOf}
+use Rattle.extract.specs.Answers.{madeOf, noMade, stopOf, madeIn}
+use Rattle.extract.specs.declared.Made as declared
 use Rattle.table.specs.declared.Refusal.{Refusal}
 use Rattle.table.specs.declared.Answer.the-variants.{Read, Refused}
-use Rattle.report.specs.Parts.{madeIn, runOf, unlessRefused, foundText}
+use Rattle.report.specs.Parts.{runOf, unlessRefused, foundText}
 use Rattle.report.specs.declared.Findings.{Findings}
 use Rattle.report.specs.Report.{divisorText, integer, stepLine, stepLines, stopText, runText, refusalText}
 
@@ -78,7 +77,7 @@ unfolding stepLines
 lines-first m l e = ap (λ z. stepLine (m .number) (m .divisor) z (pos (m .literals)) ++ stepLines l) (sym e)
 
 -- the steps from i on, of those that are counted
-pub made-next : (s : List extract.Made) (n i : ℕ) → i < n → n ≤ length s
+pub made-next : (s : List declared.Made) (n i : ℕ) → i < n → n ≤ length s
     → drop i (map madeOf (take n s)) ≡ madeOf (getD s i noMade) ∷ drop (i + 1) (map madeOf (take n s))
 made-next s n i h k =
     let e : length (take n s) ≡ n = length-take-le n s k in
@@ -86,7 +85,7 @@ made-next s n i h k =
     drop-next (map madeOf (take n s)) i (madeOf noMade) j
     ∙ ap (_∷ drop (i + 1) (map madeOf (take n s))) (getD-map (take n s) i ∙ ap madeOf (getD-take n s i noMade h))
   where
-    getD-map : (l : List extract.Made) (i : ℕ) → getD (map madeOf l) i (madeOf noMade) ≡ madeOf (getD l i noMade)
+    getD-map : (l : List declared.Made) (i : ℕ) → getD (map madeOf l) i (madeOf noMade) ≡ madeOf (getD l i noMade)
     getD-map [] i = refl
     getD-map (x ∷ l) zero = refl
     getD-map (x ∷ l) (suc i) = getD-map l i

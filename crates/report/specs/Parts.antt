@@ -1,18 +1,16 @@
 -- What the contracts of the writers say: weights that can be written, and what was found as values.
 use Prim.Native.Nat.{ℕ, _<_, _≤_}
 use mathlib.Core.Path.{_≡_}
-use mathlib.Core.List.{List, [], _∷_, map}
+use mathlib.Core.List.{List, [], _∷_}
 use lib.IntN.{ℤ, pos}
-use lib.ListN.{take}
-use Rattle.network.specs.Held.{netOf, mostVariables}
+use Rattle.network.specs.Held.{netOf}
 use Rattle.network.specs.declared.Network.{Network}
-use Rattle.extract_laws.specs.Run.{Made, run}
-use Rattle.extract.specs.Answers.{madeOf}
-use Rattle.extract.specs.Answers.{stopOf}
+use Rattle.extract_laws.specs.Run.{Made, run, askedSteps}
+use Rattle.extract.specs.Answers.{stopOf, places, madeIn}
 use Rattle.extract.specs.declared.Steps.{Steps}
 use Rattle.table.specs.declared.Answer.{Answer}
 use Rattle.table.specs.declared.Answer.the-variants.{Read, Refused}
-use Rattle.report.specs.Report.{runText, refusalText, askedSteps, ranText}
+use Rattle.report.specs.Report.{runText, refusalText, ranText}
 use Rattle.report.specs.declared.Findings.{Findings}
 
 -- a weight that is a number of 31 bits
@@ -22,13 +20,9 @@ pub record Sized (weight : ℤ) : Type 0 where
   pub small : size < 2147483648
 
 -- and so the weight of each step
-pub data Above : List Made → Type 0 where
-  none : Above []
-  more : {m : Made} {l : List Made} → Sized (m .weight) → Above l → Above (m ∷ l)
-
--- the steps that are counted
-abbrev pub madeIn : Steps → List Made
-madeIn s = map madeOf (take (s .count) (s .list))
+pub data EachSized : List Made → Type 0 where
+  none : EachSized []
+  more : {m : Made} {l : List Made} → Sized (m .weight) → EachSized l → EachSized (m ∷ l)
 
 -- the text of a run that was found
 unfoldable pub runOf : Findings → List ℕ
@@ -45,10 +39,10 @@ foundText f = unlessRefused (f .answer) (runOf f)
 
 -- the steps can be written
 pub record Steady (s : Steps) : Type 0 where
-  pub few : s .count ≤ mostVariables
-  pub above : Above (madeIn s)
+  pub few : s .count ≤ places
+  pub each : EachSized (madeIn s)
 
--- what a run of 64 steps leaves of a network
+-- what a run of the steps asked for leaves of a network
 pub record Explored (n : Network) (f : Findings) : Type 0 where
   pub answer : f .answer ≡ Read
   pub text : runOf f ≡ ranText (netOf n) (run askedSteps (netOf n))

@@ -6,7 +6,7 @@ use Rattle.letters.specs.Letters.{decimal}
 use Rattle.letters_products.specs.Products.{cubeText}
 use Rattle.network.specs.Net.{Net, literalCount}
 use Rattle.extract_laws.specs.Divisor.{Divisor, pair, sum}
-use Rattle.extract_laws.specs.Run.{Stop, done, asked, numbers, rows, Made, Result, run}
+use Rattle.extract_laws.specs.Run.{Stop, done, asked, numbers, rows, Made, Result, run, askedSteps}
 use Rattle.table.specs.Table.{Outcome, accepted, refused, readText, tableNet}
 use Rattle.table.specs.declared.Refusal.{Refusal}
 
@@ -47,10 +47,6 @@ runText start steps end stop =
 unfoldable pub refusalText : Refusal → List ℕ
 refusalText q =
     114 ∷ 101 ∷ 102 ∷ 117 ∷ 115 ∷ 101 ∷ 100 ∷ 32 ∷ (decimal (q .number) ++ (32 ∷ 97 ∷ 116 ∷ 32 ∷ 108 ∷ 105 ∷ 110 ∷ 101 ∷ 32 ∷ (decimal (q .line) ++ (10 ∷ []))))
-
--- the program asks for 64 steps
-abbrev pub askedSteps : ℕ
-askedSteps = 64
 
 -- a run on a network: the count at the end is over the network that is left
 unfoldable pub ranText : Net → Result → List ℕ

@@ -18,9 +18,9 @@ ghost use Rattle.letters.specs.Laid.{Laid};
 ghost use Rattle.letters.specs.Told.{Told};
 ghost use Rattle.extract_divisor.specs.Divisor.{divisorOf};
 ghost use Rattle.network.specs.Held.{rules};
-ghost use Rattle.extract.specs.Answers.{stopOf};
+ghost use Rattle.extract.specs.Answers.{stopOf, madeIn};
 ghost use Rattle.report.specs.Report.{divisorText, stepLine, stepLines, stopText, refusalText, reportOf};
-ghost use Rattle.report.specs.Parts.{madeIn, runOf, foundText, Steady, Explored};
+ghost use Rattle.report.specs.Parts.{runOf, foundText, Steady, Explored};
 
 // The program asks for 64 steps (`askedSteps`).
 pub const ASKED: u64 = 64;
@@ -133,8 +133,10 @@ fn put_run(o: &mut [u8], f: Findings) -> usize
 fn put_refusal(o: &mut [u8], refusal: Refusal) -> usize
     ensures { λ r. ⌜ Laid (now (o .entry)) (now (o .exit)) 0 r (refusalText refusal) ⌝ }
 {
-    let p = put_field(o, 0, b"refused ", refusal.number as u64);
-    let q = put_field(o, p, b" at line ", refusal.line as u64);
+    let number = refusal.number as u64;
+    let line = refusal.line as u64;
+    let p = put_field(o, 0, b"refused ", number);
+    let q = put_field(o, p, b" at line ", line);
     letters::put(o, q, b'\n')
 }
 

@@ -46,11 +46,11 @@ weighed c = c .before .before .before .before
 abbrev chosen : tie.At-match-keys1 Inv-loop μ-loop → tie.After-step Inv-loop μ-loop
 chosen c = c .before .before
 
-abbrev made : tie.After-made-by Inv-loop μ-loop → tie.After-step Inv-loop μ-loop
-made c = chosen (c .before .before .before)
+abbrev stepped : tie.After-made-by Inv-loop μ-loop → tie.After-step Inv-loop μ-loop
+stepped c = chosen (c .before .before .before)
 
 abbrev head : tie.After-made-by Inv-loop μ-loop → Loop
-head c = weighed (made c .before)
+head c = weighed (stepped c .before)
 
 -- ---- what holds there
 
@@ -74,33 +74,21 @@ shape : (c : tie.After-step Inv-loop μ-loop) → Shaped (c .step .result .netwo
 shape c = shape-of _ (search needs) (search needs)
 
 -- the step is listed, and the network has one variable more
-on : (c : tie.After-best2 Inv-loop μ-loop) → let t = made (c .before) in let l = head (c .before) in let n = t .step .result .network in
+on : (c : tie.After-best2 Inv-loop μ-loop) → let t = stepped (c .before) in let l = head (c .before) in let n = t .step .result .network in
     Going (start l .args .steps) (netOf (start l .args .n)) (set (l .loop .list) (l .loop .count) (c .before .made-by .result))
     (l .loop .count + 1) (l .loop .left - 1) n (c .best2 .result)
     × (n .inputs + n .divisors ≡ suc (l .loop .net .inputs + l .loop .net .divisors))
 on c =
     let m = c .before in
-    let t = made m in
+    let t = stepped m in
     going-on (head m .loop .inv) (above (t .before)) (omega arith) (t .step .result) (t .step .ensures) (shape t)
     (m .made-by .result) (m .made-by .ensures) (c .best2 .result) (c .best2 .ensures) (m .before .before .enum-told .given .1)
-
-no-list-requires : tie.Need-no-list-requires Inv-loop μ-loop
-no-list-requires c κs = search needs
-
-best-requires : tie.Need-best-requires Inv-loop μ-loop
-best-requires c κs = search needs
 
 loop-holds : tie.Need-loop-holds Inv-loop μ-loop
 loop-holds c =
     let s = c .before .before in
     going-first (s .args .steps) (s .args .n) (c .before .no-list .result) (c .best .result) (shape-of _ (search needs) (search needs)) (s .pre)
     (c .before .no-list .ensures) (c .best .ensures)
-
-ended-requires : tie.Need-ended-requires Inv-loop μ-loop
-ended-requires c κs = search needs
-
-ending-requires : tie.Need-ending-requires Inv-loop μ-loop
-ending-requires c κs = search needs
 
 returns : tie.Need-returns Inv-loop μ-loop
 returns c =
@@ -109,27 +97,12 @@ returns c =
     let w : toZ w32 (ofZ w32 (l .loop .s .weight)) ≡ l .loop .s .weight = toZ-ofZ {w = w32} {z = l .loop .s .weight} (search needs) in
     subst (Tells l) (sym (c .ending .ensures ∙ ap (with l) (e .ended .ensures ∙ ap endedAt w))) (going-ended (l .loop .inv) (e .before .before .if1 .taken))
 
-ending-requires-2 : tie.Need-ending-requires-2 Inv-loop μ-loop
-ending-requires-2 c κs = search needs
-
 returns-2 : tie.Need-returns-2 Inv-loop μ-loop
 returns-2 c =
     let r = c .before .before in
     let l = r .before .before .before in
     subst (Tells l) (sym (c .ending2 .ensures))
     (going-done (l .loop .inv) (le-not (l .loop .s .weight) (ap (λ w. leZ w (pos 0)) (sym (read r)) ∙ c .before .if2 .taken)))
-
-step-requires : tie.Need-step-requires Inv-loop μ-loop
-step-requires c κs = search needs
-
-enum-told : tie.Need-enum-told Inv-loop μ-loop
-enum-told c = search needs
-
-reason-requires : tie.Need-reason-requires Inv-loop μ-loop
-reason-requires c κs = search needs
-
-ending-requires-3 : tie.Need-ending-requires-3 Inv-loop μ-loop
-ending-requires-3 c κs = search needs
 
 returns-3 : tie.Need-returns-3 Inv-loop μ-loop
 returns-3 c =
@@ -141,9 +114,6 @@ returns-3 c =
     subst (Tells l) (sym (c .ending3 .ensures ∙ ap (with l) (c .before .reason .ensures)))
     (going-full (l .loop .inv) (above (t .before)) (omega arith) (t .step .result) (t .step .ensures) f)
 
-made-by-requires : tie.Need-made-by-requires Inv-loop μ-loop
-made-by-requires c κs = search needs
-
 mul-list : tie.Need-mul-list Inv-loop μ-loop
 mul-list c = omega (arith, going-room (head c .loop .inv))
 
@@ -152,12 +122,6 @@ array-set-from-list c = going-room (head c .loop .inv)
 
 add-count : tie.Need-add-count Inv-loop μ-loop
 add-count c = omega (arith, going-room (head c .loop .inv))
-
-sub-left : tie.Need-sub-left Inv-loop μ-loop
-sub-left c = search needs
-
-best-requires-2 : tie.Need-best-requires-2 Inv-loop μ-loop
-best-requires-2 c κs = search needs
 
 loop-less : tie.Need-loop-less Inv-loop μ-loop
 loop-less c = let g = on c in omega (arith, g .1, going-numbers (g .0))
@@ -171,24 +135,24 @@ follow-spec =
     (tie.spec
     Inv-loop
     μ-loop
-    no-list-requires
-    best-requires
+    (search needs)
+    (search needs)
     loop-holds
-    ended-requires
-    ending-requires
+    (search needs)
+    (search needs)
     returns
-    ending-requires-2
+    (search needs)
     returns-2
-    step-requires
-    enum-told
-    reason-requires
-    ending-requires-3
+    (search needs)
+    (search needs)
+    (search needs)
+    (search needs)
     returns-3
-    made-by-requires
+    (search needs)
     mul-list
     array-set-from-list
     add-count
-    sub-left
-    best-requires-2
+    (search needs)
+    (search needs)
     loop-less
     loop-again)

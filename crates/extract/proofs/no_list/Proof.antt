@@ -8,14 +8,8 @@ use borrow.Author.Needs.{needs}
 use Rattle.extract.proofs.no_list.Statement.{statement}
 use Rattle.extract.proofs.no_list.Tie as tie
 
-no-step-requires : tie.Need-no-step-requires
-no-step-requires c κs = search needs
-
-made-by-requires : tie.Need-made-by-requires
-made-by-requires c κs = search needs
-
 returns : tie.Need-returns
 returns c = ap (replicate places) (c .made-by .ensures ∙ ap (λ (s : Step). madeBy s (record { 0 = 0 }) 0) (c .before .no-step .ensures))
 
 pub no-list-spec : {M : Type 1} → statement M
-no-list-spec = tie.close (tie.spec no-step-requires made-by-requires returns)
+no-list-spec = tie.close (tie.spec (search needs) (search needs) returns)

@@ -6,11 +6,8 @@ use borrow.Author.Needs.{needs}
 use Rattle.extract.proofs.no_steps.Statement.{statement}
 use Rattle.extract.proofs.no_steps.Tie as tie
 
-no-list-requires : tie.Need-no-list-requires
-no-list-requires c κs = search needs
-
 returns : tie.Need-returns
 returns c = ap (λ (l : List Made). record { count = 0; list = l }) (c .no-list .ensures)
 
 pub no-steps-spec : {M : Type 1} → statement M
-no-steps-spec = tie.close (tie.spec no-list-requires returns)
+no-steps-spec = tie.close (tie.spec (search needs) returns)

@@ -20,18 +20,6 @@ kept : (c : tie.After-enum-told) → let i = c .before .before .before in let n 
 kept c = let i = c .before .before .before in told-accepted (i .before .args .n) (inOrder (netOf (i .before .args .n))) (i .in-order .result)
     (i .in-order .ensures) (c .enum-told .given .1)
 
-in-order-requires : tie.Need-in-order-requires
-in-order-requires c κs = search needs
-
-enum-told : tie.Need-enum-told
-enum-told c = search needs
-
-enum-told-2 : tie.Need-enum-told-2
-enum-told-2 c = search needs
-
-no-steps-requires : tie.Need-no-steps-requires
-no-steps-requires c κs = search needs
-
 returns : tie.Need-returns
 returns c =
     let m = c .before in
@@ -57,10 +45,10 @@ pub run-spec : {M : Type 1} → statement M
 run-spec =
     tie.close
     (tie.spec
-    in-order-requires
-    enum-told
-    enum-told-2
-    no-steps-requires
+    (search needs)
+    (search needs)
+    (search needs)
+    (search needs)
     returns
     follow-requires
     returns-2)

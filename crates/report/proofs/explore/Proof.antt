@@ -7,7 +7,7 @@ use Rattle.network.specs.Net.{literalCount}
 use Rattle.network.specs.Held.{netOf}
 use Rattle.network.specs.Answers.{counted}
 use Rattle.network.specs.declared.Number.the-variants.{Is, No}
-use Rattle.extract_laws.specs.Run.{run}
+use Rattle.extract_laws.specs.Run.{run, askedSteps}
 use Rattle.network.specs.Handed.{Shaped}
 use Rattle.network.proofs.Handing.{shape-of}
 use Rattle.report.proofs.Exploring.{counted-rules, never-refused, counted-after, explored}
@@ -24,53 +24,6 @@ clash x k e = let z : _≡_ {A = ℕ} 0 1 = cc in omega arith
 same : (x y : ℕ) → Is x ≡ Is y → x ≡ y
 same x y e = cc
 
-run-requires : tie.Need-run-requires
-run-requires c κs = search needs
-
-enum-known-answer : tie.Need-enum-known-answer
-enum-known-answer c = search needs
-
-enum-told : tie.Need-enum-told
-enum-told c = search needs
-
-refused-requires : tie.Need-refused-requires
-refused-requires c κs = search needs
-
-returns : tie.Need-returns
-returns c =
-    let s = c .before .before .before .before in
-    absurd (never-refused (s .args .n) (shape s) (s .pre) (c .before .before .before .run .result) (c .before .before .before .run .ensures) _
-    (c .before .enum-told .given .1))
-
-literals-requires : tie.Need-literals-requires
-literals-requires c κs = search needs
-
-enum-known-start : tie.Need-enum-known-start
-enum-known-start c = search needs
-
-enum-told-2 : tie.Need-enum-told-2
-enum-told-2 c = search needs
-
-refused-requires-2 : tie.Need-refused-requires-2
-refused-requires-2 c κs = search needs
-
-returns-2 : tie.Need-returns-2
-returns-2 c =
-    let s = c .before .before .before .before .before .before .before .before in
-    absurd (clash _ _ (sym (counted-rules (s .args .n) (s .pre)) ∙ sym (c .before .before .before .literals .ensures) ∙ c .before .enum-told2 .given .1))
-
-literals-requires-2 : tie.Need-literals-requires-2
-literals-requires-2 c κs = search needs
-
-enum-known-end : tie.Need-enum-known-end
-enum-known-end c = search needs
-
-enum-told-3 : tie.Need-enum-told-3
-enum-told-3 c = search needs
-
-refused-requires-3 : tie.Need-refused-requires-3
-refused-requires-3 c κs = search needs
-
 -- the states of the walk: after the run, after the start and the end are counted
 abbrev ran : tie.After-literals → tie.After-run
 ran c = c .before .before .before .before
@@ -78,8 +31,19 @@ ran c = c .before .before .before .before
 abbrev counted-first : tie.After-literals2 → tie.After-literals
 counted-first c = c .before .before .before .before
 
+returns : tie.Need-returns
+returns c =
+    let s = c .before .before .before .before in
+    absurd (never-refused (s .args .n) (shape s) (s .pre) (c .before .before .before .run .result) (c .before .before .before .run .ensures) _
+    (c .before .enum-told .given .1))
+
+returns-2 : tie.Need-returns-2
+returns-2 c =
+    let b = c .before .before .before in
+    absurd (clash _ _ (sym (counted-rules _ (ran b .before .pre)) ∙ sym (b .literals .ensures) ∙ c .before .enum-told2 .given .1))
+
 -- the literals that are left
-left : (c : tie.After-run) → let s = c .before .args .n in counted (c .run .result .network) ≡ Is (literalCount (run 64 (netOf s) .network))
+left : (c : tie.After-run) → let s = c .before .args .n in counted (c .run .result .network) ≡ Is (literalCount (run askedSteps (netOf s) .network))
 left c = let s = c .before in counted-after (s .args .n) (shape s) (s .pre) (c .run .result) (c .run .ensures)
 
 returns-3 : tie.Need-returns-3
@@ -101,19 +65,19 @@ pub explore-spec : {M : Type 1} → statement M
 explore-spec =
     tie.close
     (tie.spec
-    run-requires
-    enum-known-answer
-    enum-told
-    refused-requires
+    (search needs)
+    (search needs)
+    (search needs)
+    (search needs)
     returns
-    literals-requires
-    enum-known-start
-    enum-told-2
-    refused-requires-2
+    (search needs)
+    (search needs)
+    (search needs)
+    (search needs)
     returns-2
-    literals-requires-2
-    enum-known-end
-    enum-told-3
-    refused-requires-3
+    (search needs)
+    (search needs)
+    (search needs)
+    (search needs)
     returns-3
     returns-4)

@@ -9,31 +9,31 @@ use lib.ListN.{length, getD, take, drop, length-map, drop-of-length-le}
 use lib.Seq.{length-take-le}
 use Rattle.letters.proofs.Laying.{Due, due-all, due-as, due-next, due-done}
 use Rattle.extract_laws.specs.Run.{Made}
-use Rattle.extract.specs.Answers.{madeOf, noMade}
+use Rattle.extract.specs.Answers.{madeOf, noMade, places}
 use Rattle.report.specs.Report.{stepLines, stepLine}
-use Rattle.report.specs.Parts.{Sized, Above}
+use Rattle.report.specs.Parts.{Sized, EachSized}
 use Rattle.report.proofs.Lines.{lines-none, lines-first, made-next}
-use Rattle.report.proofs.Counting.{sized-read, sized-above, above-first}
+use Rattle.report.proofs.Counting.{sized-read, sized-above, each-first}
 use Rattle.report.proofs.put_steps.Statement.{statement}
 use Rattle.report.proofs.put_steps.Tie as tie
 
 abbrev Inv-loop : tie.InvT-loop
 Inv-loop o₀ at n list p₀ i₀ o p i =
     let l = map madeOf (take n list) in
-    (i ≤ n) × Due o₀ p₀ (stepLines l) o p (stepLines (drop i l)) × Above (drop i l) × (length o ≡ length o₀)
+    (i ≤ n) × Due o₀ p₀ (stepLines l) o p (stepLines (drop i l)) × EachSized (drop i l) × (length o ≡ length o₀)
 
 abbrev μ-loop : tie.MeasureT-loop
 μ-loop o₀ at n list p₀ i₀ o p i = n - i
 
--- the steps, and how many places there are for them
+-- the steps, and the room for them
 abbrev steps : tie.Start Inv-loop μ-loop → List Made
 steps s = map madeOf (take (s .args .steps .count) (s .args .steps .list))
 
-places : (s : tie.Start Inv-loop μ-loop) → length (s .args .steps .list) ≡ 64
-places s = sym (length-map (s .args .steps .list) _) ∙ s .good .1 .1 .0 .1 .1 .1 .0 .1 .0 .1
+room : (s : tie.Start Inv-loop μ-loop) → length (s .args .steps .list) ≡ places
+room s = sym (length-map (s .args .steps .list) _) ∙ s .good .1 .1 .0 .1 .1 .1 .0 .1 .0 .1
 
 loop-holds : tie.Need-loop-holds Inv-loop μ-loop
-loop-holds c = (omega arith, due-all _ _ (omega arith) (omega arith) refl, c .before .before .pre .above, refl)
+loop-holds c = (omega arith, due-all _ _ (omega arith) (omega arith) refl, c .before .before .pre .each, refl)
 
 abbrev begun : tie.At-loop Inv-loop μ-loop → tie.Start Inv-loop μ-loop
 begun c = c .before .before .before
@@ -49,10 +49,10 @@ module _ (c : tie.In-loop Inv-loop μ-loop) where
   next : drop (c .before .loop .i) (steps (begun (c .before))) ≡ step ∷ others
   next =
       let s = begun (c .before) in
-      made-next (s .args .steps .list) (s .args .steps .count) (c .before .loop .i) (c .loop-test .taken) (omega (arith, places s, s .pre .few))
+      made-next (s .args .steps .list) (s .args .steps .count) (c .before .loop .i) (c .loop-test .taken) (omega (arith, room s, s .pre .few))
 
-  above : Sized (step .weight) × Above others
-  above = above-first (subst (λ l. Above l) next (c .before .loop .inv .2))
+  weights : Sized (step .weight) × EachSized others
+  weights = each-first (subst (λ l. EachSized l) next (c .before .loop .inv .2))
 
 mul-s : tie.Need-mul-s Inv-loop μ-loop
 mul-s c = omega (arith, begun (c .before) .pre .few, c .loop-test .taken)
@@ -60,17 +60,14 @@ mul-s c = omega (arith, begun (c .before) .pre .few, c .loop-test .taken)
 array-copy-out-s : tie.Need-array-copy-out-s Inv-loop μ-loop
 array-copy-out-s c = omega (arith, begun (c .before) .pre .few, c .loop-test .taken)
 
-cast-put-step : tie.Need-cast-put-step Inv-loop μ-loop
-cast-put-step c = search needs
-
 size-requires : tie.Need-size-requires Inv-loop μ-loop
-size-requires c κs = sized-above (above (c .before .before .before .before .before) .0)
+size-requires c κs = sized-above (weights (c .before .before .before .before .before) .0)
 
-put-step-requires : tie.Need-put-step-requires Inv-loop μ-loop
-put-step-requires c κs = search needs
+abbrev read : tie.After-size Inv-loop μ-loop → tie.After-s Inv-loop μ-loop
+read c = c .before .before .before .before .before
 
 abbrev inside : tie.After-size Inv-loop μ-loop → tie.In-loop Inv-loop μ-loop
-inside c = c .before .before .before .before .before .before
+inside c = read c .before
 
 -- the line of step i is due, then those after it
 line : (c : tie.After-size Inv-loop μ-loop) → let i = inside c in let h = i .before in let s = begun h .args in
@@ -78,7 +75,7 @@ line : (c : tie.After-size Inv-loop μ-loop) → let i = inside c in let h = i .
     (stepLine (step i .number) (step i .divisor) (pos (c .size .result)) (pos (step i .literals)) ++ stepLines (others i))
 line c =
     let i = inside c in
-    due-as (i .before .loop .inv .1) (ap stepLines (next i) ∙ lines-first (step i) (others i) (c .size .ensures ∙ sized-read (above i .0)))
+    due-as (i .before .loop .inv .1) (ap stepLines (next i) ∙ lines-first (step i) (others i) (c .size .ensures ∙ sized-read (weights i .0)))
 
 abbrev turned : tie.After-slice-known2 Inv-loop μ-loop → tie.After-size Inv-loop μ-loop
 turned c = c .before .before .before
@@ -93,7 +90,7 @@ loop-again : tie.Need-loop-again Inv-loop μ-loop
 loop-again c =
     let i = inside (turned c) in
     let w = c .before .before .put-step in
-    (omega (arith, i .loop-test .taken), due-next (line (turned c)) (w .ensures), above i .1, w .kept .0 ∙ i .before .loop .inv .3)
+    (omega (arith, i .loop-test .taken), due-next (line (turned c)) (w .ensures), weights i .1, w .kept .0 ∙ i .before .loop .inv .3)
 
 same-length : tie.Need-same-length Inv-loop μ-loop
 same-length c = c .before .loop .inv .3
@@ -104,7 +101,7 @@ returns c =
     let s = begun h in
     let n = s .args .steps .count in
     let l = s .args .steps .list in
-    let whole = length-take-le n l (omega (arith, places s, s .pre .few)) in
+    let whole = length-take-le n l (omega (arith, room s, s .pre .few)) in
     let e : length (steps s) ≤ h .loop .i = omega (arith, c .loop-test .left, length-map (take n l) madeOf, whole) in
     due-done (due-as (h .loop .inv .1) (ap stepLines (drop-of-length-le (steps s) e) ∙ lines-none))
 
@@ -117,9 +114,9 @@ put-steps-spec =
     loop-holds
     mul-s
     array-copy-out-s
-    cast-put-step
+    (search needs)
     size-requires
-    put-step-requires
+    (search needs)
     add-i
     loop-less
     loop-again

@@ -12,21 +12,6 @@ use Rattle.report.specs.Report.{reportOf}
 use Rattle.report.proofs.report.Statement.{statement}
 use Rattle.report.proofs.report.Tie as tie
 
-find-requires : tie.Need-find-requires
-find-requires c κs = search needs
-
-slice-relend-prefix-put-findings : tie.Need-slice-relend-prefix-put-findings
-slice-relend-prefix-put-findings c = search needs
-
-slice-aggregate-put-findings : tie.Need-slice-aggregate-put-findings
-slice-aggregate-put-findings c = search needs
-
-put-findings-requires : tie.Need-put-findings-requires
-put-findings-requires c κs = c .before .find .ensures .0
-
-same-length : tie.Need-same-length
-same-length c = search needs
-
 -- the states of the walk: after the table is read and run, after the report is counted in no room
 abbrev found : tie.After-put-findings → tie.After-find
 found c = c .before .before
@@ -48,12 +33,6 @@ returns c =
     let o = begun p .args .room .now in
     told-long _ _ _ (laid-long (whole p) (length o) (omega arith) (omega (arith, ap length (kept p), c .if1 .taken))) (kept p)
 
-put-findings-requires-2 : tie.Need-put-findings-requires-2
-put-findings-requires-2 c κs = found (c .before .before .before .before) .find .ensures .0
-
-same-length-2 : tie.Need-same-length-2
-same-length-2 c = search needs
-
 returns-2 : tie.Need-returns-2
 returns-2 c =
     let e = c .before .before .before .before in
@@ -70,12 +49,12 @@ pub report-spec : {M : Type 1} → statement M
 report-spec =
     tie.close
     (tie.spec
-    find-requires
-    slice-relend-prefix-put-findings
-    slice-aggregate-put-findings
-    put-findings-requires
-    same-length
+    (search needs)
+    (search needs)
+    (search needs)
+    (λ c κs. search needs)
+    (search needs)
     returns
-    put-findings-requires-2
-    same-length-2
+    (λ c κs. search needs)
+    (search needs)
     returns-2)
