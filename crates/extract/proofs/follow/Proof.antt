@@ -132,27 +132,6 @@ loop-again c = on c .0
 pub follow-spec : {M : Type 1} → statement M
 follow-spec =
     tie.close
-    (tie.spec
-    Inv-loop
-    μ-loop
-    (search needs)
-    (search needs)
-    loop-holds
-    (search needs)
-    (search needs)
-    returns
-    (search needs)
-    returns-2
-    (search needs)
-    (search needs)
-    (search needs)
-    (search needs)
-    returns-3
-    (search needs)
-    mul-list
-    array-set-from-list
-    add-count
-    (search needs)
-    (search needs)
-    loop-less
-    loop-again)
+    (tie.spec Inv-loop μ-loop (search needs) (search needs) loop-holds (search needs) (search needs) returns (search needs) returns-2 (search needs)
+    (search needs) (search needs) (search needs) returns-3 (search needs) mul-list array-set-from-list add-count (search needs) (search needs)
+    loop-less loop-again)

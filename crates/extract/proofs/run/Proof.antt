@@ -42,13 +42,4 @@ returns-2 c =
     start-told (s .args .n) (i .in-order .result .network) (shape s) (kept m .0) (kept m .1) (s .args .steps) (c .follow .result) (c .follow .ensures)
 
 pub run-spec : {M : Type 1} → statement M
-run-spec =
-    tie.close
-    (tie.spec
-    (search needs)
-    (search needs)
-    (search needs)
-    (search needs)
-    returns
-    follow-requires
-    returns-2)
+run-spec = tie.close (tie.spec (search needs) (search needs) (search needs) (search needs) returns follow-requires returns-2)

@@ -64,20 +64,5 @@ returns-4 c =
 pub explore-spec : {M : Type 1} → statement M
 explore-spec =
     tie.close
-    (tie.spec
-    (search needs)
-    (search needs)
-    (search needs)
-    (search needs)
-    returns
-    (search needs)
-    (search needs)
-    (search needs)
-    (search needs)
-    returns-2
-    (search needs)
-    (search needs)
-    (search needs)
-    (search needs)
-    returns-3
-    returns-4)
+    (tie.spec (search needs) (search needs) (search needs) (search needs) returns (search needs) (search needs) (search needs) (search needs)
+    returns-2 (search needs) (search needs) (search needs) (search needs) returns-3 returns-4)

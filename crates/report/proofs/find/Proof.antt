@@ -14,13 +14,4 @@ returns-2 : tie.Need-returns-2
 returns-2 c = let t = c .before .before .before .before in found-run _ _ (t .read .ensures) (c .before .before .enum-told .given .1) _ (c .explore .ensures)
 
 pub find-spec : {M : Type 1} → statement M
-find-spec =
-    tie.close
-    (tie.spec
-    (search needs)
-    (search needs)
-    (search needs)
-    (search needs)
-    returns
-    explore-requires
-    returns-2)
+find-spec = tie.close (tie.spec (search needs) (search needs) (search needs) (search needs) returns explore-requires returns-2)

@@ -20,13 +20,4 @@ returns c =
 pub put-run-spec : {M : Type 1} → statement M
 put-run-spec =
     tie.close
-    (tie.spec
-    (search needs)
-    (search needs)
-    (search needs)
-    (λ c κs. search needs)
-    (search needs)
-    (search needs)
-    (search needs)
-    (search needs)
-    returns)
+    (tie.spec (search needs) (search needs) (search needs) (λ c κs. search needs) (search needs) (search needs) (search needs) (search needs) returns)

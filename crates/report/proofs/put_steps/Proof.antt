@@ -108,17 +108,5 @@ returns c =
 pub put-steps-spec : {M : Type 1} → statement M
 put-steps-spec =
     tie.close
-    (tie.spec
-    Inv-loop
-    μ-loop
-    loop-holds
-    mul-s
-    array-copy-out-s
-    (search needs)
-    size-requires
-    (search needs)
-    add-i
-    loop-less
-    loop-again
-    same-length
+    (tie.spec Inv-loop μ-loop loop-holds mul-s array-copy-out-s (search needs) size-requires (search needs) add-i loop-less loop-again same-length
     returns)

@@ -48,13 +48,5 @@ returns-2 c =
 pub report-spec : {M : Type 1} → statement M
 report-spec =
     tie.close
-    (tie.spec
-    (search needs)
-    (search needs)
-    (search needs)
-    (λ c κs. search needs)
-    (search needs)
-    returns
-    (λ c κs. search needs)
-    (search needs)
+    (tie.spec (search needs) (search needs) (search needs) (λ c κs. search needs) (search needs) returns (λ c κs. search needs) (search needs)
     returns-2)
