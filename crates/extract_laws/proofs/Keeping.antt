@@ -7,7 +7,7 @@ use mathlib.Core.Bool.{true}
 use mathlib.Core.List.{List, [], _∷_, List·Memᴰ·not-nil, List·Memᴰ·cases-cons}
 use native.Mathlib.Omega.{arith}
 use lib.ListN.{length, length-map}
-use lib.IntN.{ℤ, pos, negℤ, _+ℤ_, _-ℤ_, +ℤ-idr, +ℤ-assoc, negℤ-+ℤ}
+use lib.IntN.{pos, negℤ, _+ℤ_, _-ℤ_, +ℤ-idr, +ℤ-assoc, negℤ-+ℤ}
 use Rattle.sets.proofs.Lists.{_∈_}
 use Rattle.expression.specs.Expression.{ordered}
 use Rattle.network.specs.Net.{Net, nodes, variables, cubeCount, literalCount}
@@ -102,10 +102,6 @@ leads-counts (onward {n = n} {l = l} d w a b t) g s i = elim (List·Memᴰ·case
   }
 ]
 
--- the weights one by one, or their sum
-less : (x a b : ℤ) → (x -ℤ a) -ℤ b ≡ x -ℤ (a +ℤ b)
-less x a b = +ℤ-assoc x (negℤ a) (negℤ b) ∙ ap (x +ℤ_) (sym (negℤ-+ℤ a b))
-
 -- nothing is done before a step, and so the literal count falls by exactly the sum of the weights
 pub leads-literals : {n m : Net} {l : List Made} → Leads n l m → Good n → pos (literalCount m) ≡ pos (literalCount n) -ℤ fall l
 unfolding fall
@@ -114,7 +110,7 @@ leads-literals (onward {n = n} {l = l} d w a b t) g =
     leads-literals t (after-good g w)
     ∙ ap (λ p. pos (literalCount p) -ℤ fall l) (prepare-same (step n d))
     ∙ ap (_-ℤ fall l) (step-literals n g d (worth-fit g w .whole))
-    ∙ less (pos (literalCount n)) (weight n d) (fall l)
+    ∙ +ℤ-assoc (pos (literalCount n)) (negℤ (weight n d)) (negℤ (fall l)) ∙ ap (pos (literalCount n) +ℤ_) (sym (negℤ-+ℤ (weight n d) (fall l)))
 
 -- ---- a run
 

@@ -72,15 +72,12 @@ module _ (n : Net) (d : Divisor) where
   pub step-turn : InTurn n → InTurn (step n d)
   unfolding nextFree
   step-turn t =
+      let fs = map (rewrite (2 * nextFree n) d) (cubes (n .divisors)) in
+      let same : length (n .divisors) ≡ length fs =
+      sym (length-map (cubes (n .divisors)) (rewrite (2 * nextFree n) d) ∙ length-map (n .divisors) (λ (e : Node). e .cubes)) in
       ap (_++ (record { number = nextFree n; cubes = own d } ∷ []))
       (ap (map (redo (2 * nextFree n) d)) t ∙ numbered-map (rewrite (2 * nextFree n) d) (n .inputs) (cubes (n .divisors)))
       ∙ ap (λ k. numbered (n .inputs) fs ++ (record { number = n .inputs + k; cubes = own d } ∷ [])) same
       ∙ sym (numbered-snoc (n .inputs) fs (own d))
       ∙ ap (numbered (n .inputs)) (sym (map-append (λ (e : Node). e .cubes) (map (redo (2 * nextFree n) d) (n .divisors))
       (record { number = nextFree n; cubes = own d } ∷ []) ∙ ap (_++ (own d ∷ [])) (cubes-map (rewrite (2 * nextFree n) d) (n .divisors))))
-    where
-      fs : List (List (List ℕ))
-      fs = map (rewrite (2 * nextFree n) d) (cubes (n .divisors))
-
-      same : length (n .divisors) ≡ length fs
-      same = sym (length-map (cubes (n .divisors)) (rewrite (2 * nextFree n) d) ∙ length-map (n .divisors) (λ (e : Node). e .cubes))

@@ -136,23 +136,13 @@ module _ (n : Net) (g : Good n) where
   candidate-in d (literals {c = c} m i k l h) =
       Memᴰ·append-left (gather sumsIn (nodes n)) (gather-in (gather pairsIn) m (gather-in pairsIn i (pairs-made c (in-asc m i) k l h)))
   candidate-in d (twoParts {f = f} {c = c} {e = e} {a = a} {b = b} m i j p q sa sb l) =
-      Memᴰ·append-right (gather (gather pairsIn) (nodes n)) (gather-in sumsIn m
-      (sums-made f (sum a b) i j differ (subst (_∈ sumOf c e) same (w .0)) (subst (_∈ sumOf e c) same (w .1))))
-    where
-      ea : a ≡ without c e
-      ea = p ∙ less-left c e (in-asc m i)
-
-      eb : b ≡ without e c
-      eb = q ∙ less-right c e (in-asc m j)
-
-      same : sum (without c e) (without e c) ≡ sum a b
-      same = ap₂ sum (sym ea) (sym eb)
-
-      w : (sum (without c e) (without e c) ∈ sumOf c e) × (sum (without c e) (without e c) ∈ sumOf e c)
-      w = sum-of-in c e (rw (← ea) sa) (rw (← eb) sb) (rw (← ea, ← eb) l)
-
-      differ : c ≡ e → ⊥
-      differ z = parts-differ a b sa (rw (ea, eb) (parts-apart c e)) (ea ∙ ap₂ without z (sym z) ∙ sym eb)
+      let ea : a ≡ without c e = p ∙ less-left c e (in-asc m i) in
+      let eb : b ≡ without e c = q ∙ less-right c e (in-asc m j) in
+      let same : sum (without c e) (without e c) ≡ sum a b = ap₂ sum (sym ea) (sym eb) in
+      let w = sum-of-in c e (rw (← ea) sa) (rw (← eb) sb) (rw (← ea, ← eb) l) in
+      Memᴰ·append-right (gather (gather pairsIn) (nodes n)) (gather-in sumsIn m (sums-made f (sum a b) i j
+      (λ z. parts-differ a b sa (rw (ea, eb) (parts-apart c e)) (ea ∙ ap₂ without z (sym z) ∙ sym eb))
+      (subst (_∈ sumOf c e) same (w .0)) (subst (_∈ sumOf e c) same (w .1))))
 
   -- the candidates are the divisors of the network
   pub candidate-iff : (d : Divisor) → (d ∈ candidates n) ↔ Divides n d
@@ -164,13 +154,7 @@ module _ (n : Net) (g : Good n) where
   divides-used (twoParts {f = f} {c = c} {e = e} {a = a} {b = b} m i j p q sa sb l) =
       let ea : a ≡ without c e = p ∙ less-left c e (in-asc m i) in
       let eb : b ≡ without e c = q ∙ less-right c e (in-asc m j) in (
-        rw (
-          ap asc ea ∙ without-asc c e (in-asc m i),
-          ap asc eb ∙ without-asc e c (in-asc m j),
-          ap₂ apart ea eb ∙ parts-apart c e,
-          sa,
-          sb,
-        ) l,
+        rw (ap asc ea ∙ without-asc c e (in-asc m i), ap asc eb ∙ without-asc e c (in-asc m j), ap₂ apart ea eb ∙ parts-apart c e, sa, sb) l,
         (f, m, (c, i, rw (ea, eb) (parts-use c e (in-asc m j) f j))),
       )
 
@@ -182,13 +166,9 @@ module _ (n : Net) (g : Good n) where
       let w = sum-parts a b s in
       let u = use-out a b f c h in
       let e = g .expressions f m in
-      rw (
-        w .asc-a,
-        w .asc-b,
-        proper-sub a c (u .inside) (cube-proper f e i),
-        proper-sub b (other a b c) (union-right (without c a) b) (cube-proper f e (u .partner)),
-        loose-in a b (small-sub a b (w .small-a) (w .disjoint)) (small-sub b a (w .small-b) (apart-flip a b (w .disjoint))),
-      )
+      let proper-b = proper-sub b (other a b c) (union-right (without c a) b) (cube-proper f e (u .partner)) in
+      let free = loose-in a b (small-sub a b (w .small-a) (w .disjoint)) (small-sub b a (w .small-b) (apart-flip a b (w .disjoint))) in
+      rw (w .asc-a, w .asc-b, proper-sub a c (u .inside) (cube-proper f e i), proper-b, free)
 
   -- its own node is an expression over known variables
   pub candidate-fit : (d : Divisor) → d ∈ candidates n → Fit n d

@@ -18,8 +18,6 @@ use Rattle.extract_laws.specs.Meaning.{Good, Fit}
 use Rattle.extract_laws.proofs.Replacing.{rewrite-reads, own-reads}
 use Rattle.extract_laws.proofs.Making.{next-free, below-free, step-divisor}
 
--- ---- no divisor reads itself through others after a step
-
 module _ (n : Net) (g : Good n) (d : Divisor) (fit : Fit n d) where
   old-below : {c : Node} → c ∈ n .divisors → c .number < nextFree n
   old-below {c} m =

@@ -62,16 +62,12 @@ module _ (n : Net) (g : Good n) (d : Divisor) (fit : Fit n d) where
         (lit-plain a (nextFree n) ∙ c .divisors (record { number = nextFree n; cubes = own d })
         (Memᴰ·append-right (map (redo (2 * nextFree n) d) (n .divisors)) (here refl)))
 
-    -- what fits the step's network fits the network before
-    step-consistent : Consistent n s a
-    step-consistent =
-        mapped-consistent (rewrite (2 * nextFree n) d) n a kept s (record { inputs = c .inputs; divisors = λ e i. c .divisors e (Memᴰ·append-left _ i) })
-
-  -- with the same outputs: those after a step are those before, for every setting
+  -- so what fits the step's network fits the network before, and outputs after a step are those before, for every setting
   pub step-evaluate : (s : ℕ) → evaluate (step n d) s ≡ evaluate n s
   step-evaluate s =
       let a = settle (step n d) (listing (step n d)) (bit s) in
       let c = evaluate-settled (step n d) (good-sound (step n d) step-good) s in
       evaluate-read (step n d) (good-sound (step n d) step-good) s a c
       ∙ ap packed (mapped-answers (rewrite (2 * nextFree n) d) n a (kept (bit s) a c))
-      ∙ sym (evaluate-read n (good-sound n g) s a (step-consistent (bit s) a c))
+      ∙ sym (evaluate-read n (good-sound n g) s a (mapped-consistent (rewrite (2 * nextFree n) d) n a (kept (bit s) a c) (bit s)
+      (record { inputs = c .inputs; divisors = λ e i. c .divisors e (Memᴰ·append-left _ i) })))

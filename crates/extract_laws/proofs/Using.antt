@@ -135,20 +135,13 @@ base-flip r = record { ascending = r .ascending; off-a = r .off-b; off-b = r .of
 -- the uses take away their cubes and no others
 pub gone-iff : (d : Divisor) → sound d ≡ true → (f : List (List ℕ)) → expression f ≡ true → {c : List ℕ} → c ∈ f → (gone d f c ≡ true) ↔ InUse d f c
 gone-iff (pair p q) s f e {c} m = pair-hit p q c
-gone-iff (sum a b) s f e {c} m = (into, back)
-  where
-    w : Parts a b
-    w = sum-parts a b s
-
-    into : gone (sum a b) f c ≡ true → InUse (sum a b) f c
-    into h = elim (either (useOf a b f c) (useOf b a f c) h) [
-      | inl u ↦ let r = use-base a b (w .asc-a) f e m u in (without c a, r .0, inl (r .1))
-      | inr u ↦ let r = use-base b a (w .asc-b) f e m u in (without c b, base-flip (r .0), inr (r .1))
-    ]
-
-    back : InUse (sum a b) f c → gone (sum a b) f c ≡ true
-    back (z, r, inl p) = rw (p, base-use a b (w .asc-a) f r)
-    back (z, r, inr p) = rw (p, base-use b a (w .asc-b) f (base-flip r), or-true)
+gone-iff (sum a b) s f e {c} m = let w = sum-parts a b s in (
+  λ h. elim (either (useOf a b f c) (useOf b a f c) h) [
+    | inl u ↦ let r = use-base a b (w .asc-a) f e m u in (without c a, r .0, inl (r .1))
+    | inr u ↦ let r = use-base b a (w .asc-b) f e m u in (without c b, base-flip (r .0), inr (r .1))
+  ],
+  λ (z, r, o). elim o [ inl p ↦ rw (p, base-use a b (w .asc-a) f r) | inr p ↦ rw (p, base-use b a (w .asc-b) f (base-flip r), or-true) ],
+)
 
 module _ (a b : List ℕ) (w : Parts a b) (f : List (List ℕ)) (e : expression f ≡ true) where
   -- a base of a sum shares no literal with its parts, and with either it is a cube of the expression
@@ -176,16 +169,10 @@ module _ (a b : List ℕ) (w : Parts a b) (f : List (List ℕ)) (e : expression 
 crossed : (a b : List ℕ) → Parts a b → (f : List (List ℕ)) (c d : List ℕ) → Base a b f c → union c a ≡ union d b → ⊥
 unfolding small
 crossed a [] w f c d h e = false≢true (w .small-b)
-crossed a (z ∷ b) w f c d h e = clash inside outside
-  where
-    own : mem z (z ∷ b) ≡ true
-    own = mem-of (here refl)
-
-    inside : mem z (union c a) ≡ true
-    inside = rw e (sub-out (z ∷ b) (union d (z ∷ b)) z (union-right d (z ∷ b)) own)
-
-    outside : mem z (union c a) ≡ false
-    outside = rw (union-mem, refuted (λ k. clash own (apart-out c (z ∷ b) z (h .off-b) k))) (refuted (λ k. clash own (apart-out a (z ∷ b) z (w .disjoint) k)))
+crossed a (z ∷ b) w f c d h e =
+    let own : mem z (z ∷ b) ≡ true = mem-of (here refl) in
+    clash {b = mem z (union c a)} (rw e (sub-out (z ∷ b) (union d (z ∷ b)) z (union-right d (z ∷ b)) own))
+    (rw (union-mem, refuted (λ k. clash own (apart-out c (z ∷ b) z (h .off-b) k))) (refuted (λ k. clash own (apart-out a (z ∷ b) z (w .disjoint) k))))
 
 module _ (a b : List ℕ) (w : Parts a b) (f : List (List ℕ)) where
   -- uses of one sum never share a cube: one that is of the uses with the bases z and y is of one use

@@ -20,7 +20,7 @@ use Rattle.extract_laws.proofs.Arranging.{in-order-literals}
 use Rattle.extract_laws.proofs.Preparing.{prepare-keeps}
 use Rattle.extract_laws.proofs.Running.{run-leads}
 use Rattle.extract_laws.proofs.Keeping.{worth-fit, start-good}
-use Rattle.report.specs.Parts.{Sized, EachSized}
+use Rattle.report.specs.Parts.{signBit, Sized, EachSized}
 use Rattle.report.specs.Parts.EachSized.{none, more}
 
 -- the weight as its bits read back
@@ -34,7 +34,7 @@ sized-above o = subst (λ (z : ℤ). pos 0 ≤ℤ z) (sym (sized-read o ∙ o .i
 pub each-first : {m : Made} {l : List Made} → EachSized (m ∷ l) → Sized (m .weight) × EachSized l
 each-first (more o f) = (o, f)
 
-leads-sized : {n m : Net} {l : List Made} → Leads n l m → Good n → literalCount n < 2147483648 → EachSized l
+leads-sized : {n m : Net} {l : List Made} → Leads n l m → Good n → literalCount n < signBit → EachSized l
 leads-sized stay g s = none
 leads-sized (onward {n = n} d w a b t) g s =
     let f = worth-fit g w in
@@ -42,5 +42,5 @@ leads-sized (onward {n = n} d w a b t) g s =
     more (record { size = z .0; is = z .1; small = omega (arith, z .3) })
     (leads-sized t (prepare-keeps .good (step n d) (step-good n g d f)) (omega (arith, z .3, prepare-keeps .literals (step n d))))
 
-pub run-sized : (k : ℕ) (n : Net) → Good n → literalCount n < 2147483648 → EachSized (run k n .steps)
+pub run-sized : (k : ℕ) (n : Net) → Good n → literalCount n < signBit → EachSized (run k n .steps)
 run-sized k n g s = leads-sized (run-leads k n) (start-good n g) (omega (arith, prepare-keeps .literals (inOrder n), in-order-literals n))

@@ -13,11 +13,15 @@ use Rattle.table.specs.declared.Answer.the-variants.{Read, Refused}
 use Rattle.report.specs.Report.{runText, refusalText, ranText}
 use Rattle.report.specs.declared.Findings.{Findings}
 
+-- what the sign bit of a weight stands for
+abbrev pub signBit : ℕ
+signBit = 2147483648
+
 -- a weight that is a number of 31 bits
 pub record Sized (weight : ℤ) : Type 0 where
   pub size : ℕ
   pub is : weight ≡ pos size
-  pub small : size < 2147483648
+  pub small : size < signBit
 
 -- and so the weight of each step
 pub data EachSized : List Made → Type 0 where
