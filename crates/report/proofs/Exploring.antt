@@ -5,11 +5,12 @@ use mathlib.Core.Bool.{true}
 use mathlib.Core.List.{List}
 use mathlib.Core.Option.{some}
 use native.Mathlib.Omega.{arith}
-use Rattle.network.specs.Net.{Net, literalCount}
+use Rattle.network.specs.Net.{literalCount}
 use Rattle.network.specs.Held.{netOf, rules}
 use Rattle.network.specs.Answers.{counted}
 use Rattle.network.specs.declared.Network.{Network}
-use Rattle.network.specs.declared.Number.the-variants.{Is}
+use Rattle.network.specs.declared.Number.{Number}
+use Rattle.network.specs.declared.Number.the-variants.{Is, No}
 use Rattle.network.specs.Handed.{Shaped}
 use Rattle.extract_laws.specs.Run.{Made, Result, run, askedSteps}
 use Rattle.extract_laws.proofs.Running.{run-few}
@@ -17,7 +18,7 @@ use Rattle.extract_laws.proofs.Following.{rules-good, rules-within}
 use Rattle.extract.specs.Answers as extract
 use Rattle.extract.specs.Answers.{stopOf, runOn}
 use Rattle.extract.specs.declared.Stop.{Stop}
-use Rattle.extract.proofs.Telling.{ran-told, ran-network, ran-rules}
+use Rattle.extract.proofs.Telling.{ran-told, ran-network}
 use Rattle.extract.specs.declared.Answer.the-variants.{Stopped, Refused}
 use Rattle.extract.specs.declared.Ran.{Ran}
 use Rattle.table.specs.declared.Answer.the-variants.{Read}
@@ -27,9 +28,15 @@ use Rattle.report.proofs.Counting.{run-sized}
 
 -- ---- a run on a struct that follows the rules
 
-pub counted-rules : (n : Network) → rules n ≡ true → counted n ≡ Is (literalCount (netOf n))
+counted-rules : (n : Network) → rules n ≡ true → counted n ≡ Is (literalCount (netOf n))
 unfolding counted
 counted-rules n h = rw h
+
+pub counted-told : (n : Network) {k : Number} {x : ℕ} → rules n ≡ true → k ≡ counted n → k ≡ Is x → x ≡ literalCount (netOf n)
+counted-told n h e p = let q = counted-rules n h in cc
+
+pub never-uncounted : (n : Network) {k : Number} {x : ℕ} → rules n ≡ true → k ≡ counted n → k ≡ No x → ⊥
+never-uncounted n h e p = let q = counted-rules n h in let z : _≡_ {A = ℕ} 0 1 = cc in omega arith
 
 module _ (n : Network) (shape : Shaped n) (h : rules n ≡ true) (r : Ran) (t : extract.Told (runOn askedSteps n) r) where
   abbrev result : Result
@@ -41,12 +48,8 @@ module _ (n : Network) (shape : Shaped n) (h : rules n ≡ true) (r : Ran) (t : 
   pub never-refused : (k : ℕ) → r .answer ≡ Refused k → ⊥
   never-refused k e = let q = told .0 .1 in let z : _≡_ {A = ℕ} 0 1 = cc in omega arith
 
-  pub counted-after : counted (r .network) ≡ Is (literalCount (result .network))
-  counted-after =
-      counted-rules (r .network) (ran-rules askedSteps n r shape h t) ∙ ap (λ (m : Net). Is (literalCount m)) (ran-network askedSteps n r shape h t)
-
   -- what is found is what the definitions say
-  pub explored : (start end : ℕ) (stop : Stop) → r .answer ≡ Stopped stop → start ≡ literalCount (netOf n) → end ≡ literalCount (result .network)
+  pub explored : (start end : ℕ) (stop : Stop) → r .answer ≡ Stopped stop → start ≡ literalCount (netOf n) → end ≡ literalCount (netOf (r .network))
       → Explored n (record { answer = Read; start = start; steps = r .steps; end = end; stop = stop })
   unfolding runOf ranText
   explored start end stop a b e =
@@ -54,9 +57,10 @@ module _ (n : Network) (shape : Shaped n) (h : rules n ≡ true) (r : Ran) (t : 
       let same : told .0 .0 ≡ stop = cc in
       let why : stopOf stop ≡ result .stop = ap stopOf (sym same) ∙ told .0 .2 in
       let made = told .2 .steps in
+      let left = e ∙ ap literalCount (ran-network askedSteps n r shape h t) in
       record {
         answer = refl;
-        text = λ i. runText (b i) (made i) (e i) (why i);
+        text = λ i. runText (b i) (made i) (left i) (why i);
         steady = record {
           few = omega (arith, told .2 .number, run-few askedSteps (netOf n));
           each = subst (λ (l : List Made). EachSized l) (sym made)

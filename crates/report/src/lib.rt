@@ -17,7 +17,8 @@ ghost use Rattle.letters.specs.Letters.{decimal};
 ghost use Rattle.letters.specs.Laid.{Laid};
 ghost use Rattle.letters.specs.Told.{Told};
 ghost use Rattle.extract_divisor.specs.Divisor.{divisorOf};
-ghost use Rattle.network.specs.Held.{rules};
+ghost use Rattle.network.specs.Net.{literalCount};
+ghost use Rattle.network.specs.Held.{netOf, rules};
 ghost use Rattle.extract.specs.Answers.{stopOf, madeIn};
 ghost use Rattle.report.specs.Report.{divisorText, stepLine, stepLines, stopText, refusalText, reportOf};
 ghost use Rattle.report.specs.Parts.{runOf, foundText, Steady, Explored};
@@ -165,6 +166,17 @@ fn refused(answer: Answer) -> Findings
     }
 }
 
+// The literals of a network that follows the rules.
+fn count_of(n: Network) -> u64
+    requires { ⌜ rules n ≡ true ⌝ }
+    ensures { λ r. ⌜ r ≡ literalCount (netOf n) ⌝ }
+{
+    let Number::Is(count) = network_rules::literals(n) else {
+        return 0;
+    };
+    count
+}
+
 // A run on the network of a table that was read. It follows the rules, and so does what the run leaves: nothing here is refused.
 fn explore(n: Network) -> Findings
     requires { ⌜ rules n ≡ true ⌝ }
@@ -175,12 +187,8 @@ fn explore(n: Network) -> Findings
     let extract::Answer::Stopped(stop) = answer else {
         return refused(Answer::Read);
     };
-    let Number::Is(start) = network_rules::literals(n) else {
-        return refused(Answer::Read);
-    };
-    let Number::Is(end) = network_rules::literals(r.network) else {
-        return refused(Answer::Read);
-    };
+    let start = count_of(n);
+    let end = count_of(r.network);
     let steps = r.steps;
     Findings {
         answer: Answer::Read,
