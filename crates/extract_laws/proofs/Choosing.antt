@@ -5,17 +5,19 @@ use mathlib.Core.Bool.{Bool, true, false, cond, not, _&&_}
 use mathlib.Core.List.{List, [], _∷_, List·Memᴰ·head as here, List·Memᴰ·tail as there, List·Memᴰ·not-nil, List·Memᴰ·cases-cons}
 use mathlib.Core.Option.{none, some, Option·none-ne-some}
 use native.Mathlib.Omega.{arith}
+use lib.Dec.{ltb}
 use lib.IntN.{ℤ, pos, negsuc}
 use lib.Signed.{ltZ}
 use borrow.Author.Tests.{ltb-true, ltb-false, lt-ltb, le-ltb}
 use Rattle.sets.specs.Sets.{before}
 use Rattle.sets.proofs.Truth.{neither, decided, clash}
 use Rattle.sets.proofs.Lists.{_∈_}
-use Rattle.sets.proofs.Orders.{Strict, asym, not-after, lex-self, lex-trans, lex-linear, before-order}
+use Rattle.sets.proofs.Orders.{Strict, asym, not-after, lex-true, lex-self, lex-trans, lex-linear, ltb-order, before-order}
 use Rattle.network.specs.Net.{Net}
 use Rattle.extract_laws.specs.Divisor.{Divisor, pair, sum}
 use Rattle.extract_laws.specs.Extract.{weight, candidates, sooner, better, top, bestOf, best}
-use Rattle.extract_laws.specs.Meaning.{Foremost}
+use Rattle.extract_laws.specs.Meaning.{ComesFirst, Foremost}
+use Rattle.extract_laws.specs.Meaning.ComesFirst.{pairThenSum, firstLiteral, secondLiteral, firstPart, secondPart}
 
 -- ---- the orders
 
@@ -66,6 +68,27 @@ sooner-order = record { irrefl = irr; trans = tr; linear = li }
     li (sum a b) (pair r s) h k = clash refl k
     li (sum a b) (sum c d) h k = let q = lex-linear before before-order a c (before b d) (before d b) h k in
         ap₂ sum (q .0) (before-order .linear b d (q .1) (q .2))
+
+-- and that is what the test decides
+pub sooner-iff : (d e : Divisor) → (sooner d e ≡ true) ↔ ComesFirst d e
+unfolding sooner before
+sooner-iff d e = (out d e, into d e)
+  where
+    out : (d e : Divisor) → sooner d e ≡ true → ComesFirst d e
+    out (pair p q) (pair r s) h = elim (lex-true ltb ltb-order p r _ h) [
+      | inl k ↦ firstLiteral (ltb-true p r k)
+      | inr (i, k) ↦ elim (lex-true ltb ltb-order q s _ k) [ inl m ↦ secondLiteral i (ltb-true q s m) | inr (j, m) ↦ clash m refl ]
+    ]
+    out (pair p q) (sum c d) h = pairThenSum
+    out (sum a b) (pair r s) h = clash h refl
+    out (sum a b) (sum c d) h = elim (lex-true before before-order a c _ h) [ inl k ↦ firstPart k | inr (i, k) ↦ secondPart i k ]
+
+    into : (d e : Divisor) → ComesFirst d e → sooner d e ≡ true
+    into _ _ pairThenSum = refl
+    into _ _ (firstLiteral {p} {q} {r} {s} k) = rw (lt-ltb p r k)
+    into _ _ (secondLiteral {p} {q} {r} {s} i k) = rw (i, lex-self ltb ltb-order r (before (q ∷ []) (s ∷ [])), lt-ltb q s k)
+    into _ _ (firstPart k) = rw k
+    into _ _ (secondPart {a} {b} {c} {d} i k) = rw (i, lex-self before before-order c (before b d), k)
 
 -- a greater weight, or on a tie the sooner one
 pub better-order : (n : Net) → Strict (better n)

@@ -80,6 +80,15 @@ pub record Fit (n : Net) (d : Divisor) : Type 0 where
 
 -- ---- the choice
 
+-- which of two divisors of the same weight comes first: pairs before sums, then the smaller literal or part first, then the second
+pub data ComesFirst : Divisor → Divisor → Type 0 where
+  pairThenSum : {p q : ℕ} {a b : List ℕ} → ComesFirst (pair p q) (sum a b)
+  firstLiteral : {p q r s : ℕ} → p < r → ComesFirst (pair p q) (pair r s)
+  secondLiteral : {p q r s : ℕ} → p ≡ r → q < s → ComesFirst (pair p q) (pair r s)
+  -- parts are compared in cube order
+  firstPart : {a b c d : List ℕ} → before a c ≡ true → ComesFirst (sum a b) (sum c d)
+  secondPart : {a b c d : List ℕ} → a ≡ c → before b d ≡ true → ComesFirst (sum a b) (sum c d)
+
 -- the divisor has the greatest weight, and of those that have it it is the first
 pub record Foremost (n : Net) (d : Divisor) : Type 0 where
   pub chosen : List·Memᴰ d (candidates n)
