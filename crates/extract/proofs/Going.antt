@@ -6,13 +6,13 @@ use mathlib.Core.List.{List, [], _∷_, _++_, map, map-append, append-assoc, app
 use mathlib.Core.Option.{some}
 use native.Mathlib.Numerals.{add-one}
 use native.Mathlib.Omega.{arith}
-use lib.IntN.{ℤ, pos, negsuc}
+use lib.IntN.{ℤ, pos, negsuc, _-ℤ_}
 use lib.ListN.{length, take, drop, set, replicate, length-set, length-map, length-replicate}
 use lib.Seq.{length-take-le, take-suc-set, drop-set-lt, drop-drop}
 use lib.Signed.{leZ, ltZ}
 use borrow.Author.Tests.{leb-true, leb-false, le-ltb, lt-ltb}
 use Rattle.sets.proofs.Truth.{clash}
-use Rattle.network.specs.Net.{Net}
+use Rattle.network.specs.Net.{Net, literalCount}
 use Rattle.network.specs.Held.{netOf, mostVariables}
 use Rattle.network.specs.Handed.{Holds, Shaped}
 use Rattle.network.specs.declared.Network.{Network}
@@ -22,11 +22,13 @@ use Rattle.extract_laws.specs.Divisor as divisors
 use Rattle.extract_laws.specs.Extract.{step}
 use Rattle.extract_laws.specs.Run as runs
 use Rattle.extract_laws.specs.Run.{weighing, making, Result, Move, finished, makes, done, asked, move, ended, prepare, runFrom}
-use Rattle.extract_laws.specs.Meaning.{Worth, Allows}
+use Rattle.extract_laws.specs.Meaning.{Good, Worth, Allows}
 use Rattle.extract_laws.specs.Meaning.Allows.{nothing, noNumber, noRows, next}
 use Rattle.extract_laws.proofs.Running.{from-none, from-finished, from-stuck, from-make}
 use Rattle.extract_laws.proofs.Moving.{worth-done, move-iff}
 use Rattle.extract_laws.proofs.Making.{step-variables}
+use Rattle.extract_laws.proofs.Weighing.{step-literals, step-smaller}
+use Rattle.extract_laws.proofs.Keeping.{worth-fit}
 use Rattle.extract_laws.proofs.Preparing.{prepare-same}
 use Rattle.extract_laws.proofs.Following.{rules-good, rules-within}
 use Rattle.extract_divisor.specs.Divisor.{divisorOf, weighedOf}
@@ -37,7 +39,7 @@ use Rattle.extract_step.specs.declared.Outcome.the-variants as Outcome
 use Rattle.extract_step.specs.declared.Next.{Next}
 use Rattle.extract_step.proofs.Keeping.{Takes, takes-is, takes-rules, takes-arranged}
 use Rattle.extract.specs.Answers.{stopOf, madeOf, noMade, places, Told}
-use Rattle.extract.specs.Parts.{Runnable, madeBy, endedAt, reasonOf, stoppedWith}
+use Rattle.extract.specs.Parts.{Runnable, Leaves, madeBy, endedAt, reasonOf, stoppedWith}
 use Rattle.extract.specs.declared.Made.{Made}
 use Rattle.extract.specs.declared.Stop.{Stop}
 use Rattle.extract.specs.declared.Stop.the-variants.{Done, Asked}
@@ -53,24 +55,27 @@ after l r = record { network = r .network; stop = r .stop; steps = l ++ r .steps
 abbrev listed : ℕ → List Made → List runs.Made
 listed count list = map madeOf (take count list)
 
--- of a run of k steps from m so many steps are listed, it goes on from the network for the steps left, and s is the best step there
-pub record Going (k : ℕ) (m : Net) (list : List Made) (count left : ℕ) (net : Network) (s : Step) : Type 0 where
+-- of a run of k steps from m so many steps are listed, it goes on from the network, of so many literals, for the steps left, and s is the
+-- best step there
+pub record Going (k : ℕ) (m : Net) (list : List Made) (count left : ℕ) (net : Network) (literals : ℕ) (s : Step) : Type 0 where
   pub ready : Runnable net
   pub shape : Shaped net
   pub few : count ≤ net .divisors
   pub long : length list ≡ places
   pub rest : drop count list ≡ replicate (places - count) noMade
+  pub counted : literals ≡ literalCount (netOf net)
   pub chosen : Chosen (chosenIn net) s
   pub goes : runFrom k m ≡ after (listed count list) (runFrom left (netOf net))
 
-pub going-first : (k : ℕ) (n : Network) (list : List Made) (s : Step) → Shaped n → Runnable n
-    → list ≡ replicate places noMade → Chosen (chosenIn n) s → Going k (netOf n) list 0 k n s
-going-first k n list s a r e c = record {
+pub going-first : (k : ℕ) (n : Network) (list : List Made) (literals : ℕ) (s : Step) → Shaped n → Runnable n
+    → list ≡ replicate places noMade → literals ≡ literalCount (netOf n) → Chosen (chosenIn n) s → Going k (netOf n) list 0 k n literals s
+going-first k n list literals s a r e q c = record {
   ready = r;
   shape = a;
   few = omega arith;
   long = ap length e ∙ length-replicate places noMade;
   rest = e;
+  counted = q;
   chosen = c;
   goes = refl;
 }
@@ -124,7 +129,8 @@ run-asked n d w = from-none n ∙ go (move n) ((move-iff n (move n)) .0 refl)
     go m (noRows v l h) = refl
     go m (next v l h) = refl
 
-module _ {k : ℕ} {m : Net} {list : List Made} {count left : ℕ} {net : Network} {s : Step} (g : Going k m list count left net s) where
+module _ {k : ℕ} {m : Net} {list : List Made} {count left : ℕ} {net : Network} {literals : ℕ} {s : Step}
+    (g : Going k m list count left net literals s) where
   pub going-room : count < mostVariables
   going-room = omega (arith, g .few, ready-few net (g .shape) (g .ready))
 
@@ -174,11 +180,28 @@ module _ {k : ℕ} {m : Net} {list : List Made} {count left : ℕ} {net : Networ
     worth : Worth (netOf net) (divisorOf (s .divisor)) × (weighedOf s ≡ weighing (netOf net) (divisorOf (s .divisor)))
     worth = elim chosen-here [ nothingLeft p e ↦ clash h p | oneTaken p w q ↦ (w, q) ]
 
+    abbrev d : divisors.Divisor
+    d = divisorOf (s .divisor)
+
+    good : Good (netOf net)
+    good = rules-good net (g .shape) (g .ready .lawful)
+
+    -- a step takes the weight off the literals
+    falls : pos (literalCount (step (netOf net) d)) ≡ pos literals -ℤ s .weight
+    falls =
+        step-literals (netOf net) good d (worth-fit good (worth .0) .whole)
+        ∙ ap₂ (λ (l : ℕ) (w : ℤ). pos l -ℤ w) (sym (g .counted)) (ap (λ (w : runs.Weighed). w .weight) (sym (worth .1)))
+
+    pub going-leaves : Leaves literals (s .weight)
+    going-leaves =
+        let w = rules-within net (g .shape) (g .ready .lawful) .literals in
+        let l = step-smaller (netOf net) good d (worth-fit good (worth .0) .whole) (worth .0 .above) in
+        record { left = literalCount (step (netOf net) d); is = falls; within = omega (arith, g .counted); less = omega arith }
+
     module _ (l : 0 < left) (t : Next) (o : Stepped net (outcome net (s .divisor)) t) where
-      step-taken : Taken (netOf net) (divisorOf (s .divisor)) t
+      step-taken : Taken (netOf net) d t
       step-taken =
-          stepped-as net (s .divisor) t (g .ready .tidy) (rules-within net (g .shape) (g .ready .lawful) .literals)
-          (rules-good net (g .shape) (g .ready .lawful)) (worth .0) o
+          stepped-as net (s .divisor) t (g .ready .tidy) (rules-within net (g .shape) (g .ready .lawful) .literals) good (worth .0) o
 
       some-left : left ≡ suc (left - 1)
       some-left = omega arith
@@ -192,10 +215,10 @@ module _ {k : ℕ} {m : Net} {list : List Made} {count left : ℕ} {net : Networ
       ]
 
       -- the step is made, and listed
-      module _ (shape-t : Shaped (t .network))
-          (x : Made) (y : x ≡ madeBy s (t .number) (t .literals)) (b : Step) (c : Chosen (chosenIn (t .network)) b) (q : t .outcome ≡ Outcome.Made) where
-        abbrev d : divisors.Divisor
-        d = divisorOf (s .divisor)
+      module _ (shape-t : Shaped (t .network)) (rest : ℕ) (f : pos rest ≡ pos literals -ℤ s .weight)
+          (x : Made) (y : x ≡ madeBy s (t .number) rest) (b : Step) (c : Chosen (chosenIn (t .network)) b) (q : t .outcome ≡ Outcome.Made) where
+        rest-is : rest ≡ literalCount (step (netOf net) d)
+        rest-is = let e = f ∙ sym falls in cc
 
         step-made : After (netOf net) d t → madeOf x ≡ making (netOf net) d
         step-made a = ap madeOf y ∙ (λ i. record {
@@ -203,12 +226,12 @@ module _ {k : ℕ} {m : Net} {list : List Made} {count left : ℕ} {net : Networ
           weight = worth .1 i .weight;
           uses = worth .1 i .uses;
           number = a .number i;
-          literals = a .literals i;
+          literals = rest-is i;
         })
 
         abbrev Onward : Type 0
         Onward =
-            Going k m (set list count x) (count + 1) (left - 1) (t .network) b
+            Going k m (set list count x) (count + 1) (left - 1) (t .network) rest b
             × (t .network .inputs + t .network .divisors ≡ suc (net .inputs + net .divisors))
 
         pub going-on : Onward
@@ -225,6 +248,7 @@ module _ {k : ℕ} {m : Net} {list : List Made} {count left : ℕ} {net : Networ
                     few = omega (arith, g .few);
                     long = length-set list count x ∙ g .long;
                     rest = listed-rest x;
+                    counted = rest-is ∙ ap literalCount (sym (next-is net (g .shape) (g .ready) d t i));
                     chosen = c;
                     goes = g .goes ∙ ap (after (listed count list)) (ap (λ (z : ℕ). runFrom z (netOf net)) some-left ∙ from-make (left - 1) (netOf net) d e)
                         ∙ ap (λ (l : List runs.Made). record { network = later .network; stop = later .stop; steps = l })

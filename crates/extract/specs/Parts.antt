@@ -1,12 +1,12 @@
 -- Words for the contracts of the private functions: a network that a run starts from, and how a run is handed back.
-use Prim.Native.Nat.{ℕ}
+use Prim.Native.Nat.{ℕ, _≤_}
 use mathlib.Core.Path.{_≡_}
 use mathlib.Core.Bool.{true, cond}
 use mathlib.Core.List.{List}
-use lib.IntN.{ℤ, pos}
+use lib.IntN.{ℤ, pos, _-ℤ_}
 use lib.Signed.{ltZ}
 use Rattle.cube.specs.declared.Variable.{Variable}
-use Rattle.network.specs.Held.{netOf, rules}
+use Rattle.network.specs.Held.{netOf, rules, mostLiterals}
 use Rattle.network.specs.Handed.{Holds}
 use Rattle.network.specs.declared.Network.{Network}
 use Rattle.extract_divisor.specs.declared.Step.{Step}
@@ -24,6 +24,13 @@ pub record Runnable (n : Network) : Type 0 where
   pub lawful : rules n ≡ true
   pub tidy : arranged n ≡ true
   pub held : Holds n (netOf n)
+
+-- a weight taken off a count of literals leaves such a count
+pub record Leaves (count : ℕ) (weight : ℤ) : Type 0 where
+  pub left : ℕ
+  pub is : pos left ≡ pos count -ℤ weight
+  pub within : count ≤ mostLiterals
+  pub less : left ≤ mostLiterals
 
 -- a step that makes the node of a number and leaves so many literals
 abbrev pub madeBy : Step → Variable → ℕ → Made

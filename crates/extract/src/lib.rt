@@ -7,11 +7,13 @@ use extract_step::Outcome;
 use network::Network;
 ghost use mathlib.Core.Path.{_≡_};
 ghost use mathlib.Core.Option.{some};
+ghost use lib.IntN.{pos, _-ℤ_};
 ghost use lib.ListN.{replicate};
+ghost use Rattle.network.specs.Net.{literalCount};
 ghost use Rattle.network.specs.Held.{netOf};
 ghost use Rattle.extract_laws.specs.Run.{runFrom};
 ghost use Rattle.extract.specs.Answers.{noMade, noSteps, places, Told, runOn};
-ghost use Rattle.extract.specs.Parts.{Runnable, madeBy, endedAt, reasonOf, stoppedWith};
+ghost use Rattle.extract.specs.Parts.{Runnable, Leaves, madeBy, endedAt, reasonOf, stoppedWith};
 
 // Steps of one run: each makes a divisor.
 const STEPS: usize = network::VARIABLES;
@@ -113,7 +115,25 @@ fn ended(weight: i32) -> Stop
     Stop::Asked
 }
 
-// From a network in cube order; s is the best step on the network that the run has come to.
+// The literals of a network that a run starts from.
+fn literals_of(n: Network) -> u64
+    requires { ⌜ Runnable n ⌝ }
+    ensures { λ r. ⌜ r ≡ literalCount (netOf n) ⌝ }
+{
+    let words = n.words;
+    let counts = n.counts;
+    expression_survey::literals(network_nodes::front(&words, &counts, n.outputs + n.divisors))
+}
+
+// A count of literals with a weight taken off.
+fn taken_off(count: u64, weight: i32) -> u64
+    requires { ⌜ Leaves count weight ⌝ }
+    ensures { λ r. ⌜ pos r ≡ pos count -ℤ weight ⌝ }
+{
+    (count as i32 - weight) as u64
+}
+
+// From a network in cube order; s is the best step on the network that the run has come to, and so many literals are in it.
 fn follow(n: Network, steps: u64) -> Ran
     requires { ⌜ Runnable n ⌝ }
     ensures { λ r. ⌜ Told (some (runFrom steps (netOf n))) r ⌝ }
@@ -122,6 +142,7 @@ fn follow(n: Network, steps: u64) -> Ran
     let mut count = 0;
     let mut left = steps;
     let mut net = n;
+    let mut literals = literals_of(n);
     let mut s = extract_choice::best(n);
     loop {
         if left == 0 {
@@ -138,11 +159,13 @@ fn follow(n: Network, steps: u64) -> Ran
             return ending(reason(made), net, count, list);
         };
         let number = t.number;
-        list[count] = made_by(s, number, t.literals);
+        let rest = taken_off(literals, s.weight);
+        list[count] = made_by(s, number, rest);
         count += 1;
         left -= 1;
         s = extract_choice::best(next);
         net = next;
+        literals = rest;
     }
 }
 

@@ -7,7 +7,7 @@ use mathlib.Core.Bool.{true}
 use mathlib.Core.Option.{some}
 use native.Mathlib.Omega.{arith}
 use borrow.Author.Needs.{needs}
-use lib.IntN.{pos}
+use lib.IntN.{pos, _-ℤ_}
 use lib.ListN.{set}
 use lib.Signed.{leZ, ltZ}
 use mir.Syntax.{w32}
@@ -19,18 +19,19 @@ use Rattle.network.proofs.Handing.{shape-of}
 use Rattle.extract_laws.specs.Run.{runFrom}
 use Rattle.extract_step.specs.declared.Outcome.the-variants as Outcome
 use Rattle.extract.specs.Answers.{Told}
-use Rattle.extract.specs.Parts.{endedAt, stoppedWith}
+use Rattle.extract.specs.Parts.{Leaves, endedAt, stoppedWith}
 use Rattle.extract.specs.declared.Stop.{Stop}
 use Rattle.extract.specs.declared.Ran.{Ran}
-use Rattle.extract.proofs.Going.{le-not, not-le, Going, going-first, going-room, going-numbers, going-done, going-ended, going-full, going-on}
+use Rattle.extract.proofs.Going.{le-not, not-le, Going, going-first, going-room, going-numbers, going-done, going-ended, going-leaves}
+use Rattle.extract.proofs.Going.{going-full, going-on}
 use Rattle.extract.proofs.follow.Statement.{statement}
 use Rattle.extract.proofs.follow.Tie as tie
 
 abbrev Inv-loop : tie.InvT-loop
-Inv-loop steps list₀ count₀ left₀ net₀ s₀ list count left net s = Going steps (netOf net₀) list count left net s
+Inv-loop steps list₀ count₀ left₀ net₀ literals₀ s₀ list count left net literals s = Going steps (netOf net₀) list count left net literals s
 
 abbrev μ-loop : tie.MeasureT-loop
-μ-loop steps list₀ count₀ left₀ net₀ s₀ list count left net s = mostVariables - (net .inputs + net .divisors)
+μ-loop steps list₀ count₀ left₀ net₀ literals₀ s₀ list count left net literals s = mostVariables - (net .inputs + net .divisors)
 
 -- ---- the states of the walk
 
@@ -38,7 +39,7 @@ abbrev Loop : Type 0
 Loop = tie.At-loop Inv-loop μ-loop
 
 abbrev start : Loop → tie.Start Inv-loop μ-loop
-start l = l .before .before .before
+start l = l .before .before .before .before
 
 abbrev weighed : tie.Else2 Inv-loop μ-loop → Loop
 weighed c = c .before .before .before .before
@@ -46,10 +47,13 @@ weighed c = c .before .before .before .before
 abbrev chosen : tie.At-match-keys1 Inv-loop μ-loop → tie.After-step Inv-loop μ-loop
 chosen c = c .before .before
 
-abbrev stepped : tie.After-made-by Inv-loop μ-loop → tie.After-step Inv-loop μ-loop
+abbrev counting : tie.After-made-by Inv-loop μ-loop → tie.After-struct-told3 Inv-loop μ-loop
+counting c = c .before .before
+
+abbrev stepped : tie.After-struct-told3 Inv-loop μ-loop → tie.After-step Inv-loop μ-loop
 stepped c = chosen (c .before .before .before)
 
-abbrev head : tie.After-made-by Inv-loop μ-loop → Loop
+abbrev head : tie.After-struct-told3 Inv-loop μ-loop → Loop
 head c = weighed (stepped c .before)
 
 -- ---- what holds there
@@ -65,6 +69,9 @@ with l x = stoppedWith x (l .loop .net) (l .loop .count) (l .loop .list)
 read : (c : tie.After-struct-told2 Inv-loop μ-loop) → let w = c .before .before .before .loop .s .weight in toZ w32 (ofZ w32 w) ≡ w
 read c = toZ-ofZ {w = w32} {z = c .before .before .before .loop .s .weight} (search needs)
 
+reread : (c : tie.After-struct-told3 Inv-loop μ-loop) → let w = head c .loop .s .weight in toZ w32 (ofZ w32 w) ≡ w
+reread c = toZ-ofZ {w = w32} {z = head c .loop .s .weight} (search needs)
+
 -- what the test says of it
 above : (c : tie.Else2 Inv-loop μ-loop) → ltZ (pos 0) (weighed c .loop .s .weight) ≡ true
 above c = not-le (weighed c .loop .s .weight) (ap (λ w. leZ w (pos 0)) (sym (read (c .before))) ∙ c .if2 .left)
@@ -74,21 +81,24 @@ shape : (c : tie.After-step Inv-loop μ-loop) → Shaped (c .step .result .netwo
 shape c = shape-of _ (search needs) (search needs)
 
 -- the step is listed, and the network has one variable more
-on : (c : tie.After-best2 Inv-loop μ-loop) → let t = stepped (c .before) in let l = head (c .before) in let n = t .step .result .network in
+on : (c : tie.After-best2 Inv-loop μ-loop) → let o = counting (c .before) in let l = head o in let n = stepped o .step .result .network in
     Going (start l .args .steps) (netOf (start l .args .n)) (set (l .loop .list) (l .loop .count) (c .before .made-by .result))
-    (l .loop .count + 1) (l .loop .left - 1) n (c .best2 .result)
+    (l .loop .count + 1) (l .loop .left - 1) n (c .before .before .taken-off .result) (c .best2 .result)
     × (n .inputs + n .divisors ≡ suc (l .loop .net .inputs + l .loop .net .divisors))
 on c =
     let m = c .before in
-    let t = stepped m in
-    going-on (head m .loop .inv) (above (t .before)) (omega arith) (t .step .result) (t .step .ensures) (shape t)
-    (m .made-by .result) (m .made-by .ensures) (c .best2 .result) (c .best2 .ensures) (m .before .before .enum-told .given .1)
+    let o = counting m in
+    let t = stepped o in
+    going-on (head o .loop .inv) (above (t .before)) (omega arith) (t .step .result) (t .step .ensures) (shape t)
+    (m .before .taken-off .result) (m .before .taken-off .ensures ∙ ap (pos (head o .loop .literals) -ℤ_) (reread o))
+    (m .made-by .result) (m .made-by .ensures) (c .best2 .result) (c .best2 .ensures) (o .before .before .enum-told .given .1)
 
 loop-holds : tie.Need-loop-holds Inv-loop μ-loop
 loop-holds c =
-    let s = c .before .before in
-    going-first (s .args .steps) (s .args .n) (c .before .no-list .result) (c .best .result) (shape-of _ (search needs) (search needs)) (s .pre)
-    (c .before .no-list .ensures) (c .best .ensures)
+    let o = c .before .before in
+    let s = o .before in
+    going-first (s .args .steps) (s .args .n) (o .no-list .result) (c .before .literals-of .result) (c .best .result)
+    (shape-of _ (search needs) (search needs)) (s .pre) (o .no-list .ensures) (c .before .literals-of .ensures) (c .best .ensures)
 
 returns : tie.Need-returns Inv-loop μ-loop
 returns c =
@@ -114,14 +124,18 @@ returns-3 c =
     subst (Tells l) (sym (c .ending3 .ensures ∙ ap (with l) (c .before .reason .ensures)))
     (going-full (l .loop .inv) (above (t .before)) (omega arith) (t .step .result) (t .step .ensures) f)
 
+taken-off-requires : tie.Need-taken-off-requires Inv-loop μ-loop
+taken-off-requires c κs =
+    subst (Leaves (head c .loop .literals)) (sym (reread c)) (going-leaves (head c .loop .inv) (above (stepped c .before)))
+
 mul-list : tie.Need-mul-list Inv-loop μ-loop
-mul-list c = omega (arith, going-room (head c .loop .inv))
+mul-list c = omega (arith, going-room (head (counting c) .loop .inv))
 
 array-set-from-list : tie.Need-array-set-from-list Inv-loop μ-loop
-array-set-from-list c = going-room (head c .loop .inv)
+array-set-from-list c = going-room (head (counting c) .loop .inv)
 
 add-count : tie.Need-add-count Inv-loop μ-loop
-add-count c = omega (arith, going-room (head c .loop .inv))
+add-count c = omega (arith, going-room (head (counting c) .loop .inv))
 
 loop-less : tie.Need-loop-less Inv-loop μ-loop
 loop-less c = let g = on c in omega (arith, g .1, going-numbers (g .0))
@@ -132,6 +146,6 @@ loop-again c = on c .0
 pub follow-spec : {M : Type 1} → statement M
 follow-spec =
     tie.close
-    (tie.spec Inv-loop μ-loop (search needs) (search needs) loop-holds (search needs) (search needs) returns (search needs) returns-2 (search needs)
-    (search needs) (search needs) (search needs) returns-3 (search needs) mul-list array-set-from-list add-count (search needs) (search needs)
-    loop-less loop-again)
+    (tie.spec Inv-loop μ-loop (search needs) (λ c κs. c .before .pre) (search needs) loop-holds (search needs) (search needs) returns (search needs) returns-2
+    (search needs) (search needs) (search needs) (search needs) returns-3 taken-off-requires (search needs) mul-list array-set-from-list add-count
+    (search needs) (search needs) loop-less loop-again)
