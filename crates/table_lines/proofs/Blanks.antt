@@ -47,16 +47,17 @@ unfolding trimFront
 front-blanks [] r h = refl
 front-blanks (x ∷ b) r h = rw (both (isBlank x) (all isBlank b) h .0) (front-blanks b r (both (isBlank x) (all isBlank b) h .1))
 
+-- one or more stand at the front
+pub starts-gap : (b o : List ℕ) → Blanks b → startsBlank (b ++ o) ≡ true
+starts-gap [] o h = absurd (omega (arith, h .one))
+starts-gap (x ∷ b) o h = both (isBlank x) (all isBlank b) (h .each) .0
+
 -- and bytes that are no blanks are left after them
 module _ (p : ℕ → Bool) (solid : (x : ℕ) → p x ≡ true → isBlank x ≡ false) where
   front-solid : (o : List ℕ) → all p o ≡ true → trimFront o ≡ o
   unfolding trimFront
   front-solid [] h = refl
   front-solid (x ∷ o) h = rw (solid x (both (p x) (all p o) h .0))
-
-  starts-gap : (b o : List ℕ) → Blanks b → startsBlank (b ++ o) ≡ true
-  starts-gap [] o h = absurd (omega (arith, h .one))
-  starts-gap (x ∷ b) o h = both (isBlank x) (all isBlank b) (h .each) .0
 
   pub gap-in : (b o : List ℕ) → Blanks b → all p o ≡ true → (startsBlank (b ++ o) ≡ true) × (trimFront (b ++ o) ≡ o)
   gap-in b o h k = (starts-gap b o h, front-blanks b o (h .each) ∙ front-solid o k)

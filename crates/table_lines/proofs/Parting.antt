@@ -87,7 +87,7 @@ comment-in (b ∷ p) k h q = let w = lacks-first 35 b p h in rw (w .0) (ap (λ (
 
 -- ---- the blanks at both ends
 
-front-starts : (r : List ℕ) → startsBlank (trimFront r) ≡ false
+pub front-starts : (r : List ℕ) → startsBlank (trimFront r) ≡ false
 unfolding trimFront
 front-starts [] = refl
 front-starts (x ∷ r) = go (isBlank x) refl (front-starts r)
@@ -96,12 +96,12 @@ front-starts (x ∷ r) = go (isBlank x) refl (front-starts r)
     go true q h = h
     go false q h = q
 
-end-starts : (r : List ℕ) → startsBlank r ≡ false → startsBlank (trimEnd r) ≡ false
+pub end-starts : (r : List ℕ) → startsBlank r ≡ false → startsBlank (trimEnd r) ≡ false
 unfolding trimEnd
 end-starts [] h = refl
 end-starts (x ∷ r) h = rw h h
 
-end-ends : (r : List ℕ) → endsBlank (trimEnd r) ≡ false
+pub end-ends : (r : List ℕ) → endsBlank (trimEnd r) ≡ false
 unfolding trimEnd
 end-ends [] = refl
 end-ends (x ∷ r) = go (isBlank x) refl (trimEnd r) (end-ends r)
@@ -113,7 +113,7 @@ end-ends (x ∷ r) = go (isBlank x) refl (trimEnd r) (end-ends r)
     go false q (y ∷ f) h = h
 
 -- what is trimmed at the end is blanks
-end-out : (r : List ℕ) → (b : List ℕ) × (all isBlank b ≡ true) × (r ≡ trimEnd r ++ b)
+pub end-out : (r : List ℕ) → (b : List ℕ) × (all isBlank b ≡ true) × (r ≡ trimEnd r ++ b)
 unfolding trimEnd
 end-out [] = ([], refl, refl)
 end-out (x ∷ r) = go (isBlank x) refl (trimEnd r) (end-out r)
@@ -131,7 +131,7 @@ end-in [] (x ∷ b) h k = let w = both (isBlank x) (all isBlank b) k in rw (w .0
 end-in (x ∷ []) b h k = rw (h, end-in [] b refl k)
 end-in (x ∷ y ∷ c) b h k = ap (λ (f : List ℕ). cond (isBlank x && isNil f) [] (x ∷ f)) (end-in (y ∷ c) b h k) ∙ rw (and-false (isBlank x))
 
-ends-in : (c b : List ℕ) → startsBlank c ≡ false → endsBlank c ≡ false → all isBlank b ≡ true → trimEnd (trimFront (c ++ b)) ≡ c
+pub ends-in : (c b : List ℕ) → startsBlank c ≡ false → endsBlank c ≡ false → all isBlank b ≡ true → trimEnd (trimFront (c ++ b)) ≡ c
 unfolding trimFront trimEnd
 ends-in [] b h e k = ap trimEnd (ap trimFront (sym (append-nil b)) ∙ front-blanks b [] k)
 ends-in (x ∷ c) b h e k = rw h (end-in (x ∷ c) b e k)

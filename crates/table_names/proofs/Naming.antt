@@ -1,8 +1,8 @@
 -- The name of an input: what the first line of a text gives, and what the others give. Assumes nothing.
-use Prim.Native.Nat.{ℕ, suc, _+_, _-_, _/_, _%_, _<_, _≤_}
+use Prim.Native.Nat.{ℕ, suc, _+_, _-_, _<_, _≤_}
 use mathlib.Core.Path.{_≡_, refl, sym, ap, _∙_}
 use mathlib.Core.Bool.{Bool, true, false, cond}
-use mathlib.Core.List.{List, [], _∷_, _++_}
+use mathlib.Core.List.{List, [], _∷_}
 use native.Mathlib.Omega.{arith}
 use lib.Dec.{ltb}
 use lib.ListN.{length, drop, getD, drop-of-length-le}
@@ -12,7 +12,7 @@ use Rattle.sets.proofs.Truth.{Stand, below, equal, beyond, stand}
 use Rattle.table_lines.specs.Text.{trimFront, trimEnd, lineOf, linesOf}
 use Rattle.table_lines.proofs.Lining.{line-le, lines-next, lines-last, line-after}
 use Rattle.table_rows.specs.Lines.{isPlace}
-use Rattle.table_names.specs.Names.{after, afterNumber, nameAfter, named, startsPlace, beginsCube, firstName, nameOf, written}
+use Rattle.table_names.specs.Names.{after, afterNumber, nameAfter, named, startsPlace, beginsCube, firstName, nameOf}
 
 -- ---- the parts of a line
 
@@ -47,19 +47,6 @@ place-none (x ∷ t) h = absurd (omega arith)
 pub place-first : (t : List ℕ) → (length t ≡ 0 → ⊥) → startsPlace t ≡ isPlace (getD t 0 0)
 place-first [] h = absurd (h refl)
 place-first (x ∷ t) h = refl
-
--- a line as the manual writes it, `# x0 tank high`, gives the name
-pub written-named : (i : ℕ) (n : List ℕ) → trimFront n ≡ n → trimEnd n ≡ n → named i (35 ∷ 32 ∷ 120 ∷ (written i ++ (32 ∷ n))) ≡ n
-unfolding named after afterNumber nameAfter trimFront
-written-named i n e f = ap nameAfter (number (ltb i 10)) ∙ name
-  where
-    number : (b : Bool) → let t = cond b ((48 + i) ∷ []) ((48 + i / 10) ∷ (48 + i % 10) ∷ []) ++ (32 ∷ n) in
-        cond b (after (48 + i) t) (after (48 + i % 10) (after (48 + i / 10) t)) ≡ 32 ∷ n
-    number true = rw (eq-eqb (48 + i) (48 + i) refl)
-    number false = rw (eq-eqb (48 + i / 10) (48 + i / 10) refl, eq-eqb (48 + i % 10) (48 + i % 10) refl)
-
-    name : nameAfter (32 ∷ n) ≡ n
-    name = rw (e, lt-ltb (length n) (suc (length n)) (omega arith), f)
 
 -- ---- a list of lines
 
