@@ -11,3 +11,4 @@ pub mod Scanning
 pub mod Outputs
 pub mod Keeping
 pub mod Telling
+pub mod Dropping

@@ -1,5 +1,6 @@
 pub mod Table
 pub mod Written
+pub mod Rows
 pub mod Meaning
 pub mod Answers
 pub mod Parts
