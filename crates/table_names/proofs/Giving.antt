@@ -130,10 +130,9 @@ named-in {i} {l} {w} g =
     ∙ ap nameAfter (number-in i t)
     ∙ name-in (g .gap) w (g .back) (g .apart) (g .back-blank) (g .starts) (g .ends)
 
--- nothing is no name
-some-name : (n : List ℕ) → (n ≡ [] → ⊥) → 1 ≤ length n
-some-name [] h = absurd (h refl)
-some-name (b ∷ n) h = omega arith
+nothing : (n : List ℕ) → (1 ≤ length n → ⊥) → n ≡ []
+nothing [] h = refl
+nothing (b ∷ n) h = absurd (h (omega arith))
 
 -- a line gives input i the name w exactly when it is written so
 pub named-iff : (i : ℕ) (l w : List ℕ) → 1 ≤ length w → (named i l ≡ w) ↔ Gives i l w
@@ -141,11 +140,7 @@ named-iff i l w h = (λ e. subst (Gives i l) e (named-out i l (omega (arith, ap 
 
 -- and no name exactly when none is
 pub named-none : (i : ℕ) (l : List ℕ) → (named i l ≡ []) ↔ ((w : List ℕ) → Gives i l w → ⊥)
-named-none i l = (λ e w g. omega (arith, g .one, ap length (sym (named-in g) ∙ e)), λ f. none (named i l) refl f)
-  where
-    none : (n : List ℕ) → named i l ≡ n → ((w : List ℕ) → Gives i l w → ⊥) → n ≡ []
-    none [] e f = refl
-    none (b ∷ n) e f = absurd (f (named i l) (named-out i l (omega (arith, ap length e))))
+named-none i l = (λ e w g. omega (arith, g .one, ap length (sym (named-in g) ∙ e)), λ f. nothing (named i l) (λ h. f (named i l) (named-out i l h)))
 
 -- no place is a blank
 place-solid : (x : ℕ) → isPlace x ≡ true → isBlank x ≡ false
@@ -232,8 +227,5 @@ module _ (i : ℕ) where
 
   -- and there is none exactly when they give none
   pub name-none : (t : List ℕ) → (nameOf i t ≡ []) ↔ ((w : List ℕ) → (i < 100) × FirstGiven i (linesOf t) w → ⊥)
-  name-none t = (λ e w g. omega (arith, g .1 .given .one, ap length (sym (name-given t w g) ∙ e)), λ f. none (nameOf i t) refl f)
-    where
-      none : (n : List ℕ) → nameOf i t ≡ n → ((w : List ℕ) → (i < 100) × FirstGiven i (linesOf t) w → ⊥) → n ≡ []
-      none [] e f = refl
-      none (b ∷ n) e f = absurd (f (nameOf i t) (name-written t (omega (arith, ap length e))))
+  name-none t =
+      (λ e w g. omega (arith, g .1 .given .one, ap length (sym (name-given t w g) ∙ e)), λ f. nothing (nameOf i t) (λ h. f (nameOf i t) (name-written t h)))
