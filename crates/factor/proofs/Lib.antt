@@ -6,3 +6,4 @@ pub mod Writing
 pub mod Answering
 pub mod Expanding
 pub mod Dividing
+pub mod Printing

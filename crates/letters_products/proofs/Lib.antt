@@ -1,3 +1,4 @@
 pub mod Texts
 pub mod Walking
 pub mod Turns
+pub mod Printing

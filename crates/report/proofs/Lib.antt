@@ -3,3 +3,4 @@ pub mod Counting
 pub mod Exploring
 pub mod Finding
 pub mod Outputs
+pub mod Printing
