@@ -1,3 +1,4 @@
 pub mod Opening
 pub mod Testing
 pub mod Cases
+pub mod Texts

@@ -1,3 +1,4 @@
 pub mod Tests
 pub mod Cases
 pub mod Meaning
+pub mod Texts
