@@ -1,7 +1,7 @@
 -- The literals of a cube: they ascend, each is of a variable that a cube has a place for, and they are all that a cube holds. Assumes nothing.
 use Prim.Native.Nat.{ℕ, _*_, _^_, _<_, _≤_}
 use mathlib.Core.Path.{_≡_}
-use mathlib.Core.Bool.{Bool, true, _&&_}
+use mathlib.Core.Bool.{true}
 use mathlib.Core.Option.{some}
 use lib.Dec.{ltb}
 use lib.ListN.{length}
@@ -12,6 +12,7 @@ use Rattle.sets.proofs.Sets.{ext}
 use Rattle.sets.proofs.Literals.{literals-asc, literals-at-most, mem-inside, plain-injective, negated-injective}
 use Rattle.sets.proofs.Scan as scan
 use Rattle.cube.specs.Cube.{width, lits}
+pub use Rattle.cube.specs.Cube.{fitCube}
 use Rattle.cube.specs.declared.Cube.{Cube}
 
 module _ (c : Cube) where
@@ -34,9 +35,6 @@ pub lits-ext : (a b : Cube) → ((l : ℕ) → mem l (lits a) ≡ mem l (lits b)
 lits-ext a b e = ext (lits a) (lits b) (lits-asc a) (lits-asc b) e
 
 -- ---- cubes as the language holds them are known from their literals
-
-abbrev pub fitCube : Cube → Bool
-fitCube c = ltb (c .plain) (2 ^ width) && ltb (c .negated) (2 ^ width)
 
 pub cube-one : (a b : Cube) → fitCube a ≡ true → fitCube b ≡ true → lits a ≡ lits b → a ≡ b
 cube-one a b h k e =

@@ -1,7 +1,7 @@
 -- The meaning of a cube, and of this crate's answers.
-use Prim.Native.Nat.{ℕ, _*_}
+use Prim.Native.Nat.{ℕ, _*_, _^_}
 use mathlib.Core.List.{List}
-use mathlib.Core.Bool.{cond}
+use mathlib.Core.Bool.{Bool, cond, _&&_}
 use mathlib.Core.Option.{Option, none, some}
 use lib.Dec.{ltb}
 use Rattle.sets.specs.Sets.{insert, before}
@@ -19,6 +19,10 @@ width = 64
 -- a cube's literals, ascending
 abbrev pub lits : Cube → List ℕ
 lits c = literals width (c .plain) (c .negated)
+
+-- both masks are words of that many bits
+abbrev pub fitCube : Cube → Bool
+fitCube c = ltb (c .plain) (2 ^ width) && ltb (c .negated) (2 ^ width)
 
 -- one literal more; a number past the last literal names none, and adds none
 abbrev pub joined : ℕ → List ℕ → List ℕ

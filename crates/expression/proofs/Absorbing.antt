@@ -14,10 +14,8 @@ use Rattle.sets.specs.Sets.{sub, asc, same}
 use Rattle.sets.proofs.Truth.{iff, both, together, either, or-left, or-right, decided, clash, refuted}
 use Rattle.sets.proofs.Lists.{_∈_, any-in, any-out, all-in, all-out, ahead, total-ones}
 use Rattle.sets.proofs.Sets.{sub-refl, sub-trans, sub-antisym, sub-out, mem-all, all-mem, same-eq, eq-same}
+pub use Rattle.expression.specs.Expression.{Cubes}
 use Rattle.expression.specs.Expression.{isCube, loose, expression, literalsOf, dropped, absorbFrom, absorbed}
-
-abbrev pub Cubes : Type 0
-Cubes = List (List ℕ)
 
 -- d is contained in c; d is a smaller set
 abbrev within : List ℕ → List ℕ → Bool

@@ -21,6 +21,7 @@ use Rattle.cube.specs.Cube.{width, lits}
 use Rattle.cube.specs.declared.Cube.{Cube}
 use Rattle.cube.proofs.Lits.{lits-asc, lits-inside, lits-at-most}
 use Rattle.expression.specs.Words.{cubeWords, cubesOf, spareOf, Spans, Put, Written, Placed}
+pub use Rattle.expression.specs.Words.{fit}
 use Rattle.expression.specs.Expression.{literalsOf}
 
 pub cubes-length : (ws : List ℕ) → length (cubesOf ws) ≡ length ws / 2
@@ -277,9 +278,6 @@ pub put-past : (ws : List ℕ) (i : ℕ) (c : List ℕ) → length ws / 2 ≤ i 
 put-past ws i c h = record { cubes = sym (set-out (cubesOf ws) i c (omega (arith, cubes-length ws))); spare = refl }
 
 -- ---- words of 64 bits are known from their cubes and the word left over
-
-abbrev pub fit : List ℕ → Bool
-fit ws = all (λ w. ltb w (2 ^ width)) ws
 
 pub words-ext : (a b : List ℕ) → fit a ≡ true → fit b ≡ true → cubesOf a ≡ cubesOf b → spareOf a ≡ spareOf b → a ≡ b
 unfolding cubesOf spareOf

@@ -1,8 +1,11 @@
 -- The cubes that lent words hold, two words for each: plain mask, negated mask.
-use Prim.Native.Nat.{ℕ, _+_, _-_, _*_, _≤_, min}
+use Prim.Native.Nat.{ℕ, _+_, _-_, _*_, _^_, _≤_, min}
 use mathlib.Core.Path.{_≡_}
+use mathlib.Core.Bool.{Bool}
 use mathlib.Core.List.{List, [], _∷_, _++_}
+use lib.Dec.{ltb}
 use lib.ListN.{length, take, drop, set, replicate}
+use Rattle.sets.specs.Lists.{all}
 use Rattle.sets.specs.Masks.{literals}
 use Rattle.cube.specs.Cube.{width}
 
@@ -20,6 +23,10 @@ unfoldable pub spareOf : List ℕ → List ℕ
 spareOf [] = []
 spareOf (p ∷ []) = p ∷ []
 spareOf (p ∷ n ∷ ws) = spareOf ws
+
+-- each word is one of as many bits as a mask
+abbrev pub fit : List ℕ → Bool
+fit ws = all (λ w. ltb w (2 ^ width)) ws
 
 -- the words of the cubes from a up to e, both held to what there is
 pub record Spans (ws : List ℕ) (a e from to : ℕ) : Type 0 where

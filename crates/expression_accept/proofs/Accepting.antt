@@ -13,10 +13,10 @@ use Rattle.sets.specs.Lists.{all, pairwise}
 use Rattle.sets.specs.Sets.{sub, asc, proper}
 use Rattle.sets.proofs.Truth.{both, decided, stand, below, equal, beyond}
 use Rattle.sets.proofs.First.{some-not-none}
-use Rattle.sets.proofs.Lists.{_∈_, all-in, all-out, all-cong}
+use Rattle.sets.proofs.Lists.{all-in, all-out, all-cong}
 use Rattle.expression.specs.Words.{cubeWords, cubesOf}
 use Rattle.expression.specs.Expression.{isCube, loose, expression}
-use Rattle.expression.specs.Answers.{mostHanded, refusal}
+use Rattle.expression.specs.Answers.{mostHanded, refusal, Acceptable}
 use Rattle.expression.proofs.Words.{cubes-asc, spare-length, spare-none, spare-some}
 use Rattle.sets.proofs.Places.{pairwise-at, at-pairwise}
 use Rattle.expression.proofs.Absorbing.{loose-in, loose-out}
@@ -55,12 +55,7 @@ module _ (ws : List ℕ) where
     unfolding refusal
     refused-else h = rw (le-ltb (cubeWords * mostHanded) (length ws) few, spare-none ws h, cubes-proper)
 
-  -- at most 1,024 cubes, no word left over, each cube with no variable both ways, and none containing or equal to another
-  abbrev pub Acceptable : Type 0
-  Acceptable = (length ws ≤ cubeWords * mostHanded) × (length ws % cubeWords ≡ 0) × ((c : List ℕ) → c ∈ cubesOf ws → proper c ≡ true)
-      × ((i j : ℕ) → i < length (cubesOf ws) → j < length (cubesOf ws) → (i ≡ j → ⊥) → sub (getD (cubesOf ws) i []) (getD (cubesOf ws) j []) ≡ false)
-
-  pub accepted-iff : (refusal ws ≡ none) ↔ Acceptable
+  pub accepted-iff : (refusal ws ≡ none) ↔ Acceptable ws
   accepted-iff = (
     out,
     λ (few, even, one, apart). refused-else few even
@@ -83,7 +78,7 @@ module _ (ws : List ℕ) where
       rest true e = refl
       rest false e = some-not-none (some 7) refl e
 
-      out : refusal ws ≡ none → Acceptable
+      out : refusal ws ≡ none → Acceptable ws
       out h =
           let q = both (all proper (cubesOf ws)) (pairwise loose (cubesOf ws)) (rest _ (sym (refused-else (few-of h) (even-of h)) ∙ h)) in
           (few-of h, even-of h, λ c m. all-out proper m (q .0), (loose-iff (cubesOf ws)) .0 (q .1))

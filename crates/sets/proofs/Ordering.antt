@@ -12,6 +12,7 @@ use lib.Dec.{eqb, ltb, leb}
 use borrow.Author.Tests.{ltb-true, ne-eqb, lt-ltb, le-leb, lt-leb}
 use Rattle.sets.specs.Sets.{mem, asc, before, firstFrom}
 use Rattle.sets.specs.Lists.{isSome}
+use Rattle.sets.specs.Meaning.{Earlier, prefix, differ}
 use Rattle.sets.specs.Masks.{literals}
 use Rattle.sets.proofs.Truth.{decided, clash, Stand, below, equal, beyond, stand}
 use Rattle.sets.proofs.Orders.{ltb-order, before-order, asym, lex-true, lex-self}
@@ -32,10 +33,6 @@ pub before-asym : (a b : List ℕ) → before a b ≡ true → before b a ≡ fa
 before-asym = asym before before-order
 
 -- ---- the first difference decides, a prefix comes first
-
-pub data Earlier (a b : List ℕ) : Type 0 where
-  prefix : (y : ℕ) (r : List ℕ) → b ≡ a ++ (y ∷ r) → Earlier a b
-  differ : (x y : ℕ) (p r s : List ℕ) → a ≡ p ++ (x ∷ r) → b ≡ p ++ (y ∷ s) → x < y → Earlier a b
 
 -- what `before` says of two lists that begin alike, and of two that do not
 pub before-same : (x : ℕ) (a b : List ℕ) → before (x ∷ a) (x ∷ b) ≡ before a b

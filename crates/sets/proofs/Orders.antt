@@ -9,15 +9,11 @@ use lib.Dec.{ltb}
 use borrow.Author.Tests.{ltb-true, ltb-false, lt-ltb, le-ltb, not-true}
 use Rattle.sets.specs.Lists.{pairwise}
 use Rattle.sets.specs.Sets.{lex, before}
+pub use Rattle.sets.specs.Meaning.{Strict}
 use Rattle.sets.proofs.Truth.{both, decided, clash}
 use Rattle.sets.proofs.Lists.{_∈_, all-out, ahead}
 
 -- ---- strict total orders as tests
-
-pub record Strict {A : Type 0} (r : A → A → Bool) : Type 0 where
-  pub irrefl : (x : A) → r x x ≡ false
-  pub trans : (x y z : A) → r x y ≡ true → r y z ≡ true → r x z ≡ true
-  pub linear : (x y : A) → r x y ≡ false → r y x ≡ false → x ≡ y
 
 module _ {A : Type 0} (r : A → A → Bool) (o : Strict r) where
   pub asym : (x y : A) → r x y ≡ true → r y x ≡ false
