@@ -17,8 +17,8 @@ use Rattle.sets.proofs.Sets.{sub-in, apart-in, apart-out, union-mem, union-all,
 use Rattle.sets.proofs.Sets.{sub-antisym, sub-out, same-eq, same-self, eq-same}
 use Rattle.expression.specs.Expression.{isCube, loose, expression, sort, ordered}
 use Rattle.expression.proofs.Sorting.{sort-in, sort-out, total-sort, loose-differ, expression-sort}
-use Rattle.division.specs.Division.{divides, leftOver, quotient, product, remainder}
-use Rattle.division.proofs.Quotients.{cube-asc, expression-keep, DividesAll, divides-in, quotient-in, quotient-out, quotient-form, product-in}
+use Rattle.division.specs.Division.{inQuotient, leftOver, quotient, product, remainder}
+use Rattle.division.proofs.Quotients.{cube-asc, expression-keep, UnionsIn, inQuotient-in, quotient-in, quotient-out, quotient-form, product-in}
 use Rattle.division.proofs.Quotients.{product-out, remainder-in, remainder-out, remainder-form}
 
 module _ (f d : List (List ℕ)) (ef : expression f ≡ true) (ed : expression d ≡ true) where
@@ -115,18 +115,18 @@ keep-none [] = refl
 keep-none (e ∷ l) = keep-none l
 
 module _ (f d : List (List ℕ)) (ef : expression f ≡ true) (ed : expression d ≡ true) where
-  -- a cube that divides is known from one of its unions
-  factor-part : (c c′ b b′ : List ℕ) → DividesAll f d c → b ∈ d → b′ ∈ d → union c b ≡ union c′ b′ → sub c c′ ≡ true
+  -- a cube of the quotient is known from one of its unions
+  factor-part : (c c′ b b′ : List ℕ) → UnionsIn f d c → b ∈ d → b′ ∈ d → union c b ≡ union c′ b′ → sub c c′ ≡ true
   factor-part c c′ b b′ k i j e = sub-in c c′ (λ z m.
       elim (either (mem z c′) (mem z b′) (sym (union-mem z c′ b′) ∙ ap (mem z) (sym e) ∙ sub-out c (union c b) z (union-left c b) m)) [
         | inl t ↦ t
         | inr t ↦ clash t (apart-out c b′ z ((k b′ j) .0) m)
       ])
 
-  factor-left : (c c′ b b′ : List ℕ) → asc c ≡ true → asc c′ ≡ true → DividesAll f d c → DividesAll f d c′ → b ∈ d → b′ ∈ d → union c b ≡ union c′ b′ → c ≡ c′
+  factor-left : (c c′ b b′ : List ℕ) → asc c ≡ true → asc c′ ≡ true → UnionsIn f d c → UnionsIn f d c′ → b ∈ d → b′ ∈ d → union c b ≡ union c′ b′ → c ≡ c′
   factor-left c c′ b b′ a a′ k k′ i j e = sub-antisym c c′ a a′ (factor-part c c′ b b′ k i j e) (factor-part c′ c b′ b k′ j i (sym e))
 
-  factor-right : (c b b′ : List ℕ) → asc c ≡ true → DividesAll f d c → b ∈ d → b′ ∈ d → union c b ≡ union c b′ → b ≡ b′
+  factor-right : (c b b′ : List ℕ) → asc c ≡ true → UnionsIn f d c → b ∈ d → b′ ∈ d → union c b ≡ union c b′ → b ≡ b′
   factor-right c b b′ a k i j e = sym (back b i) ∙ ap (λ z. without z c) e ∙ back b′ j
     where
       back : (b : List ℕ) → b ∈ d → without (union c b) c ≡ b
@@ -142,7 +142,7 @@ module _ (f d : List (List ℕ)) (ef : expression f ≡ true) (ed : expression d
   unions-out : (c e : List ℕ) → unions c e ≡ true → (b : List ℕ) × (b ∈ d) × (e ≡ union c b)
   unions-out c e h = let r = any-out (λ b. same e (union c b)) d h in (r .0, r .1, same-eq e (union c (r .0)) (r .2))
 
-  count-one : (c : List ℕ) → asc c ≡ true → DividesAll f d c → total one (keep (unions c) f) ≡ length d
+  count-one : (c : List ℕ) → asc c ≡ true → UnionsIn f d c → total one (keep (unions c) f) ≡ length d
   count-one c a k =
       total-same differ differ-flip differ-self one (keep (unions c) f) (map (union c) d)
       (pairwise-keep differ (unions c) f (differ-all f ef))
@@ -153,7 +153,7 @@ module _ (f d : List (List ℕ)) (ef : expression f ≡ true) (ed : expression d
       (keep-in (unions c) ((k (r .0) (r .1)) .1) (any-in (λ b. same (union c (r .0)) (union c b)) (r .1) (same-self (union c (r .0))))))
       ∙ total-ones (map (union c) d) ∙ length-map d (union c)
 
-  count-all : (q : List (List ℕ)) → pairwise differ q ≡ true → ((c : List ℕ) → c ∈ q → asc c ≡ true) → ((c : List ℕ) → c ∈ q → DividesAll f d c)
+  count-all : (q : List (List ℕ)) → pairwise differ q ≡ true → ((c : List ℕ) → c ∈ q → asc c ≡ true) → ((c : List ℕ) → c ∈ q → UnionsIn f d c)
       → total one (keep (product q d) f) ≡ length q * length d
   unfolding product
   count-all [] h a k = rw (keep-none f) (omega arith)
@@ -186,10 +186,10 @@ module _ (f : List (List ℕ)) (c : List ℕ) (ef : expression f ≡ true) (ec :
   -- what is left of the cubes that contain it
   pub quotient-cube : quotient f (c ∷ []) ≡ sort (leftOver f c)
   unfolding quotient
-  quotient-cube = ap sort (keep-all (divides f (c ∷ [])) (leftOver f c) (all-in (divides f (c ∷ [])) (leftOver f c) (λ x m.
+  quotient-cube = ap sort (keep-all (inQuotient f (c ∷ [])) (leftOver f c) (all-in (inQuotient f (c ∷ [])) (leftOver f c) (λ x m.
       let (e, i, h) = map-out (λ e. without e c) (keep (sub c) f) m in
       let (j, s) = keep-out (sub c) f i in
-      divides-in f (c ∷ []) x (λ b k. rw (List·Memᴰ·eq-of-singleton k, h) (without-apart e c, Memᴰ·cast (rejoin e c (cube-asc f ef j) ac s) j)))))
+      inQuotient-in f (c ∷ []) x (λ b k. rw (List·Memᴰ·eq-of-singleton k, h) (without-apart e c, Memᴰ·cast (rejoin e c (cube-asc f ef j) ac s) j)))))
 
   -- and the cubes that do not
   pub remainder-cube : remainder f (c ∷ []) ≡ sort (keep (λ e. not (sub c e)) f)

@@ -15,28 +15,28 @@ use Rattle.sets.proofs.Sets.{rejoin, unjoin, union-right}
 use Rattle.expression.specs.Expression.{expression, has, sort}
 use Rattle.expression.proofs.Members.{has-in, has-out}
 use Rattle.expression.proofs.Sorting.{sort-in, sort-out, expression-sort}
-use Rattle.division.specs.Division.{divides, leftOver, quotient, product, remainder}
-use Rattle.division.specs.Parts.{divisors, spared}
+use Rattle.division.specs.Division.{inQuotient, leftOver, quotient, product, remainder}
+use Rattle.division.specs.Parts.{unsortedQuotient, spared}
 use Rattle.division.proofs.Quotients.{cube-asc, quotient-in, quotient-out, quotient-form, product-in, product-out, remainder-in, remainder-out}
 use Rattle.division.proofs.Quotients.{remainder-form}
 
 -- ---- the lists, one cube of the dividend after the other
 
 module _ (f d : List (List ℕ)) (first : List ℕ) where
-  -- the divisors that the cubes l give
+  -- what the cubes l give to the quotient
   abbrev pub given : List (List ℕ) → List (List ℕ)
-  given l = keep (divides f d) (leftOver l first)
+  given l = keep (inQuotient f d) (leftOver l first)
 
   pub given-length : (l : List (List ℕ)) → length (given l) ≤ length l
   given-length l =
-      omega (arith, keep-length (divides f d) (leftOver l first), length-map (keep (sub first) l) (λ e. without e first), keep-length (sub first) l)
+      omega (arith, keep-length (inQuotient f d) (leftOver l first), length-map (keep (sub first) l) (λ e. without e first), keep-length (sub first) l)
 
 -- ---- the quotient and the remainder, of the dividend in cube order
 
-pub divisors-sorted : (f d : List (List ℕ)) → 0 < length d → sort (divisors f d) ≡ quotient f d
+pub unsortedQuotient-sorted : (f d : List (List ℕ)) → 0 < length d → sort (unsortedQuotient f d) ≡ quotient f d
 unfolding quotient
-divisors-sorted f [] n = absurd (omega arith)
-divisors-sorted f (c ∷ d) n = refl
+unsortedQuotient-sorted f [] n = absurd (omega arith)
+unsortedQuotient-sorted f (c ∷ d) n = refl
 
 module _ (f d : List (List ℕ)) (ef : expression f ≡ true) (ed : expression d ≡ true) (n : 0 < length d) where
   es : expression (sort f) ≡ true
@@ -50,8 +50,8 @@ module _ (f d : List (List ℕ)) (ef : expression f ≡ true) (ed : expression d
       (λ c m. quotient-in (sort f) d c es ed n (cube-asc (quotient f d) ((quotient-form f d ef ed) .0) m)
       (λ b i. let r = quotient-out f d c m b i in (r .0, sort-in (r .1))))
 
-  pub made-quotient : sort (divisors (sort f) d) ≡ quotient f d
-  made-quotient = divisors-sorted (sort f) d n ∙ quotient-sort
+  pub made-quotient : sort (unsortedQuotient (sort f) d) ≡ quotient f d
+  made-quotient = unsortedQuotient-sorted (sort f) d n ∙ quotient-sort
 
   -- a cube is spared where it is no union
   spared-product : (e : List ℕ) → asc e ≡ true → spared (quotient f d) d e ≡ not (product (quotient f d) d e)

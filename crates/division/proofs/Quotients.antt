@@ -16,7 +16,7 @@ use Rattle.expression.specs.Expression.{isCube, loose, expression, has, ordered
 use Rattle.expression.proofs.Members.{has-in, has-out}
 use Rattle.expression.proofs.Sorting.{sort-in, sort-out, expression-sort}
 use Rattle.expression.proofs.Absorbing.{loose-in, loose-out}
-use Rattle.division.specs.Division.{divides, leftOver, quotient, product, remainder}
+use Rattle.division.specs.Division.{inQuotient, leftOver, quotient, product, remainder}
 
 -- ---- expressions
 
@@ -33,18 +33,18 @@ expression-keep p f h =
     together (all isCube (keep p f)) (pairwise loose (keep p f)) (all-in isCube (keep p f) (λ c m. all-out isCube ((keep-out p f m) .0) (q .0)))
     (pairwise-keep loose p f (q .1))
 
--- ---- what divides
+-- ---- what is in the quotient
 
-abbrev pub DividesAll : List (List ℕ) → List (List ℕ) → List ℕ → Type 0
-DividesAll f d c = (b : List ℕ) → b ∈ d → (apart c b ≡ true) × (union c b ∈ f)
+abbrev pub UnionsIn : List (List ℕ) → List (List ℕ) → List ℕ → Type 0
+UnionsIn f d c = (b : List ℕ) → b ∈ d → (apart c b ≡ true) × (union c b ∈ f)
 
-pub divides-in : (f d : List (List ℕ)) (c : List ℕ) → DividesAll f d c → divides f d c ≡ true
-unfolding divides
-divides-in f d c k = all-in (λ b. apart c b && has (union c b) f) d (λ b m. together _ _ ((k b m) .0) (has-in ((k b m) .1)))
+pub inQuotient-in : (f d : List (List ℕ)) (c : List ℕ) → UnionsIn f d c → inQuotient f d c ≡ true
+unfolding inQuotient
+inQuotient-in f d c k = all-in (λ b. apart c b && has (union c b) f) d (λ b m. together _ _ ((k b m) .0) (has-in ((k b m) .1)))
 
-pub divides-out : (f d : List (List ℕ)) (c : List ℕ) → divides f d c ≡ true → DividesAll f d c
-unfolding divides
-divides-out f d c h b m =
+pub inQuotient-out : (f d : List (List ℕ)) (c : List ℕ) → inQuotient f d c ≡ true → UnionsIn f d c
+unfolding inQuotient
+inQuotient-out f d c h b m =
     let q = both (apart c b) (has (union c b) f) (all-out (λ b. apart c b && has (union c b) f) m h) in
     (q .0, has-out (union c b) f (q .1))
 
@@ -93,25 +93,25 @@ module _ (f : List (List ℕ)) (c : List ℕ) (ef : expression f ≡ true) (ac :
 
 -- ---- the quotient
 
-pub quotient-in : (f d : List (List ℕ)) (x : List ℕ) → expression f ≡ true → expression d ≡ true → 0 < length d → asc x ≡ true → DividesAll f d x
+pub quotient-in : (f d : List (List ℕ)) (x : List ℕ) → expression f ≡ true → expression d ≡ true → 0 < length d → asc x ≡ true → UnionsIn f d x
     → x ∈ quotient f d
 unfolding quotient
 quotient-in f [] x ef ed n a k = absurd (omega arith)
 quotient-in f (c ∷ d) x ef ed n a k =
     let h = k c (here refl) in
-    sort-in (keep-in (divides f (c ∷ d)) (left-in f c ef (cube-asc (c ∷ d) ed (here refl)) x a (h .0) (h .1)) (divides-in f (c ∷ d) x k))
+    sort-in (keep-in (inQuotient f (c ∷ d)) (left-in f c ef (cube-asc (c ∷ d) ed (here refl)) x a (h .0) (h .1)) (inQuotient-in f (c ∷ d) x k))
 
-pub quotient-out : (f d : List (List ℕ)) (x : List ℕ) → x ∈ quotient f d → DividesAll f d x
+pub quotient-out : (f d : List (List ℕ)) (x : List ℕ) → x ∈ quotient f d → UnionsIn f d x
 unfolding quotient
 quotient-out f [] x m b i = absurd (List·Memᴰ·not-nil i)
-quotient-out f (c ∷ d) x m b i = divides-out f (c ∷ d) x ((keep-out (divides f (c ∷ d)) (leftOver f c) (sort-out _ m)) .1) b i
+quotient-out f (c ∷ d) x m b i = inQuotient-out f (c ∷ d) x ((keep-out (inQuotient f (c ∷ d)) (leftOver f c) (sort-out _ m)) .1) b i
 
 -- an expression, in cube order
 pub quotient-form : (f d : List (List ℕ)) → expression f ≡ true → expression d ≡ true
     → (expression (quotient f d) ≡ true) × (ordered (quotient f d) ≡ true)
 unfolding quotient
 quotient-form f [] ef ed = (refl, refl)
-quotient-form f (c ∷ d) ef ed = expression-sort _ (expression-keep (divides f (c ∷ d)) (leftOver f c)
+quotient-form f (c ∷ d) ef ed = expression-sort _ (expression-keep (inQuotient f (c ∷ d)) (leftOver f c)
     (left-expression f c ef (cube-asc (c ∷ d) ed (here refl))))
 
 -- ---- unions of a cube of q and a cube of d

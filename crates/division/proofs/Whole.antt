@@ -12,7 +12,7 @@ use Rattle.expression.proofs.Words.{room-cubes}
 use Rattle.expression.proofs.Placing.{appends-as}
 use Rattle.expression.proofs.Sorting.{sort-length, expression-sort}
 use Rattle.division.specs.Division.{quotient, remainder}
-use Rattle.division.specs.Parts.{OrderedRoom, divisors, spared, sparedOf}
+use Rattle.division.specs.Parts.{OrderedRoom, unsortedQuotient, spared, sparedOf}
 use Rattle.division.proofs.Quotients.{quotient-form}
 use Rattle.division.proofs.Making.{made-quotient, made-remainder}
 use Rattle.division.proofs.Refusing.{Admissible}
@@ -35,10 +35,11 @@ module _ {f d : List ℕ} (m : Admissible f d) where
     pub sorted-ready : OrderedRoom s blank
     sorted-ready = record { order = rw e ((expression-sort (cubesOf f) (m .dividend .cubes)) .1); room = sorted-room }
 
-    pub listed-quotient : {old new : List ℕ} {n : ℕ} → Appends old new 0 (sort (divisors (cubesOf s) (cubesOf d))) n
+    pub listed-quotient : {old new : List ℕ} {n : ℕ} → Appends old new 0 (sort (unsortedQuotient (cubesOf s) (cubesOf d))) n
         → Appends old new 0 (quotient (cubesOf f) (cubesOf d)) n
     listed-quotient l =
-        appends-as (ap (λ g. sort (divisors g (cubesOf d))) e ∙ made-quotient (cubesOf f) (cubesOf d) (m .dividend .cubes) (m .divisor .cubes) (m .filled)) l
+        appends-as (ap (λ g. sort (unsortedQuotient g (cubesOf d))) e
+        ∙ made-quotient (cubesOf f) (cubesOf d) (m .dividend .cubes) (m .divisor .cubes) (m .filled)) l
 
     module _ (q : List ℕ) (h : cubesOf q ≡ quotient (cubesOf f) (cubesOf d)) where
       pub quotient-order : ordered (cubesOf q) ≡ true

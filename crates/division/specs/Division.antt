@@ -6,18 +6,18 @@ use Rattle.sets.specs.Lists.{any, all, keep}
 use Rattle.sets.specs.Sets.{sub, apart, union, without, same}
 use Rattle.expression.specs.Expression.{has, sort}
 
--- q shares no literal with any cube of d, and its union with each is in f
-unfoldable pub divides : List (List ℕ) → List (List ℕ) → List ℕ → Bool
-divides f d q = all (λ c. apart q c && has (union q c) f) d
+-- q is in F/D: it shares no literal with any cube of d, and its union with each is in f
+unfoldable pub inQuotient : List (List ℕ) → List (List ℕ) → List ℕ → Bool
+inQuotient f d q = all (λ c. apart q c && has (union q c) f) d
 
 -- the cubes of f that contain the cube c, without it
 abbrev pub leftOver : List (List ℕ) → List ℕ → List (List ℕ)
 leftOver f c = map (λ e. without e c) (keep (sub c) f)
 
--- F/D: every cube that divides so, in cube order; each is what is left of a cube of F without the first cube of D
+-- F/D: every such cube, in cube order; each is what is left of a cube of F without the first cube of D
 unfoldable pub quotient : List (List ℕ) → List (List ℕ) → List (List ℕ)
 quotient f [] = []
-quotient f (c ∷ d) = sort (keep (divides f (c ∷ d)) (leftOver f c))
+quotient f (c ∷ d) = sort (keep (inQuotient f (c ∷ d)) (leftOver f c))
 
 -- e is the union of a cube of q and a cube of d
 unfoldable pub product : List (List ℕ) → List (List ℕ) → List ℕ → Bool

@@ -11,7 +11,7 @@ use Rattle.sets.specs.Sets.{sub, without}
 use Rattle.expression.specs.Words.{cubesOf, Written}
 use Rattle.expression.specs.Expression.{has, ordered}
 use Rattle.expression.specs.Answers.{refusal}
-use Rattle.division.specs.Division.{divides, leftOver}
+use Rattle.division.specs.Division.{inQuotient, leftOver}
 use Rattle.division.specs.Answers.{either}
 use Rattle.division.specs.declared.Division.{Division}
 use Rattle.division.specs.declared.Division.the-variants.{Done, Refused}
@@ -29,9 +29,9 @@ pub record OrderedRoom (f to : List ℕ) : Type 0 where
   pub order : ordered (cubesOf f) ≡ true
   pub room : length (cubesOf f) ≤ length (cubesOf to)
 
--- what is left of the cubes of f without the first cube of d, where it divides
-abbrev pub divisors : List (List ℕ) → List (List ℕ) → List (List ℕ)
-divisors f d = keep (divides f d) (leftOver f (getD d 0 []))
+-- the quotient before it is sorted: what is left of the cubes of f without the first cube of d, where it is in the quotient
+abbrev pub unsortedQuotient : List (List ℕ) → List (List ℕ) → List (List ℕ)
+unsortedQuotient f d = keep (inQuotient f d) (leftOver f (getD d 0 []))
 
 -- no cube of d is in e with what is left of e in q
 unfoldable pub spared : List (List ℕ) → List (List ℕ) → List ℕ → Bool

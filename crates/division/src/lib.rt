@@ -11,9 +11,9 @@ ghost use Rattle.cube.specs.Cube.{lits};
 ghost use Rattle.expression.specs.Words.{cubesOf, Appends};
 ghost use Rattle.expression.specs.Expression.{has, sort, ordered};
 ghost use Rattle.expression.specs.Answers.{refusalOf};
-ghost use Rattle.division.specs.Division.{divides};
+ghost use Rattle.division.specs.Division.{inQuotient};
 ghost use Rattle.division.specs.Answers.{either, Divided};
-ghost use Rattle.division.specs.Parts.{noCubes, admitted, OrderedRoom, divisors, spared, sparedOf, HandedOver};
+ghost use Rattle.division.specs.Parts.{noCubes, admitted, OrderedRoom, unsortedQuotient, spared, sparedOf, HandedOver};
 
 pub enum Division {
     Done(usize, usize),
@@ -100,7 +100,7 @@ fn fits(f: &[u64], c: Cube, b: Cube) -> bool
 // Whether c fits each cube of d.
 fn fits_all(f: &[u64], d: &[u64], c: Cube) -> bool
     requires { ⌜ ordered (cubesOf (now f)) ≡ true ⌝ }
-    ensures { λ r. ⌜ r ≡ divides (cubesOf (now (f .entry))) (cubesOf (now (d .entry))) (lits c) ⌝ }
+    ensures { λ r. ⌜ r ≡ inQuotient (cubesOf (now (f .entry))) (cubesOf (now (d .entry))) (lits c) ⌝ }
 {
     let mut i = 0;
     while i < expression::number(d) {
@@ -115,7 +115,7 @@ fn fits_all(f: &[u64], d: &[u64], c: Cube) -> bool
 // What is left of each cube of f without the first cube of d, where it fits all of d.
 fn list_quotient(f: &[u64], d: &[u64], to: &mut [u64]) -> usize
     requires { ⌜ OrderedRoom (now f) (now to) ⌝ }
-    ensures { λ r. ⌜ Appends (now (to .entry)) (now (to .exit)) 0 (divisors (cubesOf (now (f .entry))) (cubesOf (now (d .entry)))) r ⌝ }
+    ensures { λ r. ⌜ Appends (now (to .entry)) (now (to .exit)) 0 (unsortedQuotient (cubesOf (now (f .entry))) (cubesOf (now (d .entry)))) r ⌝ }
 {
     let first = expression::cube_at(d, 0);
     let n = expression::number(f);
@@ -140,7 +140,7 @@ fn list_quotient(f: &[u64], d: &[u64], to: &mut [u64]) -> usize
 // The same, in cube order.
 fn list_quotient_sorted(f: &[u64], d: &[u64], to: &mut [u64]) -> usize
     requires { ⌜ OrderedRoom (now f) (now to) ⌝ }
-    ensures { λ r. ⌜ Appends (now (to .entry)) (now (to .exit)) 0 (sort (divisors (cubesOf (now (f .entry))) (cubesOf (now (d .entry))))) r ⌝ }
+    ensures { λ r. ⌜ Appends (now (to .entry)) (now (to .exit)) 0 (sort (unsortedQuotient (cubesOf (now (f .entry))) (cubesOf (now (d .entry))))) r ⌝ }
 {
     let k = list_quotient(f, d, to);
     expression_sort::sort_part(to, 0, k);

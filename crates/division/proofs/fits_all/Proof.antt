@@ -12,12 +12,12 @@ use Rattle.sets.proofs.Places.{all-stop, all-on, all-done}
 use Rattle.cube.specs.Cube.{lits}
 use Rattle.expression.specs.Words.{cubesOf}
 use Rattle.expression.specs.Expression.{has}
-use Rattle.division.specs.Division.{divides}
+use Rattle.division.specs.Division.{inQuotient}
 use Rattle.division.proofs.fits_all.Statement.{statement}
 use Rattle.division.proofs.fits_all.Tie as tie
 
 abbrev Inv-loop : tie.InvT-loop
-Inv-loop f d c i₀ i = (i ≤ length (cubesOf d)) × (divides (cubesOf f) (drop i (cubesOf d)) (lits c) ≡ divides (cubesOf f) (cubesOf d) (lits c))
+Inv-loop f d c i₀ i = (i ≤ length (cubesOf d)) × (inQuotient (cubesOf f) (drop i (cubesOf d)) (lits c) ≡ inQuotient (cubesOf f) (cubesOf d) (lits c))
 
 abbrev μ-loop : tie.MeasureT-loop
 μ-loop f d c i₀ i = length (cubesOf d) - i
@@ -38,19 +38,19 @@ tested : (c : tie.After-fits2 Inv-loop μ-loop) → let l = c .before .before .b
 tested c = ap (test (start (c .before .before .before .before))) (sym (c .before .cube-at .ensures)) ∙ sym (c .fits2 .ensures)
 
 returns : tie.Need-returns Inv-loop μ-loop
-unfolding divides
+unfolding inQuotient
 returns c =
     let l = c .before .before .before .before .before in
     sym (all-stop (cubes l) (l .loop .i) [] (omega arith) (test (start l)) (tested (c .before) ∙ not-true _ (c .if2 .taken))) ∙ l .loop .inv .1
 
 loop-again : tie.Need-loop-again Inv-loop μ-loop
-unfolding divides
+unfolding inQuotient
 loop-again c =
     let l = c .before .before .before .before .before in
     (search needs, sym (all-on (cubes l) (l .loop .i) [] (omega arith) (test (start l)) (tested (c .before) ∙ not-false _ (c .if2 .left))) ∙ l .loop .inv .1)
 
 returns-2 : tie.Need-returns-2 Inv-loop μ-loop
-unfolding divides
+unfolding inQuotient
 returns-2 c =
     let l = c .before .before in
     sym (all-done (cubes l) (l .loop .i) (omega arith) (test (start l))) ∙ l .loop .inv .1
