@@ -12,15 +12,9 @@ use Rattle.sets.specs.Sets.{mem, sub, asc, same}
 use Rattle.sets.proofs.Truth.{iff, both, together}
 use Rattle.sets.proofs.Lists.{_∈_, keep-in, keep-out, keep-le, keep-cong}
 use Rattle.sets.proofs.Sets.{meet-mem, meet-asc, sub-in, sub-out, sub-trans, same-eq, eq-same, ext}
+use Rattle.expression.specs.Expression.{Cubes}
+use Rattle.cokernel.specs.Meaning.{Held}
 use Rattle.cokernel.specs.Cokernels.{above, common, isCokernel}
-
-abbrev pub Cubes : Type 0
-Cubes = List (List ℕ)
-
--- each cube ascending, and no literal from n on
-pub record Held (n : ℕ) (f : Cubes) : Type 0 where
-  pub rising : (c : List ℕ) → c ∈ f → asc c ≡ true
-  pub inside : (c : List ℕ) → c ∈ f → (l : ℕ) → mem l c ≡ true → l < n
 
 -- ---- what some cubes have in common
 

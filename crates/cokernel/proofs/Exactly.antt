@@ -16,11 +16,12 @@ use Rattle.sets.proofs.Orders.{before-order, ext-in}
 use Rattle.sets.proofs.Sets.{sub-in, sub-out, ext}
 use Rattle.cube.specs.Cube.{width}
 use Rattle.expression.specs.Words.{cubesOf}
-use Rattle.expression.specs.Expression.{ordered}
+use Rattle.expression.specs.Expression.{Cubes, ordered}
 use Rattle.expression.proofs.Words.{cubes-asc, cubes-inside}
 use Rattle.cokernel.specs.Cokernels.{above, common, isCokernel, opens, beyond, cokernels}
-use Rattle.cokernel.proofs.Closing.{Cubes, Held, above-asc, common-more, common-above, cokernel-out, cokernel-iff, common-cokernel}
-use Rattle.cokernel.proofs.Walking.{Prefix, prefix-none, prefix-with, SameBelow, branchCubes, mem-there, prefix-past, up-to}
+use Rattle.cokernel.specs.Meaning.{Held, Prefix, Alive, branchCubes}
+use Rattle.cokernel.proofs.Closing.{above-asc, common-more, common-above, cokernel-out, cokernel-iff, common-cokernel}
+use Rattle.cokernel.proofs.Walking.{prefix-none, prefix-with, mem-there, prefix-past, up-to}
 use Rattle.cokernel.proofs.Walking.{opens-out, beyond-out, beyond-in, beyond-ordered, branch-out, branch-in, branch-ordered}
 
 -- what words hold
@@ -76,11 +77,6 @@ module _ (f : Cubes) where
         (λ c m. let q = (k c) .0 m in cokernels-in c (q .0) (q .1)) (λ c m. (k c) .1 (cokernels-out c m))
 
 -- ---- why the cost goes with the answers
-
--- the walk stands at j with p for a co-kernel: what the cubes above p have in common is one, and is alike with p below j
-pub record Alive (f : Cubes) (p : List ℕ) (j : ℕ) : Type 0 where
-  pub two : 2 ≤ length (above f p)
-  pub alike : SameBelow j (common (above f p)) p
 
 pub alive-cokernel : (f : Cubes) (p : List ℕ) (j : ℕ) → Alive f p j → isCokernel f (common (above f p)) ≡ true
 alive-cokernel f p j a = common-cokernel f p (a .two)

@@ -22,8 +22,10 @@ use Rattle.expression.specs.Words.{Placed}
 use Rattle.expression.proofs.Placing.{placed-none, placed-then, placed-length}
 use Rattle.cokernel.specs.Cokernels.{above, common, isCokernel, opens, beyond}
 use Rattle.cokernel.specs.Parts.{only, Shared, Branched, Walks, Walked}
-use Rattle.cokernel.proofs.Closing.{Cubes, Held, above-asc, common-above}
-use Rattle.cokernel.proofs.Walking.{Prefix, prefix-on, prefix-with, prefix-past, SameBelow, opens-out, opens-in}
+use Rattle.expression.specs.Expression.{Cubes}
+use Rattle.cokernel.specs.Meaning.{Held, Prefix, SameBelow}
+use Rattle.cokernel.proofs.Closing.{above-asc, common-above}
+use Rattle.cokernel.proofs.Walking.{prefix-on, prefix-with, prefix-past, opens-out, opens-in}
 use Rattle.cokernel.proofs.Exactly.{beyond-none}
 
 -- ---- closing a cube, from the last cube to the first

@@ -17,7 +17,7 @@ use Rattle.cokernel.specs.Answers.{refusedBy, Told}
 use Rattle.cokernel.specs.Parts.{only, Shared, Walks, Walked}
 use Rattle.cokernel.specs.declared.Listed.{Listed}
 use Rattle.cokernel.specs.declared.Listed.the-variants.{All, Refused}
-use Rattle.cokernel.proofs.Closing.{Cubes}
+use Rattle.expression.specs.Expression.{Cubes}
 use Rattle.cokernel.proofs.Walking.{prefix-none}
 use Rattle.cokernel.proofs.Steps.{cokernel-test, walked-then, walked-only}
 

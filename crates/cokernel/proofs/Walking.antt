@@ -3,7 +3,7 @@ use Prim.Native.Nat.{ℕ, zero, suc, _+_, _<_, _≤_}
 use mathlib.Core.Path.{_≡_, refl, sym, _∙_, ap, subst}
 use mathlib.Core.Logic.{_⊎_, inl, inr}
 use mathlib.Core.Bool.{Bool, true, false, cond, and-true}
-use mathlib.Core.List.{List, [], _∷_, _++_, List·Memᴰ·head as here, List·Memᴰ·not-nil, List·Memᴰ·append-cases, List·Memᴰ·eq-of-singleton}
+use mathlib.Core.List.{List, [], _∷_, List·Memᴰ·head as here, List·Memᴰ·not-nil, List·Memᴰ·append-cases, List·Memᴰ·eq-of-singleton}
 use mathlib.Core.List.{Memᴰ·append-left, Memᴰ·append-right}
 use mathlib.Core.Option.{Option, none, some}
 use native.Mathlib.Omega.{arith}
@@ -17,8 +17,10 @@ use Rattle.sets.proofs.Lists.{_∈_, keep-out, pairwise-append, pairwise-keep}
 use Rattle.sets.proofs.Sets.{insert-mem, insert-asc, keep-mem, sub-in, sub-out, same-eq, eq-same, ext}
 use Rattle.sets.proofs.First.{first-none, none-first, some-first}
 use Rattle.sets.proofs.Ordering.{before-first, before-linear}
+use Rattle.expression.specs.Expression.{Cubes}
 use Rattle.cokernel.specs.Cokernels.{above, common, isCokernel, below, opens, beyond}
-use Rattle.cokernel.proofs.Closing.{Cubes, Held, above-asc, above-fewer, common-more, common-above, cokernel-out}
+use Rattle.cokernel.specs.Meaning.{Held, Prefix, SameBelow, branchCubes}
+use Rattle.cokernel.proofs.Closing.{above-asc, above-fewer, common-more, common-above, cokernel-out}
 
 -- ---- a list that goes on from a number
 
@@ -42,10 +44,6 @@ on-none j c h l k = refuted (λ m. clash (on-in j c l k m) h)
 
 -- ---- literals below j, and cubes that agree there
 
-pub record Prefix (p : List ℕ) (j : ℕ) : Type 0 where
-  pub rising : asc p ≡ true
-  pub low : (l : ℕ) → mem l p ≡ true → l < j
-
 pub prefix-none : Prefix [] 0
 unfolding mem
 prefix-none = record { rising = refl; low = λ l m. clash m refl }
@@ -68,9 +66,6 @@ mem-with p j l h = insert-mem l j p ∙ rw (ne-eqb l j (λ (e : l ≡ j). omega 
 
 pub mem-there : (p : List ℕ) (j : ℕ) → mem j (insert j p) ≡ true
 mem-there p j = insert-mem j j p ∙ rw (eq-eqb j j refl)
-
-abbrev pub SameBelow : ℕ → List ℕ → List ℕ → Type 0
-SameBelow j a b = (l : ℕ) → l < j → mem l a ≡ mem l b
 
 pub up-to : (j : ℕ) (a b : List ℕ) → SameBelow j a b → mem j a ≡ mem j b → SameBelow (suc j) a b
 up-to j a b h e l k = elim (stand l j) [ lower s _ _ ↦ h l s | equal s _ _ ↦ rw s e | upper s _ _ ↦ absurd (omega arith) ]
@@ -148,10 +143,6 @@ cond-out false l m = absurd (List·Memᴰ·not-nil m)
 pub cond-in : {x : List ℕ} {l : Cubes} (b : Bool) → b ≡ true → x ∈ l → x ∈ cond b l []
 cond-in true h m = m
 cond-in false h m = clash h refl
-
--- what an open branch lists: its own cube, if that is a co-kernel, and those beyond it
-abbrev pub branchCubes : ℕ → Cubes → List ℕ → ℕ → Cubes
-branchCubes k f q j = cond (isCokernel f q) (q ∷ []) [] ++ beyond k f q j
 
 module _ (k : ℕ) (f : Cubes) (q : List ℕ) (j : ℕ) (h : Prefix q j) (c : List ℕ) where
   pub branch-out : (c ∈ beyond k f q j → GoesOn f q j c) → c ∈ branchCubes k f q j → (asc c ≡ true) × (isCokernel f c ≡ true) × SameBelow j c q

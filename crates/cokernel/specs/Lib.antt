@@ -1,3 +1,4 @@
 pub mod Cokernels
+pub mod Meaning
 pub mod Answers
 pub mod Parts
