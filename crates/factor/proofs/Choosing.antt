@@ -12,7 +12,7 @@ use Rattle.sets.specs.Sets.{mem}
 use Rattle.sets.proofs.Truth.{decided}
 use Rattle.cube.specs.Cube.{width}
 use Rattle.factor.specs.Form.{usedIn, most, mostUsed}
-use Rattle.factor.proofs.Falling.{Cubes}
+use Rattle.expression.specs.Expression.{Cubes}
 
 -- ---- one literal at a time
 

@@ -15,15 +15,15 @@ use Rattle.sets.proofs.Truth.{both, clash, decided}
 use Rattle.sets.proofs.Lists.{_∈_, keep-out, pairwise-keep, pairwise-out, pairwise-map}
 use Rattle.sets.proofs.Orders.{before-order}
 use Rattle.sets.proofs.Removal.{before-removed}
-use Rattle.expression.specs.Expression.{isCube, loose, expression, sort, ordered, literalsOf}
+use Rattle.expression.specs.Expression.{Cubes, isCube, loose, expression, sort, ordered, literalsOf}
 use Rattle.expression.proofs.Absorbing.{loose-out}
 use Rattle.expression.proofs.Sorting.{loose-flip, ordered-sort, expression-sort, total-sort}
 use Rattle.division.specs.Division.{quotient, remainder}
 use Rattle.division.proofs.Quotients.{cube-asc}
 use Rattle.division.proofs.Dividing.{quotient-expression, remainder-expression, quotient-cube, remainder-cube}
-use Rattle.factor.specs.Form.{usedIn, mostUsed, over, rest, Form, formBy, formOf}
+use Rattle.factor.specs.Form.{usedIn, mostUsed, dividedBy, rest, Form, formBy, formOf}
 use Rattle.factor.specs.Meaning.{alone, Divisible, Picked, Divided}
-use Rattle.factor.proofs.Falling.{Cubes, literals-fall, over-less, rest-less, form-plain, form-times, form-plus}
+use Rattle.factor.proofs.Falling.{literals-fall, dividedBy-less, rest-less, form-plain, form-times, form-plus}
 
 alone-expression : (l : ℕ) → expression (alone l) ≡ true
 unfolding proper mem
@@ -35,8 +35,8 @@ has-alone l = fun-ext (λ c. and-true (mem l c))
 
 module _ (l : ℕ) (f : Cubes) (ef : expression f ≡ true) (o : ordered f ≡ true) where
   -- in cube order
-  pub over-ordered : ordered (over l f) ≡ true
-  over-ordered = pairwise-map before before (λ c. without c (l ∷ [])) (keep (mem l) f) go (pairwise-keep before (mem l) f o)
+  pub dividedBy-ordered : ordered (dividedBy l f) ≡ true
+  dividedBy-ordered = pairwise-map before before (λ c. without c (l ∷ [])) (keep (mem l) f) go (pairwise-keep before (mem l) f o)
     where
       go : (c d : List ℕ) → c ∈ keep (mem l) f → d ∈ keep (mem l) f → before c d ≡ true → before (without c (l ∷ [])) (without d (l ∷ [])) ≡ true
       go c d m n h =
@@ -51,17 +51,17 @@ module _ (l : ℕ) (f : Cubes) (ef : expression f ≡ true) (o : ordered f ≡ t
   rest-ordered = pairwise-keep before (λ c. not (mem l c)) f o
 
   -- F/l is the quotient, the rest the remainder
-  pub over-quotient : over l f ≡ quotient f (alone l)
-  over-quotient = sym (quotient-cube f (l ∷ []) ef (alone-expression l) ∙ ap (λ p. sort (map (λ c. without c (l ∷ [])) (keep p f))) (has-alone l)
-      ∙ ordered-sort (over l f) over-ordered)
+  pub dividedBy-quotient : dividedBy l f ≡ quotient f (alone l)
+  dividedBy-quotient = sym (quotient-cube f (l ∷ []) ef (alone-expression l) ∙ ap (λ p. sort (map (λ c. without c (l ∷ [])) (keep p f))) (has-alone l)
+      ∙ ordered-sort (dividedBy l f) dividedBy-ordered)
 
   pub rest-remainder : rest l f ≡ remainder f (alone l)
   rest-remainder = sym (remainder-cube f (l ∷ []) ef (alone-expression l) ∙ ap (λ p. sort (keep (λ c. not (p c)) f)) (has-alone l)
       ∙ ordered-sort (rest l f) rest-ordered)
 
   -- expressions again
-  pub over-expression : expression (over l f) ≡ true
-  over-expression = rw over-quotient (quotient-expression f (alone l) ef (alone-expression l))
+  pub dividedBy-expression : expression (dividedBy l f) ≡ true
+  dividedBy-expression = rw dividedBy-quotient (quotient-expression f (alone l) ef (alone-expression l))
 
   pub rest-expression : expression (rest l f) ≡ true
   rest-expression = rw rest-remainder (remainder-expression f (alone l) ef (alone-expression l))
@@ -76,9 +76,9 @@ module _ (f : Cubes) (d : Divisible f) (k : ℕ) where
   flat : usedIn l f < 2 → Divided f (formBy k f)
   flat few = subst (λ (x : Form). Divided f x) (sym (form-plain f k few)) (d, few, refl)
 
-  module _ (many : 2 ≤ usedIn l f) (x : Divided (over l f) (formBy k (over l f))) where
-    x′ : Divided (quotient f (alone l)) (formBy k (over l f))
-    x′ = subst (λ (g : Cubes). Divided g (formBy k (over l f))) (over-quotient l f (d .whole) (d .inOrder)) x
+  module _ (many : 2 ≤ usedIn l f) (x : Divided (dividedBy l f) (formBy k (dividedBy l f))) where
+    x′ : Divided (quotient f (alone l)) (formBy k (dividedBy l f))
+    x′ = subst (λ (g : Cubes). Divided g (formBy k (dividedBy l f))) (dividedBy-quotient l f (d .whole) (d .inOrder)) x
 
     left : isNil (remainder f (alone l)) ≡ isNil (rest l f)
     left = ap isNil (sym (rest-remainder l f (d .whole) (d .inOrder)))
@@ -107,7 +107,8 @@ form-divided (suc k) f h d =
       | inl t ↦ flat f d (suc k) (ltb-true _ _ t)
       | inr t ↦
           let many : 2 ≤ usedIn l f = ltb-false _ _ t in
-          let x = form-divided k (over l f) (omega (arith, over-less l f many)) (record { whole = over-expression l f e o; inOrder = over-ordered l f e o }) in
+          let x = form-divided k (dividedBy l f) (omega (arith, dividedBy-less l f many))
+          (record { whole = dividedBy-expression l f e o; inOrder = dividedBy-ordered l f e o }) in
           let y = form-divided k (rest l f) (omega (arith, rest-less l f many)) (record { whole = rest-expression l f e o; inOrder = rest-ordered l f e o }) in
           elim (decided (isNil (rest l f))) [ inl z ↦ alike f d k many x z | inr z ↦ mixed f d k many x z y ]
     ]

@@ -12,12 +12,12 @@ use Rattle.sets.specs.Sets.{mem, sub, asc, insert, union, without, before}
 use Rattle.sets.proofs.Truth.{decided, clash}
 use Rattle.sets.proofs.Lists.{_∈_, all-in, all-out, keep-out, map-out}
 use Rattle.sets.proofs.Sets.{without-asc, rejoin, union-comm, insert-all}
-use Rattle.expression.specs.Expression.{expression, ordered, place, sort}
+use Rattle.expression.specs.Expression.{Cubes, expression, ordered, place, sort}
 use Rattle.expression.proofs.Sorting.{sort-in, sort-out, sort-length, sort-sort, sort-middle, sort-append-comm, all-sort, value-sort, expression-sort}
 use Rattle.expression.proofs.Values.{append-value}
 use Rattle.division.proofs.Quotients.{cube-asc}
-use Rattle.factor.specs.Form.{usedIn, mostUsed, over, rest, Form, sum, times, plus, formBy, formOf, expanded, formValue}
-use Rattle.factor.proofs.Falling.{Cubes, form-plain, form-times, form-plus}
+use Rattle.factor.specs.Form.{usedIn, mostUsed, dividedBy, rest, Form, sum, times, plus, formBy, formOf, expanded, formValue}
+use Rattle.factor.proofs.Falling.{form-plain, form-times, form-plus}
 
 -- ---- lists with the same cubes, each as often: their sorts are one
 
@@ -65,16 +65,16 @@ insert-back : (l : ℕ) (c : List ℕ) → asc c ≡ true → mem l c ≡ true �
 unfolding union sub
 insert-back l c h m = union-comm (l ∷ []) (without c (l ∷ [])) refl (without-asc c (l ∷ []) h) ∙ rejoin c (l ∷ []) h refl (and-true (mem l c) ∙ m)
 
-over-back : (l : ℕ) (f : Cubes) → ((c : List ℕ) → c ∈ f → insert l (without c (l ∷ [])) ≡ c) → map (insert l) (map (λ c. without c (l ∷ [])) f) ≡ f
-over-back l [] h = refl
-over-back l (c ∷ f) h = ap₂ _∷_ (h c (here refl)) (over-back l f (λ d m. h d (there m)))
+dividedBy-back : (l : ℕ) (f : Cubes) → ((c : List ℕ) → c ∈ f → insert l (without c (l ∷ [])) ≡ c) → map (insert l) (map (λ c. without c (l ∷ [])) f) ≡ f
+dividedBy-back l [] h = refl
+dividedBy-back l (c ∷ f) h = ap₂ _∷_ (h c (here refl)) (dividedBy-back l f (λ d m. h d (there m)))
 
 module _ (l : ℕ) (f : Cubes) (h : all asc f ≡ true) where
-  pub over-multiplied : map (insert l) (over l f) ≡ keep (mem l) f
-  over-multiplied = over-back l (keep (mem l) f) (λ c m. let q = keep-out (mem l) f m in insert-back l c (all-out asc (q .0) h) (q .1))
+  pub dividedBy-multiplied : map (insert l) (dividedBy l f) ≡ keep (mem l) f
+  dividedBy-multiplied = dividedBy-back l (keep (mem l) f) (λ c m. let q = keep-out (mem l) f m in insert-back l c (all-out asc (q .0) h) (q .1))
 
-  over-asc : all asc (over l f) ≡ true
-  over-asc = all-in asc (over l f) (λ c m. let q = map-out (λ d. without d (l ∷ [])) (keep (mem l) f) m in
+  dividedBy-asc : all asc (dividedBy l f) ≡ true
+  dividedBy-asc = all-in asc (dividedBy l f) (λ c m. let q = map-out (λ d. without d (l ∷ [])) (keep (mem l) f) m in
       ap asc (q .2) ∙ without-asc (q .0) (l ∷ []) (all-out asc ((keep-out (mem l) f (q .1)) .0) h))
 
   rest-asc : all asc (rest l f) ≡ true
@@ -91,8 +91,8 @@ unfolding formBy expanded
 expanded-sort zero f h = refl
 expanded-sort (suc k) f h =
     let l = mostUsed f in
-    let first = sort-map (insert l) (expanded (formBy k (over l f))) (over l f) (expanded-sort k (over l f) (over-asc l f h))
-    ∙ ap sort (over-multiplied l f h) in
+    let first = sort-map (insert l) (expanded (formBy k (dividedBy l f))) (dividedBy l f) (expanded-sort k (dividedBy l f) (dividedBy-asc l f h))
+    ∙ ap sort (dividedBy-multiplied l f h) in
     let second = expanded-sort k (rest l f) (rest-asc l f h) in
     elim (decided (ltb (usedIn l f) 2)) [
       | inl t ↦ ap (λ x. sort (expanded x)) (form-plain f (suc k) (ltb-true _ _ t))

@@ -13,11 +13,8 @@ use Rattle.sets.specs.Sets.{mem, without}
 use Rattle.sets.proofs.Truth.{decided}
 use Rattle.sets.proofs.Lists.{all-in, keep-all, keep-fewer}
 use Rattle.sets.proofs.Sets.{of-mem, mem-head}
-use Rattle.expression.specs.Expression.{literalsOf}
-use Rattle.factor.specs.Form.{usedIn, mostUsed, over, rest, Form, sum, times, plus, formBy}
-
-abbrev pub Cubes : Type 0
-Cubes = List (List ℕ)
+use Rattle.expression.specs.Expression.{Cubes, literalsOf}
+use Rattle.factor.specs.Form.{usedIn, mostUsed, dividedBy, rest, Form, sum, times, plus, formBy}
 
 without-shorter : (l : ℕ) (c : List ℕ) → mem l c ≡ true → length (without c (l ∷ [])) < length c
 unfolding without
@@ -29,19 +26,19 @@ without-shorter l c h =
 
 -- ---- the literals of both parts
 
-pub literals-fall : (l : ℕ) (f : Cubes) → literalsOf (over l f) + usedIn l f + literalsOf (rest l f) ≤ literalsOf f
+pub literals-fall : (l : ℕ) (f : Cubes) → literalsOf (dividedBy l f) + usedIn l f + literalsOf (rest l f) ≤ literalsOf f
 literals-fall l [] = omega arith
 literals-fall l (c ∷ f) = go (mem l c) refl (literals-fall l f)
   where
-    go : (b : Bool) → mem l c ≡ b → literalsOf (over l f) + usedIn l f + literalsOf (rest l f) ≤ literalsOf f
+    go : (b : Bool) → mem l c ≡ b → literalsOf (dividedBy l f) + usedIn l f + literalsOf (rest l f) ≤ literalsOf f
         → literalsOf (map (λ d. without d (l ∷ [])) (cond b (c ∷ keep (mem l) f) (keep (mem l) f))) + length
         (cond b (c ∷ keep (mem l) f) (keep (mem l) f)) + literalsOf (cond (not b) (c ∷ rest l f) (rest l f))
         ≤ length c + literalsOf f
     go true e k = omega (arith, without-shorter l c e)
     go false e k = omega arith
 
-pub over-less : (l : ℕ) (f : Cubes) → 2 ≤ usedIn l f → literalsOf (over l f) < literalsOf f
-over-less l f h = omega (arith, literals-fall l f)
+pub dividedBy-less : (l : ℕ) (f : Cubes) → 2 ≤ usedIn l f → literalsOf (dividedBy l f) < literalsOf f
+dividedBy-less l f h = omega (arith, literals-fall l f)
 
 pub rest-less : (l : ℕ) (f : Cubes) → 2 ≤ usedIn l f → literalsOf (rest l f) < literalsOf f
 rest-less l f h = omega (arith, literals-fall l f)
@@ -55,20 +52,20 @@ module _ (f : Cubes) where
   abbrev turn : Bool → Bool → Form → Form → Form
   turn few none q r = cond few (sum f) (cond none (times l q) (plus l q r))
 
-  form-suc : (k : ℕ) → formBy (suc k) f ≡ turn (ltb (usedIn l f) 2) (isNil (rest l f)) (formBy k (over l f)) (formBy k (rest l f))
+  form-suc : (k : ℕ) → formBy (suc k) f ≡ turn (ltb (usedIn l f) 2) (isNil (rest l f)) (formBy k (dividedBy l f)) (formBy k (rest l f))
   unfolding formBy
   form-suc k = refl
 
   pub form-plain : (k : ℕ) → usedIn l f < 2 → formBy k f ≡ sum f
   unfolding formBy
   form-plain zero h = refl
-  form-plain (suc k) h = form-suc k ∙ ap (λ t. turn t (isNil (rest l f)) (formBy k (over l f)) (formBy k (rest l f))) (lt-ltb (usedIn l f) 2 h)
+  form-plain (suc k) h = form-suc k ∙ ap (λ t. turn t (isNil (rest l f)) (formBy k (dividedBy l f)) (formBy k (rest l f))) (lt-ltb (usedIn l f) 2 h)
 
-  pub form-times : (k : ℕ) → 2 ≤ usedIn l f → isNil (rest l f) ≡ true → formBy (suc k) f ≡ times l (formBy k (over l f))
-  form-times k h e = form-suc k ∙ ap₂ (λ t u. turn t u (formBy k (over l f)) (formBy k (rest l f))) (le-ltb (usedIn l f) 2 h) e
+  pub form-times : (k : ℕ) → 2 ≤ usedIn l f → isNil (rest l f) ≡ true → formBy (suc k) f ≡ times l (formBy k (dividedBy l f))
+  form-times k h e = form-suc k ∙ ap₂ (λ t u. turn t u (formBy k (dividedBy l f)) (formBy k (rest l f))) (le-ltb (usedIn l f) 2 h) e
 
-  pub form-plus : (k : ℕ) → 2 ≤ usedIn l f → isNil (rest l f) ≡ false → formBy (suc k) f ≡ plus l (formBy k (over l f)) (formBy k (rest l f))
-  form-plus k h e = form-suc k ∙ ap₂ (λ t u. turn t u (formBy k (over l f)) (formBy k (rest l f))) (le-ltb (usedIn l f) 2 h) e
+  pub form-plus : (k : ℕ) → 2 ≤ usedIn l f → isNil (rest l f) ≡ false → formBy (suc k) f ≡ plus l (formBy k (dividedBy l f)) (formBy k (rest l f))
+  form-plus k h e = form-suc k ∙ ap₂ (λ t u. turn t u (formBy k (dividedBy l f)) (formBy k (rest l f))) (le-ltb (usedIn l f) 2 h) e
 
 -- ---- as many turns as there are literals are enough
 
@@ -82,10 +79,10 @@ form-enough (suc k) (suc j) f a b =
       | inl t ↦ let few : usedIn l f < 2 = ltb-true _ _ t in form-plain f (suc k) few ∙ sym (form-plain f (suc j) few)
       | inr t ↦
           let many : 2 ≤ usedIn l f = ltb-false _ _ t in
-          let o = over-less l f many in
+          let o = dividedBy-less l f many in
           let s = rest-less l f many in
           form-suc f k
-          ∙ ap₂ (turn f (ltb (usedIn l f) 2) (isNil (rest l f))) (form-enough k j (over l f) (omega arith) (omega arith))
+          ∙ ap₂ (turn f (ltb (usedIn l f) 2) (isNil (rest l f))) (form-enough k j (dividedBy l f) (omega arith) (omega arith))
           (form-enough k j (rest l f) (omega arith) (omega arith))
           ∙ sym (form-suc f j)
     ]

@@ -17,7 +17,7 @@ use Rattle.sets.proofs.Lists.{keep-append}
 use Rattle.sets.proofs.Rows.{take-store}
 use Rattle.expression.specs.Words.{cubesOf, Placed, fitting}
 use Rattle.expression.proofs.Placing.{placed-as, placed-before, placed-after, placed-span, placed-fitting}
-use Rattle.factor.specs.Form.{over, rest}
+use Rattle.factor.specs.Form.{dividedBy, rest}
 use Rattle.factor.specs.Parts.{cubesFrom, Elsewhere, Gathered, Parted}
 
 module _ {A : Type 0} where
@@ -45,12 +45,12 @@ module _ {A : Type 0} where
 -- ---- one cube more
 
 module _ (l : ℕ) (f : List (List ℕ)) (c : List ℕ) where
-  pub over-yes : mem l c ≡ true → over l (f ++ (c ∷ [])) ≡ over l f ++ (without c (l ∷ []) ∷ [])
-  over-yes h = ap (map (λ d. without d (l ∷ []))) (keep-append (mem l) f (c ∷ []) ∙ ap (keep (mem l) f ++_) (rw h))
+  pub dividedBy-yes : mem l c ≡ true → dividedBy l (f ++ (c ∷ [])) ≡ dividedBy l f ++ (without c (l ∷ []) ∷ [])
+  dividedBy-yes h = ap (map (λ d. without d (l ∷ []))) (keep-append (mem l) f (c ∷ []) ∙ ap (keep (mem l) f ++_) (rw h))
       ∙ map-append (λ d. without d (l ∷ [])) (keep (mem l) f) (c ∷ [])
 
-  pub over-no : mem l c ≡ false → over l (f ++ (c ∷ [])) ≡ over l f
-  over-no h = ap (map (λ d. without d (l ∷ []))) (keep-append (mem l) f (c ∷ []) ∙ ap (keep (mem l) f ++_) (rw h) ∙ append-nil (keep (mem l) f))
+  pub dividedBy-no : mem l c ≡ false → dividedBy l (f ++ (c ∷ [])) ≡ dividedBy l f
+  dividedBy-no h = ap (map (λ d. without d (l ∷ []))) (keep-append (mem l) f (c ∷ []) ∙ ap (keep (mem l) f ++_) (rw h) ∙ append-nil (keep (mem l) f))
 
   pub rest-yes : mem l c ≡ true → rest l (f ++ (c ∷ [])) ≡ rest l f
   rest-yes h = keep-append (λ d. not (mem l d)) f (c ∷ []) ∙ ap (rest l f ++_) (rw h) ∙ append-nil (rest l f)
@@ -62,7 +62,7 @@ module _ (l : ℕ) (f : List (List ℕ)) (c : List ℕ) where
 pub record Parting (f g s : List (List ℕ)) (a m i l : ℕ) : Type 0 where
   pub least : a ≤ m
   pub most : m ≤ i
-  pub first : take m g ≡ take a f ++ over l (slice a i f)
+  pub first : take m g ≡ take a f ++ dividedBy l (slice a i f)
   pub second : take (i - m) s ≡ rest l (slice a i f)
   pub back : drop i g ≡ drop i f
 
@@ -88,7 +88,7 @@ module _ {f g s : List (List ℕ)} {a m i l : ℕ} (p : Parting f g s a m i l) (
         least = omega (arith, p .least);
         most = omega (arith, p .most);
         first = take-store g m _ (omega (arith, p .most)) ∙ ap (_++ (without (getD f i []) (l ∷ []) ∷ [])) (p .first) ∙ append-assoc (take a f) _ _
-            ∙ ap (take a f ++_) (sym (ap (over l) more ∙ over-yes l (slice a i f) (getD f i []) h));
+            ∙ ap (take a f ++_) (sym (ap (dividedBy l) more ∙ dividedBy-yes l (slice a i f) (getD f i []) h));
         second = ap (λ n. take n s) e ∙ p .second ∙ sym (ap (rest l) more ∙ rest-yes l (slice a i f) (getD f i []) h);
         back = drop-set-lt (i + 1) g m _ (omega (arith, p .most)) ∙ back-next f g i (p .back);
       }
@@ -99,7 +99,7 @@ module _ {f g s : List (List ℕ)} {a m i l : ℕ} (p : Parting f g s a m i l) (
       record {
         least = p .least;
         most = omega (arith, p .most);
-        first = p .first ∙ ap (take a f ++_) (sym (ap (over l) more ∙ over-no l (slice a i f) (getD f i []) h));
+        first = p .first ∙ ap (take a f ++_) (sym (ap (dividedBy l) more ∙ dividedBy-no l (slice a i f) (getD f i []) h));
         second = ap (λ n. take n (set s (i - m) (getD f i []))) e ∙ take-store s (i - m) _ (omega arith) ∙ ap (_++ (getD f i [] ∷ [])) (p .second)
             ∙ sym (ap (rest l) more ∙ rest-no l (slice a i f) (getD f i []) h);
         back = back-next f g i (p .back);
@@ -139,14 +139,14 @@ copied-back {old} {mid} {new} {spare} {a} {m} {e} {l} p q h k n =
     let r : Placed mid new m others =
     placed-fitting others (omega arith) (placed-as (ap (fitting mid m) (ap (λ i. take i (cubesOf spare)) z ∙ p .second)) q) in
     let la : length (take a f) ≡ a = length-take-le a f h in
-    let tm : take m g ≡ take a f ++ over l (cubesFrom a e old) = placed-before r in-place ∙ p .first in
+    let tm : take m g ≡ take a f ++ dividedBy l (cubesFrom a e old) = placed-before r in-place ∙ p .first in
     record {
       least = p .least;
       most = p .most;
-      first = ap (drop a) tm ∙ drop-at (take a f) (over l (cubesFrom a e old)) a la;
+      first = ap (drop a) tm ∙ drop-at (take a f) (dividedBy l (cubesFrom a e old)) a la;
       second = slice-from m e g (p .most) ∙ placed-span r in-place (sym end);
       outside = record {
-        front = sym (take-take a m g (p .least)) ∙ ap (take a) tm ∙ take-at (take a f) (over l (cubesFrom a e old)) a la;
+        front = sym (take-take a m g (p .least)) ∙ ap (take a) tm ∙ take-at (take a f) (dividedBy l (cubesFrom a e old)) a la;
         back = ap (λ i. drop i g) (sym end) ∙ placed-after r in-place ∙ ap (λ i. drop i (cubesOf mid)) end ∙ p .back;
       };
     }

@@ -8,11 +8,11 @@ use native.Mathlib.Omega.{arith}
 use Rattle.sets.specs.Lists.{isNil}
 use Rattle.sets.proofs.Truth.{decided}
 use Rattle.letters_products.specs.Products.{literalText}
-use Rattle.expression.specs.Expression.{literalsOf}
-use Rattle.factor.specs.Form.{usedIn, mostUsed, over, rest, formBy}
+use Rattle.expression.specs.Expression.{Cubes, literalsOf}
+use Rattle.factor.specs.Form.{usedIn, mostUsed, dividedBy, rest, formBy}
 use Rattle.factor.specs.Text.{sumText, formText}
 use Rattle.factor.specs.Parts.{writtenSum, productOf}
-use Rattle.factor.proofs.Falling.{Cubes, literals-fall, over-less, rest-less, form-plain, form-times, form-plus, form-enough}
+use Rattle.factor.proofs.Falling.{literals-fall, dividedBy-less, rest-less, form-plain, form-times, form-plus, form-enough}
 
 -- ---- the text of a sum, case by case
 
@@ -32,26 +32,26 @@ module _ (f : Cubes) where
     unfolding k
     turns = omega (arith, literals-fall l f)
 
-    over-enough : formBy k (over l f) ≡ formBy (literalsOf (over l f)) (over l f)
+    dividedBy-enough : formBy k (dividedBy l f) ≡ formBy (literalsOf (dividedBy l f)) (dividedBy l f)
     unfolding k
-    over-enough = form-enough k _ (over l f) (omega (arith, over-less l f many)) (omega arith)
+    dividedBy-enough = form-enough k _ (dividedBy l f) (omega (arith, dividedBy-less l f many)) (omega arith)
 
     rest-enough : formBy k (rest l f) ≡ formBy (literalsOf (rest l f)) (rest l f)
     unfolding k
     rest-enough = form-enough k _ (rest l f) (omega (arith, rest-less l f many)) (omega arith)
 
-    pub sum-times : isNil (rest l f) ≡ true → writtenSum f ≡ productOf l (over l f)
+    pub sum-times : isNil (rest l f) ≡ true → writtenSum f ≡ productOf l (dividedBy l f)
     unfolding writtenSum productOf formText
     sum-times e =
-        ap formText (ap (λ n. formBy n f) turns ∙ form-times f k many e) ∙ ap (λ q. literalText l ++ (42 ∷ 40 ∷ (formText q ++ (41 ∷ [])))) over-enough
+        ap formText (ap (λ n. formBy n f) turns ∙ form-times f k many e) ∙ ap (λ q. literalText l ++ (42 ∷ 40 ∷ (formText q ++ (41 ∷ [])))) dividedBy-enough
 
-    pub sum-plus : isNil (rest l f) ≡ false → writtenSum f ≡ productOf l (over l f) ++ (43 ∷ writtenSum (rest l f))
+    pub sum-plus : isNil (rest l f) ≡ false → writtenSum f ≡ productOf l (dividedBy l f) ++ (43 ∷ writtenSum (rest l f))
     unfolding writtenSum productOf formText
     sum-plus e =
         ap formText (ap (λ n. formBy n f) turns ∙ form-plus f k many e)
-        ∙ ap₂ (λ q r. literalText l ++ (42 ∷ 40 ∷ (formText q ++ (41 ∷ 43 ∷ formText r)))) over-enough rest-enough
+        ∙ ap₂ (λ q r. literalText l ++ (42 ∷ 40 ∷ (formText q ++ (41 ∷ 43 ∷ formText r)))) dividedBy-enough rest-enough
         ∙ sym (append-assoc (literalText l) _ _ ∙ ap (λ t. literalText l ++ (42 ∷ 40 ∷ t))
-        (append-assoc (formText (formBy (literalsOf (over l f)) (over l f))) _ _))
+        (append-assoc (formText (formBy (literalsOf (dividedBy l f)) (dividedBy l f))) _ _))
 
 -- `+` and the rest, if it has cubes
 pub after : Cubes → List ℕ
@@ -69,10 +69,11 @@ after-some [] h = absurd (true≢false h)
 after-some (c ∷ f) h = refl
 
 -- l chosen and the cubes parted by it
-pub sum-parted : (f : Cubes) (l : ℕ) (q r : Cubes) → l ≡ mostUsed f → 2 ≤ usedIn l f → q ≡ over l f → r ≡ rest l f → writtenSum f ≡ productOf l q ++ after r
+pub sum-parted : (f : Cubes) (l : ℕ) (q r : Cubes) → l ≡ mostUsed f → 2 ≤ usedIn l f → q ≡ dividedBy l f → r ≡ rest l f
+    → writtenSum f ≡ productOf l q ++ after r
 sum-parted f l q r h many a b = rw (a, b, h) (elim (decided (isNil (rest (mostUsed f) f))) [
-  | inl n ↦ sum-times f (rw h at many) n ∙ sym (append-nil _) ∙ ap (productOf (mostUsed f) (over (mostUsed f) f) ++_) (sym (after-none _ n))
-  | inr n ↦ sum-plus f (rw h at many) n ∙ ap (productOf (mostUsed f) (over (mostUsed f) f) ++_) (sym (after-some _ n))
+  | inl n ↦ sum-times f (rw h at many) n ∙ sym (append-nil _) ∙ ap (productOf (mostUsed f) (dividedBy (mostUsed f) f) ++_) (sym (after-none _ n))
+  | inr n ↦ sum-plus f (rw h at many) n ∙ ap (productOf (mostUsed f) (dividedBy (mostUsed f) f) ++_) (sym (after-some _ n))
 ])
 
 pub product-start : (l : ℕ) (f : Cubes) → productOf l f ≡ literalText l ++ (42 ∷ 40 ∷ (writtenSum f ++ (41 ∷ [])))

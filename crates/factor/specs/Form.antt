@@ -22,8 +22,8 @@ abbrev pub mostUsed : List (List ℕ) → ℕ
 mostUsed f = most (2 * width - 1) f 1 0
 
 -- F/l: the cubes with l, without it; and the cubes that have it not
-abbrev pub over : ℕ → List (List ℕ) → List (List ℕ)
-over l f = map (λ c. without c (l ∷ [])) (keep (mem l) f)
+abbrev pub dividedBy : ℕ → List (List ℕ) → List (List ℕ)
+dividedBy l f = map (λ c. without c (l ∷ [])) (keep (mem l) f)
 
 abbrev pub rest : ℕ → List (List ℕ) → List (List ℕ)
 rest l f = keep (λ c. not (mem l c)) f
@@ -41,8 +41,8 @@ unfoldable pub formBy : ℕ → List (List ℕ) → Form
 formBy zero f = sum f
 formBy (suc k) f =
     let l = mostUsed f in
-    let lone = times l (formBy k (over l f)) in
-    let joint = plus l (formBy k (over l f)) (formBy k (rest l f)) in
+    let lone = times l (formBy k (dividedBy l f)) in
+    let joint = plus l (formBy k (dividedBy l f)) (formBy k (rest l f)) in
     cond (ltb (usedIn l f) 2) (sum f) (cond (isNil (rest l f)) lone joint)
 
 -- the cubes are taken in cube order

@@ -8,7 +8,7 @@ use Rattle.letters_products.specs.Products.{literalText}
 use Rattle.letters.specs.Laid.{Laid}
 use Rattle.expression.specs.Words.{cubesOf}
 use Rattle.expression.specs.Expression.{literalsOf}
-use Rattle.factor.specs.Form.{over, rest, formBy}
+use Rattle.factor.specs.Form.{dividedBy, rest, formBy}
 use Rattle.factor.specs.Text.{formText}
 
 -- ---- a part of the cubes
@@ -36,7 +36,7 @@ pub record Elsewhere (old new : List ℕ) (a e : ℕ) : Type 0 where
 pub record Gathered (old new spare : List ℕ) (a m e l : ℕ) : Type 0 where
   pub least : a ≤ m
   pub most : m ≤ e
-  pub first : take m (cubesOf new) ≡ take a (cubesOf old) ++ over l (cubesFrom a e old)
+  pub first : take m (cubesOf new) ≡ take a (cubesOf old) ++ dividedBy l (cubesFrom a e old)
   pub second : take (e - m) (cubesOf spare) ≡ rest l (cubesFrom a e old)
   pub back : drop e (cubesOf new) ≡ drop e (cubesOf old)
 
@@ -44,7 +44,7 @@ pub record Gathered (old new spare : List ℕ) (a m e l : ℕ) : Type 0 where
 pub record Parted (old new : List ℕ) (a m e l : ℕ) : Type 0 where
   pub least : a ≤ m
   pub most : m ≤ e
-  pub first : cubesFrom a m new ≡ over l (cubesFrom a e old)
+  pub first : cubesFrom a m new ≡ dividedBy l (cubesFrom a e old)
   pub second : cubesFrom m e new ≡ rest l (cubesFrom a e old)
   pub outside : Elsewhere old new a e
 
