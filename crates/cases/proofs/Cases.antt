@@ -17,7 +17,7 @@ use Rattle.network.specs.Listing.{ready, nextReady, listMore, listing}
 use Rattle.network.specs.Held.{numbered}
 use Rattle.extract_laws.specs.Divisor.{small, useOf, swap, rewrite}
 use Rattle.extract_laws.specs.Extract.{allUses, basesLiterals, weight, pairsIn, smallerFirst, sumOf, sumsIn, candidates, sooner, better, bestOf, best, nextFree}
-use Rattle.extract_laws.specs.Run.{roomFor, choose, move, prepare, runFrom, inOrder, run}
+use Rattle.extract_laws.specs.Run.{roomFor, choose, moveOf, prepare, runFrom, inOrder, run}
 use Rattle.image_fields.specs.Fields.{bitsOf, valueOf, fieldBits, bytesFrom, bitsIn}
 use Rattle.image_laws.specs.Renumber.{indexOf, newNumber, newLiteral, newCube, newNode, renumbered}
 use Rattle.image_laws.specs.Image.{cubeFields, nodeFields, headFields, netFields, netBytes, imageOf}
@@ -39,7 +39,7 @@ cases-hold = simp cokernels-opened (unfold
     common isCokernel opens opened
     most formBy digits decimal literalText cubeText sumText formText
     small useOf swap rewrite allUses basesLiterals weight pairsIn smallerFirst sumOf sumsIn candidates sooner better bestOf best
-    nextFree roomFor choose move prepare runFrom inOrder run cubesAt
+    nextFree roomFor choose moveOf prepare runFrom inOrder run cubesAt
     ready nextReady listMore listing numbered indexOf newNumber newLiteral newCube newNode renumbered
     bit bitsOf valueOf fieldBits bytesFrom bitsIn cubeFields nodeFields headFields netFields netBytes imageOf
     getField getMany getLiterals getCube getNode getNodes getRaw padding summed inTheOrder readsEarlier allInOrder judgeRaw readImage

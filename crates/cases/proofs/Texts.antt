@@ -9,7 +9,7 @@ use Rattle.factor.specs.{Form.most, Form.formBy, Text.sumText, Text.formText}
 use Rattle.network.specs.Net.{cubesAt}
 use Rattle.extract_laws.specs.Divisor.{small, useOf, swap, rewrite}
 use Rattle.extract_laws.specs.Extract.{allUses, basesLiterals, weight, pairsIn, smallerFirst, sumOf, sumsIn, candidates, sooner, better, bestOf, best, nextFree}
-use Rattle.extract_laws.specs.Run.{roomFor, choose, move, prepare, runFrom, inOrder, run}
+use Rattle.extract_laws.specs.Run.{roomFor, choose, moveOf, prepare, runFrom, inOrder, run}
 use Rattle.table_lines.specs.Text.{linesOf, uncommented, trimFront, trimEnd}
 use Rattle.table_kinds.specs.Kinds.{numberOf, argument, named, kindOf}
 use Rattle.table_rows.specs.Lines.{cubeLineOf, cubeFrom}
@@ -23,7 +23,7 @@ texts-hold = unfold
     bytesOf spelled mem sub apart insert union without meet same before has place sort loose dropped absorbFrom from
     digits decimal readBack literalText cubeText most formBy sumText formText
     small useOf swap rewrite allUses basesLiterals weight pairsIn smallerFirst sumOf sumsIn candidates sooner better bestOf best
-    nextFree roomFor choose move prepare runFrom inOrder run cubesAt
+    nextFree roomFor choose moveOf prepare runFrom inOrder run cubesAt
     linesOf uncommented trimFront trimEnd numberOf argument named kindOf cubeLineOf cubeFrom
     setWide setTall setStated finish readLine readLines readText tableNet
     divisorText integer stepLine stepLines stopText runText refusalText ranText outcomeText reportOf

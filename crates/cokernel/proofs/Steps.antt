@@ -102,8 +102,8 @@ pub joined-inside : (j : ℕ) (p : List ℕ) → j < 2 * width → joined j p �
 joined-inside j p h = rw (lt-ltb j (2 * width) h)
 
 module _ (n : ℕ) (f : Cubes) (g : Held n f) (p : List ℕ) (j : ℕ) (q : List ℕ) (e : q ≡ insert j p) (k : ℕ) (m : List ℕ) (c : Shared f q k m) where
-  pub branched : asc q ≡ true → (o b : Bool) → o ≡ (leb 2 k && all (leb j) (without m q)) → b ≡ (leb 2 k && same m q) → Branched f p j q m o b
-  branched a o b t u = record { cube = e; common = c .common; opened = t ∙ opening; closed = u ∙ closing }
+  pub branch-found : asc q ≡ true → (o b : Bool) → o ≡ (leb 2 k && all (leb j) (without m q)) → b ≡ (leb 2 k && same m q) → Branched f p j q m o b
+  branch-found a o b t u = record { cube = e; common = c .common; opened = t ∙ opening; closed = u ∙ closing }
     where
       opening : (leb 2 k && all (leb j) (without m q)) ≡ opens f j q
       opening = rw (c .number, c .common) (opens-test n f g j q a)

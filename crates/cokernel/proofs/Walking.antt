@@ -12,7 +12,7 @@ use lib.ListN.{length}
 use borrow.Author.Tests.{leb-true, le-leb, ltb-true, ltb-false, lt-ltb, eqb-true, eq-eqb, ne-eqb}
 use Rattle.sets.specs.Lists.{pairwise, isSome}
 use Rattle.sets.specs.Sets.{mem, sub, asc, insert, same, firstFrom, before}
-use Rattle.sets.proofs.Truth.{both, together, either, decided, clash, refuted, below as lower, equal, beyond as upper, stand}
+use Rattle.sets.proofs.Truth.{both, together, either, decided, clash, refuted, below as lower, equal, beyond as upper, compared}
 use Rattle.sets.proofs.Lists.{_∈_, keep-out, pairwise-append, pairwise-keep}
 use Rattle.sets.proofs.Sets.{insert-mem, insert-asc, keep-mem, sub-in, sub-out, same-eq, eq-same, ext}
 use Rattle.sets.proofs.First.{first-none, none-first, some-first}
@@ -68,11 +68,11 @@ pub mem-there : (p : List ℕ) (j : ℕ) → mem j (insert j p) ≡ true
 mem-there p j = insert-mem j j p ∙ rw (eq-eqb j j refl)
 
 pub up-to : (j : ℕ) (a b : List ℕ) → SameBelow j a b → mem j a ≡ mem j b → SameBelow (suc j) a b
-up-to j a b h e l k = elim (stand l j) [ lower s _ _ ↦ h l s | equal s _ _ ↦ rw s e | upper s _ _ ↦ absurd (omega arith) ]
+up-to j a b h e l k = elim (compared l j) [ lower s _ _ ↦ h l s | equal s _ _ ↦ rw s e | upper s _ _ ↦ absurd (omega arith) ]
 
 -- a cube that is alike and does not go on is the prefix
 pub alike-end : (j : ℕ) (c p : List ℕ) → asc c ≡ true → Prefix p j → SameBelow j c p → isSome (firstFrom j c) ≡ false → c ≡ p
-alike-end j c p a h k e = ext c p a (h .rising) (λ l. elim (stand l j) [
+alike-end j c p a h k e = ext c p a (h .rising) (λ l. elim (compared l j) [
   | lower s _ _ ↦ k l s
   | equal s _ _ ↦ past l (omega arith)
   | upper s _ _ ↦ past l (omega arith)
@@ -89,7 +89,7 @@ alike-before j c p a h k s = go (on-out j c a s)
     go (l, le, m, least) = elim (decided (before p c)) [ inl t ↦ t | inr t ↦ clash m (ap (mem l) (before-linear c p after t) ∙ prefix-past p j h l le) ]
       where
         alike : (i : ℕ) → i < l → mem i c ≡ mem i p
-        alike i g = elim (stand i j) [
+        alike i g = elim (compared i j) [
           | lower u _ _ ↦ k i u
           | equal u _ _ ↦ least i (omega arith) g ∙ sym (prefix-past p j h i (omega arith))
           | upper u _ _ ↦ least i (omega arith) g ∙ sym (prefix-past p j h i (omega arith))

@@ -38,9 +38,9 @@ pub record Told (a b : List ℕ) (o : Order) : Type 0 where
   pub last : o ≡ After → before b a ≡ true
   pub alike : o ≡ Same → a ≡ b
 
-pub told : (a b : List ℕ) → Told a b (orderOf a b)
+pub order-told : (a b : List ℕ) → Told a b (orderOf a b)
 unfolding orderOf
-told a b = go (before a b) (before b a) refl refl
+order-told a b = go (before a b) (before b a) refl refl
   where
     go : (p q : Bool) → before a b ≡ p → before b a ≡ q → Told a b (cond p Before (cond q After Same))
     go true q e f = record { first = λ h. e; last = λ h. absurd (before-not-after h); alike = λ h. absurd (before-not-same h) }
@@ -49,4 +49,4 @@ told a b = go (before a b) (before b a) refl refl
 
 -- the same of an answer that was given, and of cubes known by another name
 pub told-of : (o : Order) (a b c d : List ℕ) → o ≡ orderOf a b → a ≡ c → b ≡ d → Told c d o
-told-of o a b c d e p q = subst (λ (x : Order). Told c d x) (ap₂ orderOf (sym p) (sym q) ∙ sym e) (told c d)
+told-of o a b c d e p q = subst (λ (x : Order). Told c d x) (ap₂ orderOf (sym p) (sym q) ∙ sym e) (order-told c d)

@@ -9,7 +9,7 @@ use lib.Dec.{ltb}
 use borrow.Author.Tests.{ltb-true, lt-ltb}
 use Rattle.sets.specs.Lists.{isSome}
 use Rattle.sets.specs.Sets.{mem, asc, readsBelow, firstFrom}
-use Rattle.sets.proofs.Truth.{clash, refuted, Stand, below, equal, beyond, stand}
+use Rattle.sets.proofs.Truth.{clash, refuted, Stand, below, equal, beyond, compared}
 use Rattle.sets.proofs.Sets.{all-mem, mem-all}
 use Rattle.sets.proofs.First.{none-first, some-first}
 
@@ -21,7 +21,7 @@ module _ (v : ℕ) (a : List ℕ) where
   first-below s = go (firstFrom (2 * v) a) refl
     where
       go : (o : Option ℕ) → firstFrom (2 * v) a ≡ o → not (isSome o) ≡ readsBelow v a
-      go none e = all-below (λ x m. lower x m (stand x (2 * v)))
+      go none e = all-below (λ x m. lower x m (compared x (2 * v)))
         where
           lower : (x : ℕ) → mem x a ≡ true → Stand x (2 * v) → x < 2 * v
           lower x m (below l _ _) = l

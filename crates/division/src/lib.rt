@@ -1,6 +1,6 @@
 // Weak division of lent expressions. The dividend is put in cube order first, so that a cube of it is found by halving.
 use cube::Cube;
-use expression::Place;
+use expression::Position;
 use expression::Verdict;
 ghost use mathlib.Core.Path.{_≡_};
 ghost use mathlib.Core.Bool.{true, _&&_};
@@ -80,8 +80,8 @@ fn holds(passed: bool, s: &[u64], c: Cube) -> bool
     }
     let p = expression_survey::find(s, c);
     match p {
-        Place::At(_) => true,
-        Place::Nothing => false,
+        Position::At(_) => true,
+        Position::Nothing => false,
     }
 }
 

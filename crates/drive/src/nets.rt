@@ -14,10 +14,10 @@ pub struct Given {
     pub network: Network,
 }
 
-fn narrow(pool: [u64; network::NODES]) -> [usize; network::NODES] {
-    let mut counts = [0usize; network::NODES];
+fn narrow(pool: [u64; network::NODE_SLOTS]) -> [usize; network::NODE_SLOTS] {
+    let mut counts = [0usize; network::NODE_SLOTS];
     let mut i = 0;
-    while i < network::NODES {
+    while i < network::NODE_SLOTS {
         counts[i] = pool[i] as usize;
         i += 1;
     }
@@ -28,8 +28,8 @@ fn narrow(pool: [u64; network::NODES]) -> [usize; network::NODES] {
 pub fn read_net(text: &[u8]) -> Given {
     let after = drive_request::tail(text);
     let mut sizes = [0u64; 3];
-    let mut counts = [0u64; network::NODES];
-    let mut words = [0u64; network::WORDS];
+    let mut counts = [0u64; network::NODE_SLOTS];
+    let mut words = [0u64; network::WORD_SLOTS];
     let s = rooms::read_numbers(drive_request::head(text), &mut sizes);
     let c = rooms::read_numbers(drive_request::head(after), &mut counts);
     let w = rooms::read_numbers(drive_request::head(drive_request::tail(after)), &mut words);
@@ -41,17 +41,17 @@ pub fn read_net(text: &[u8]) -> Given {
         words,
     };
     Given {
-        ok: s == 3 && c <= network::NODES && w <= network::WORDS,
+        ok: s == 3 && c <= network::NODE_SLOTS && w <= network::WORD_SLOTS,
         network,
     }
 }
 
 // ---- answers
 
-fn put_counts(out: &mut [u8], n: usize, counts: [usize; network::NODES], nodes: usize) -> usize {
+fn put_counts(out: &mut [u8], n: usize, counts: [usize; network::NODE_SLOTS], nodes: usize) -> usize {
     let mut at = wire::put_text(out, n, b" ;");
     let mut i = 0;
-    while i < network::NODES {
+    while i < network::NODE_SLOTS {
         if i >= nodes {
             return at;
         }

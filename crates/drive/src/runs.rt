@@ -119,7 +119,7 @@ fn put_steps(out: &mut [u8], n: usize, s: Steps) -> usize {
     let list = s.list;
     let mut at = n;
     let mut i = 0;
-    while i < network::VARIABLES {
+    while i < network::MOST_VARIABLES {
         if i >= count {
             return at;
         }

@@ -13,7 +13,7 @@ use borrow.Author.Tests.{ltb-true}
 use Rattle.sets.specs.Lists.{all, isNil}
 use Rattle.sets.specs.Sets.{mem, asc}
 use Rattle.sets.specs.Masks.{literals}
-use Rattle.sets.proofs.Truth.{both, Stand, below, equal, beyond, stand}
+use Rattle.sets.proofs.Truth.{both, Stand, below, equal, beyond, compared}
 use Rattle.sets.proofs.Lists.{_∈_}
 use Rattle.sets.proofs.Rows.{nil-of, nil-some}
 use Rattle.sets.proofs.Literals.{literals-none, plain-injective, negated-injective}
@@ -89,7 +89,7 @@ spare-take (p ∷ n ∷ ws) (suc j) h = rw (twice j) (spare-take ws j (omega ari
 -- the part from a up to e, both held to what there is
 pub part-held : {A : Type 0} (f : List A) (a e : ℕ)
     → take (min e (length f) - min a (min e (length f))) (drop (min a (min e (length f))) f) ≡ take (e - a) (drop a f)
-part-held f a e = go (stand a (min e (length f))) (stand e (length f))
+part-held f a e = go (compared a (min e (length f))) (compared e (length f))
   where
     past : length f ≤ a → take (e - a) (drop a f) ≡ []
     past h = rw (drop-of-length-le f h, take-nil)
@@ -152,7 +152,7 @@ module _ {A : Type 0} (f g : List A) where
       → take (min a (min e (length f))) f ++
       ((g ++ drop (length g) (take (min e (length f) - min a (min e (length f))) (drop (min a (min e (length f))) f))) ++ drop (min e (length f)) f)
       ≡ take a f ++ (g ++ drop (length g) (drop a f))
-  over-held a e h = go (stand a (min e (length f)))
+  over-held a e h = go (compared a (min e (length f)))
     where
       n : ℕ
       n = min e (length f)

@@ -13,8 +13,8 @@ use Rattle.expression.specs.Words.{cubeWords, cubesOf, spareOf}
 use Rattle.expression.specs.Expression.{expression}
 use Rattle.expression.specs.declared.Verdict.{Verdict}
 use Rattle.expression.specs.declared.Verdict.the-variants.{Accepted, Refused}
-use Rattle.expression.specs.declared.Place.{Place}
-use Rattle.expression.specs.declared.Place.the-variants.{At, Nothing}
+use Rattle.expression.specs.declared.Position.{Position}
+use Rattle.expression.specs.declared.Position.the-variants.{At, Nothing}
 
 -- how many cubes an expression handed in may have
 abbrev pub mostHanded : ℕ
@@ -36,7 +36,7 @@ Acceptable ws =
     × ((i j : ℕ) → i < length (cubesOf ws) → j < length (cubesOf ws) → (i ≡ j → ⊥) → sub (getD (cubesOf ws) i []) (getD (cubesOf ws) j []) ≡ false)
 
 -- the place found, if any
-abbrev pub placeOf : Place → Option ℕ
+abbrev pub placeOf : Position → Option ℕ
 placeOf (At i) = some i
 placeOf Nothing = none
 

@@ -11,7 +11,7 @@ use lib.ListN.{length, getD}
 use borrow.Author.Tests.{ltb-true, ltb-false, lt-ltb, le-ltb, eqb-true, eqb-false}
 use Rattle.sets.specs.Lists.{all, pairwise}
 use Rattle.sets.specs.Sets.{sub, asc, proper}
-use Rattle.sets.proofs.Truth.{both, decided, stand, below, equal, beyond}
+use Rattle.sets.proofs.Truth.{both, decided, compared, below, equal, beyond}
 use Rattle.sets.proofs.First.{some-not-none}
 use Rattle.sets.proofs.Lists.{all-in, all-out, all-cong}
 use Rattle.expression.specs.Words.{cubeWords, cubesOf}
@@ -31,7 +31,7 @@ loose-iff f = (
 )
   where
     out : pairwise loose f ≡ true → (i j : ℕ) → i < length f → j < length f → (i ≡ j → ⊥) → sub (getD f i []) (getD f j []) ≡ false
-    out h i j a b n = elim (stand i j) [
+    out h i j a b n = elim (compared i j) [
       | below l _ _ ↦ (loose-out (getD f i []) (getD f j []) (pairwise-at loose [] f i j h l b)) .0
       | equal e _ _ ↦ absurd (n e)
       | beyond l _ _ ↦ (loose-out (getD f j []) (getD f i []) (pairwise-at loose [] f j i h l a)) .1

@@ -6,7 +6,7 @@ use mathlib.Core.List.{List, [], _∷_}
 use native.Mathlib.Omega.{arith}
 use lib.ListN.{length, getD}
 use Rattle.sets.specs.Sets.{before}
-use Rattle.sets.proofs.Truth.{clash, refuted, below, equal, beyond, stand}
+use Rattle.sets.proofs.Truth.{clash, refuted, below, equal, beyond, compared}
 use Rattle.sets.proofs.Lists.{all-in, all-out, ahead}
 use Rattle.sets.proofs.Places.{pairwise-at}
 use Rattle.sets.proofs.Ordering.{before-trans}
@@ -30,7 +30,7 @@ climbs-not f i h p e = refuted (λ t. clash (pairwise-at before [] f (i - 1) i t
 
 -- one more
 pub climbs-next : (f : List (List ℕ)) (i : ℕ) → 0 < i → before (getD f (i - 1) []) (getD f i []) ≡ true → Climbs i f → Climbs (i + 1) f
-climbs-next f i p e h k l = elim (stand (suc k) i) [
+climbs-next f i p e h k l = elim (compared (suc k) i) [
   | below q _ _ ↦ h k q
   | equal q _ _ ↦ let z : k ≡ i - 1 = omega arith in rw (q, z) e
   | beyond q _ _ ↦ absurd (omega arith)

@@ -11,7 +11,7 @@ use lib.ListN.{length, getD}
 use borrow.Author.Tests.{lt-ltb, le-ltb, ltb-true}
 use Rattle.sets.specs.Lists.{isSome}
 use Rattle.sets.specs.Sets.{before}
-use Rattle.sets.proofs.Truth.{iff, Stand, below, equal, beyond, stand}
+use Rattle.sets.proofs.Truth.{iff, Stand, below, equal, beyond, compared}
 use Rattle.sets.proofs.Places.{pairwise-at, at-in, in-at}
 use Rattle.sets.proofs.Ordering.{before-irrefl, before-asym, before-linear}
 use Rattle.expression.specs.Expression.{ordered, has}
@@ -104,7 +104,7 @@ halve-complete : (k : ℕ) (f : List (List ℕ)) (low high i : ℕ) → ordered 
     → halve k (getD f i []) f low high ≡ some i
 unfolding halve
 halve-complete zero f low high i o e a b l = absurd (omega arith)
-halve-complete (suc k) f low high i o e a b l = rw (lt-ltb low high (omega arith)) (go (stand m i) (halve-complete k f))
+halve-complete (suc k) f low high i o e a b l = rw (lt-ltb low high (omega arith)) (go (compared m i) (halve-complete k f))
   where
     m : ℕ
     m = low + (high - low) / 2

@@ -1,7 +1,7 @@
 // What is asked of lent cubes as a whole: how many literals, of which variables, in which order, and where a cube stands.
 use cube::Cube;
 use cube::Order;
-use expression::Place;
+use expression::Position;
 ghost use mathlib.Core.Path.{_≡_};
 ghost use Rattle.cube.specs.Cube.{lits};
 ghost use Rattle.expression.specs.Words.{cubesOf};
@@ -28,7 +28,7 @@ pub fn literals(s: &[u64]) -> u64
 }
 
 // Where c stands among cubes in cube order, by halving.
-pub fn find(s: &[u64], c: Cube) -> Place
+pub fn find(s: &[u64], c: Cube) -> Position
     ensures { λ r. ⌜ placeOf r ≡ findIn (lits c) (cubesOf (now (s .entry))) ⌝ }
 {
     let mut low = 0;
@@ -41,14 +41,14 @@ pub fn find(s: &[u64], c: Cube) -> Place
                 low = m + 1;
             }
             Order::Same => {
-                return Place::At(m);
+                return Position::At(m);
             }
             Order::After => {
                 high = m;
             }
         }
     }
-    Place::Nothing
+    Position::Nothing
 }
 
 // Whether the cubes stand in cube order: each comes before the next.

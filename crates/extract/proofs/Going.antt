@@ -21,7 +21,7 @@ use Rattle.network.proofs.Limits.{rules-sized}
 use Rattle.extract_laws.specs.Divisor as divisors
 use Rattle.extract_laws.specs.Extract.{step}
 use Rattle.extract_laws.specs.Run as runs
-use Rattle.extract_laws.specs.Run.{weighing, making, Result, Move, finished, makes, done, asked, move, ended, prepare, runFrom}
+use Rattle.extract_laws.specs.Run.{weighing, making, Result, Move, finished, makes, done, asked, moveOf, ended, prepare, runFrom}
 use Rattle.extract_laws.specs.Meaning.{Good, Worth, Allows}
 use Rattle.extract_laws.specs.Meaning.Allows.{nothing, noNumber, noRows, next}
 use Rattle.extract_laws.proofs.Running.{from-none, from-finished, from-stuck, from-make}
@@ -34,7 +34,7 @@ use Rattle.extract_laws.proofs.Following.{rules-good, rules-within}
 use Rattle.extract_divisor.specs.Divisor.{divisorOf, weighedOf}
 use Rattle.extract_choice.specs.Choice.{chosenIn, Chosen}
 use Rattle.extract_divisor.specs.declared.Step.{Step}
-use Rattle.extract_step.specs.Replace.{outcome, After, Stepped}
+use Rattle.extract_step.specs.Replace.{outcomeOf, After, Stepped}
 use Rattle.extract_step.specs.declared.Outcome.the-variants as Outcome
 use Rattle.extract_step.specs.declared.Next.{Next}
 use Rattle.extract_step.proofs.Keeping.{Takes, takes-is, takes-rules, takes-arranged}
@@ -114,13 +114,13 @@ not-le (pos w) h = lt-ltb 0 w (leb-false w 0 h)
 not-le (negsuc w) h = clash refl h
 
 -- nothing is left: done, also where no step is left to make
-run-finished : (left : ℕ) (n : Net) → move n ≡ finished → runFrom left n ≡ record { network = n; stop = done; steps = [] }
+run-finished : (left : ℕ) (n : Net) → moveOf n ≡ finished → runFrom left n ≡ record { network = n; stop = done; steps = [] }
 run-finished zero n e = from-none n ∙ rw e
 run-finished (suc left) n e = from-finished left n e
 
 -- a divisor is left, and no step to make
 run-asked : (n : Net) (d : divisors.Divisor) → Worth n d → runFrom 0 n ≡ record { network = n; stop = asked; steps = [] }
-run-asked n d w = from-none n ∙ go (move n) ((move-iff n (move n)) .0 refl)
+run-asked n d w = from-none n ∙ go (moveOf n) ((move-iff n (moveOf n)) .0 refl)
   where
     go : (m : Move) → Allows n m
         → _≡_ {A = Result} (record { network = n; stop = ended m; steps = [] }) (record { network = n; stop = asked; steps = [] })
@@ -198,7 +198,7 @@ module _ {k : ℕ} {m : Net} {list : List Made} {count left : ℕ} {net : Networ
         let l = step-smaller (netOf net) good d (worth-fit good (worth .0) .whole) (worth .0 .above) in
         record { left = literalCount (step (netOf net) d); is = falls; within = omega (arith, g .counted); less = omega arith }
 
-    module _ (l : 0 < left) (t : Next) (o : Stepped net (outcome net (s .divisor)) t) where
+    module _ (l : 0 < left) (t : Next) (o : Stepped net (outcomeOf net (s .divisor)) t) where
       step-taken : Taken (netOf net) d t
       step-taken =
           stepped-as net (s .divisor) t (g .ready .tidy) (rules-within net (g .shape) (g .ready .lawful) .literals) good (worth .0) o
@@ -237,7 +237,7 @@ module _ {k : ℕ} {m : Net} {list : List Made} {count left : ℕ} {net : Networ
         pub going-on : Onward
         going-on = elim step-taken [ wasMade p e i ↦ go e i | wasNot p e ↦ absurd (p q) ]
           where
-            go : move (netOf net) ≡ makes d → Takes (netOf net) d t → Onward
+            go : moveOf (netOf net) ≡ makes d → Takes (netOf net) d t → Onward
             go e i =
                 let more = next-divisors net (g .shape) (g .ready) d t i in
                 let is = next-is net (g .shape) (g .ready) d t i ∙ sym (prepare-same (step (netOf net) d)) in

@@ -7,7 +7,7 @@ use native.Mathlib.Omega.{arith}
 use Rattle.sets.proofs.Lists.{_∈_}
 use Rattle.network.specs.Net.{Net, nodes}
 use Rattle.network.specs.Held.{netOf, rules}
-use Rattle.network.specs.Handed.{Holds, Blank, Shaped}
+use Rattle.network.specs.Handed.{Holds, AllZero, Shaped}
 use Rattle.network.specs.declared.Network.{Network}
 use Rattle.network.proofs.Ruling.{rules-lawful}
 use Rattle.network.proofs.Handing.{holds-net}
@@ -59,7 +59,7 @@ module _ (n p : Network) (shape : Shaped n)
   start-told k t g = rw r (subst (λ (z : Net). Told (some (runFrom k z)) t) (start-is ∙ sym (prepare-same (inOrder (netOf n)))) g)
 
 -- no step where a rule is broken
-pub refused-told : (k : ℕ) (n : Network) (t : Ran) → rules n ≡ false → t .answer ≡ Refused 10 → Blank (t .network) → t .steps ≡ noSteps
+pub refused-told : (k : ℕ) (n : Network) (t : Ran) → rules n ≡ false → t .answer ≡ Refused 10 → AllZero (t .network) → t .steps ≡ noSteps
     → Told (runOn k n) t
 unfolding runOn
 refused-told k n t r a b e = rw r (a, b, rw e (record { number = refl; steps = refl; rest = refl }))

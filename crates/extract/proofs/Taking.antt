@@ -14,7 +14,7 @@ use Rattle.network.specs.Held.{netOf, mostLiterals}
 use Rattle.network.specs.declared.Network.{Network}
 use Rattle.extract_laws.specs.Divisor as divisors
 use Rattle.extract_laws.specs.Extract.{weight, best, step}
-use Rattle.extract_laws.specs.Run.{Weighed, weighing, Move, finished, stuck, makes, roomFor, choose, move}
+use Rattle.extract_laws.specs.Run.{Weighed, weighing, Move, finished, stuck, makes, roomFor, choose, moveOf}
 use Rattle.extract_laws.specs.Meaning.{Good, Worth, Allows}
 use Rattle.extract_laws.specs.Meaning.Allows.{nothing, noNumber, noRows, next}
 use Rattle.extract_laws.proofs.Weighing.{step-smaller}
@@ -26,7 +26,7 @@ use Rattle.extract_divisor.specs.Divisor.{divisorOf, weighedOf}
 use Rattle.extract_choice.specs.Choice.{worthIn, chosenIn, Chosen}
 use Rattle.extract_divisor.specs.declared.Divisor.{Divisor}
 use Rattle.extract_divisor.specs.declared.Step.{Step}
-use Rattle.extract_step.specs.Replace.{allowed, outcome, Stepped}
+use Rattle.extract_step.specs.Replace.{allowed, outcomeOf, Stepped}
 use Rattle.extract_step.specs.declared.Outcome.the-variants as Outcome
 use Rattle.extract_step.specs.declared.Next.{Next}
 use Rattle.extract_fit.proofs.Fitting.{fitting-iff}
@@ -38,11 +38,11 @@ use Rattle.extract.specs.Parts.{reasonOf}
 
 -- nothing is left, or the step is that of the best divisor
 pub data Choice (n : Net) (s : Step) : Type 0 where
-  nothingLeft : ltZ (pos 0) (s .weight) ≡ false → move n ≡ finished → Choice n s
+  nothingLeft : ltZ (pos 0) (s .weight) ≡ false → moveOf n ≡ finished → Choice n s
   oneTaken : ltZ (pos 0) (s .weight) ≡ true → Worth n (divisorOf (s .divisor)) → weighedOf s ≡ weighing n (divisorOf (s .divisor)) → Choice n s
 
 worth-as : (n : Net) (s : Step) → Chosen (worthIn n (best n)) s → Choice n s
-unfolding worthIn move choose
+unfolding worthIn moveOf choose
 worth-as n s = go (best n) refl
   where
     go : (o : Option divisors.Divisor) → best n ≡ o → Chosen (worthIn n o) s → Choice n s
@@ -64,25 +64,25 @@ chosen-as n s a h = worth-as (netOf n) s (subst (λ (b : Bool). Chosen (cond b (
 
 -- there is room, and the network after the step is held; or there is none
 pub data Taken (n : Net) (d : divisors.Divisor) (t : Next) : Type 0 where
-  wasMade : t .outcome ≡ Outcome.Made → move n ≡ makes d → Takes n d t → Taken n d t
-  wasNot : (t .outcome ≡ Outcome.Made → ⊥) → move n ≡ stuck (stopOf (reasonOf (t .outcome))) → Taken n d t
+  wasMade : t .outcome ≡ Outcome.Made → moveOf n ≡ makes d → Takes n d t → Taken n d t
+  wasNot : (t .outcome ≡ Outcome.Made → ⊥) → moveOf n ≡ stuck (stopOf (reasonOf (t .outcome))) → Taken n d t
 
 module _ (n : Network) (d : Divisor) (t : Next) (a : arranged n ≡ true) (few : literalCount (netOf n) ≤ mostLiterals)
     (g : Good (netOf n)) (w : Worth (netOf n) (divisorOf d)) where
-  outcome-room : outcome n d ≡ allowed (netOf n) (roomFor (netOf n) (divisorOf d))
-  unfolding outcome
+  outcome-room : outcomeOf n d ≡ allowed (netOf n) (roomFor (netOf n) (divisorOf d))
+  unfolding outcomeOf
   outcome-room = rw (a, fitting-iff (netOf n) (divisorOf d) .1 (worth-fit g w))
 
-  move-room : move (netOf n) ≡ roomFor (netOf n) (divisorOf d)
-  unfolding move choose
+  move-room : moveOf (netOf n) ≡ roomFor (netOf n) (divisorOf d)
+  unfolding moveOf choose
   move-room = ap (choose (netOf n)) (best-iff (netOf n) (divisorOf d) .1 (w .best)) ∙ rw (w .above)
 
-  pub stepped-as : Stepped n (outcome n d) t → Taken (netOf n) (divisorOf d) t
+  pub stepped-as : Stepped n (outcomeOf n d) t → Taken (netOf n) (divisorOf d) t
   stepped-as o =
-      go (move (netOf n)) refl ((move-iff (netOf n) (move (netOf n))) .0 refl)
+      go (moveOf (netOf n)) refl ((move-iff (netOf n) (moveOf (netOf n))) .0 refl)
       (subst (λ (o : Option Move). Stepped n o t) (outcome-room ∙ ap (allowed (netOf n)) (sym move-room)) o)
     where
-      go : (m : Move) → move (netOf n) ≡ m → Allows (netOf n) m → Stepped n (allowed (netOf n) m) t → Taken (netOf n) (divisorOf d) t
+      go : (m : Move) → moveOf (netOf n) ≡ m → Allows (netOf n) m → Stepped n (allowed (netOf n) m) t → Taken (netOf n) (divisorOf d) t
       go m e (nothing h) s = absurd (worth-done (netOf n) w h)
       go m e (noNumber v l) s =
           wasNot (λ p. let z : _≡_ {A = ℕ} 0 1 = cc (s .0) in omega arith) (e ∙ ap (λ o. stuck (stopOf (reasonOf o))) (sym (s .0)))

@@ -7,7 +7,7 @@ use mathlib.Core.Option.{Option, none, some}
 use lib.IntN.{pos}
 use lib.ListN.{length, take, drop, replicate}
 use Rattle.network.specs.Held.{netOf, rules, mostVariables}
-use Rattle.network.specs.Handed.{Holds, Blank}
+use Rattle.network.specs.Handed.{Holds, AllZero}
 use Rattle.network.specs.declared.Network.{Network}
 use Rattle.extract_laws.specs.Run as runs
 use Rattle.extract_laws.specs.Run.{Result, done, asked, numbers, rows, run}
@@ -69,4 +69,4 @@ runOn k n = cond (rules n) (some (run k (netOf n))) none
 abbrev pub Told : Option Result → Ran → Type 0
 Told (some t) r =
     ((s : Stop) × (r .answer ≡ Stopped s) × (stopOf s ≡ t .stop)) × Holds (r .network) (t .network) × Lists (r .steps) (t .steps)
-Told none r = (r .answer ≡ Refused 10) × Blank (r .network) × Lists (r .steps) []
+Told none r = (r .answer ≡ Refused 10) × AllZero (r .network) × Lists (r .steps) []

@@ -16,7 +16,7 @@ ghost use Rattle.extract.specs.Answers.{noMade, noSteps, places, Told, r
 ghost use Rattle.extract.specs.Parts.{Runnable, Leaves, madeBy, endedAt, reasonOf, stoppedWith};
 
 // Steps of one run: each makes a divisor.
-const STEPS: usize = network::VARIABLES;
+const MOST_STEPS: usize = network::MOST_VARIABLES;
 
 pub enum Stop {
     Done,
@@ -42,7 +42,7 @@ pub struct Made {
 // The steps made, as many as counted, and steps of zeros after them.
 pub struct Steps {
     pub count: usize,
-    pub list: [Made; STEPS],
+    pub list: [Made; MOST_STEPS],
 }
 
 // A refusal carries a network of zeros and no step.
@@ -67,10 +67,10 @@ fn made_by(s: Step, number: Variable, literals: u64) -> Made
 }
 
 // A list of no steps.
-fn no_list() -> [Made; STEPS]
+fn no_list() -> [Made; MOST_STEPS]
     ensures { λ r. ⌜ r ≡ replicate places noMade ⌝ }
 {
-    [made_by(extract_divisor::no_step(), Variable(0), 0); STEPS]
+    [made_by(extract_divisor::no_step(), Variable(0), 0); MOST_STEPS]
 }
 
 // No steps made.
@@ -95,7 +95,7 @@ fn reason(o: Outcome) -> Stop
     }
 }
 
-fn ending(stop: Stop, network: Network, count: usize, list: [Made; STEPS]) -> Ran
+fn ending(stop: Stop, network: Network, count: usize, list: [Made; MOST_STEPS]) -> Ran
     ensures { λ r. ⌜ r ≡ stoppedWith stop network count list ⌝ }
 {
     Ran {

@@ -1,7 +1,7 @@
 // Divisors and steps, and the test of a use.
 use cube::Cube;
 use cube::Literal;
-use expression::Place;
+use expression::Position;
 ghost use mathlib.Core.Path.{_≡_};
 ghost use Rattle.cube.specs.Cube.{lits};
 ghost use Rattle.expression.specs.Words.{cubesOf};
@@ -44,7 +44,7 @@ pub fn is_use(s: &[u64], c: Cube, a: Cube, b: Cube) -> bool
     }
     let f = expression_survey::find(s, cube_sets::union(base, b));
     match f {
-        Place::At(_) => true,
-        Place::Nothing => false,
+        Position::At(_) => true,
+        Position::Nothing => false,
     }
 }

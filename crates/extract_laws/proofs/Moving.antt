@@ -13,7 +13,7 @@ use Rattle.network.specs.Net.{Net, variables, cubeCount}
 use Rattle.network.specs.Held.{mostVariables, mostCubes}
 use Rattle.extract_laws.specs.Divisor.{Divisor}
 use Rattle.extract_laws.specs.Extract.{weight, best, step}
-use Rattle.extract_laws.specs.Run.{numbers, rows, Move, finished, stuck, makes, roomFor, choose, move}
+use Rattle.extract_laws.specs.Run.{numbers, rows, Move, finished, stuck, makes, roomFor, choose, moveOf}
 use Rattle.extract_laws.specs.Meaning.{Foremost, Worth, Done, Allows}
 use Rattle.extract_laws.specs.Meaning.Allows.{nothing, noNumber, noRows, next}
 use Rattle.extract_laws.proofs.Choosing.{heavier-order, best-iff, best-none, best-unique}
@@ -27,8 +27,8 @@ module _ (n : Net) where
   pub worth-one : {d e : Divisor} → Worth n d → Worth n e → d ≡ e
   worth-one {d} {e} w v = best-unique n d e (w .best) (v .best)
 
-  move-allows : Allows n (move n)
-  unfolding move choose roomFor
+  move-allows : Allows n (moveOf n)
+  unfolding moveOf choose roomFor
   move-allows = go (best n) refl
     where
       fits : (d : Divisor) → Worth n d → (b c : Bool) → ltb (variables n) mostVariables ≡ b → ltb mostCubes (cubeCount (step n d)) ≡ c
@@ -47,8 +47,8 @@ module _ (n : Net) where
       go none e = nothing (λ d m. absurd (best-none n e d m))
       go (some d) e = weigh d (best-iff n d .0 e) (ltZ (pos 0) (weight n d)) refl
 
-  allows-move : {m : Move} → Allows n m → move n ≡ m
-  unfolding move choose roomFor
+  allows-move : {m : Move} → Allows n m → moveOf n ≡ m
+  unfolding moveOf choose roomFor
   allows-move (nothing h) = go (best n) refl
     where
       go : (o : Option Divisor) → best n ≡ o → choose n o ≡ finished
@@ -59,5 +59,5 @@ module _ (n : Net) where
   allows-move (next {d = d} w l k) = rw (best-iff n d .1 (w .best), w .above, lt-ltb (variables n) mostVariables l, le-ltb mostCubes (cubeCount (step n d)) k)
 
   -- what a network allows, in the order done, numbers, rows
-  pub move-iff : (m : Move) → (move n ≡ m) ↔ Allows n m
+  pub move-iff : (m : Move) → (moveOf n ≡ m) ↔ Allows n m
   move-iff m = (λ e. subst (Allows n) e move-allows, allows-move)

@@ -9,7 +9,7 @@ use lib.ListN.{length}
 use Rattle.network.specs.Net.{Net}
 use Rattle.extract_laws.specs.Divisor.{Divisor}
 use Rattle.extract_laws.specs.Extract.{step}
-use Rattle.extract_laws.specs.Run.{Stop, done, numbers, rows, Made, Result, Move, finished, stuck, makes, move, ended, making, prepare, runFrom}
+use Rattle.extract_laws.specs.Run.{Stop, done, numbers, rows, Made, Result, Move, finished, stuck, makes, moveOf, ended, making, prepare, runFrom}
 use Rattle.extract_laws.specs.Run.{inOrder, startOf, run}
 use Rattle.extract_laws.specs.Meaning.{Allows, Leads, Ends}
 use Rattle.extract_laws.specs.Meaning.Allows.{nothing, noNumber, noRows, next}
@@ -22,22 +22,22 @@ use Rattle.extract_laws.proofs.Preparing.{prepare-keeps}
 -- ---- a run from a network that is prepared, step by step
 
 -- no step is left: done, or else asked
-pub from-none : (n : Net) → runFrom 0 n ≡ record { network = n; stop = ended (move n); steps = [] }
+pub from-none : (n : Net) → runFrom 0 n ≡ record { network = n; stop = ended (moveOf n); steps = [] }
 unfolding runFrom
 from-none n = refl
 
 -- done before the step
-pub from-finished : (k : ℕ) (n : Net) → move n ≡ finished → runFrom (suc k) n ≡ record { network = n; stop = done; steps = [] }
+pub from-finished : (k : ℕ) (n : Net) → moveOf n ≡ finished → runFrom (suc k) n ≡ record { network = n; stop = done; steps = [] }
 unfolding runFrom
 from-finished k n e = rw (e, runFrom)
 
 -- no number or no rows for the step
-pub from-stuck : (k : ℕ) (n : Net) (r : Stop) → move n ≡ stuck r → runFrom (suc k) n ≡ record { network = n; stop = r; steps = [] }
+pub from-stuck : (k : ℕ) (n : Net) (r : Stop) → moveOf n ≡ stuck r → runFrom (suc k) n ≡ record { network = n; stop = r; steps = [] }
 unfolding runFrom
 from-stuck k n r e = rw (e, runFrom)
 
 -- the step is made
-pub from-make : (k : ℕ) (n : Net) (d : Divisor) → move n ≡ makes d → let r = runFrom k (prepare (step n d)) in
+pub from-make : (k : ℕ) (n : Net) (d : Divisor) → moveOf n ≡ makes d → let r = runFrom k (prepare (step n d)) in
     runFrom (suc k) n ≡ record { network = r .network; stop = r .stop; steps = making n d ∷ r .steps }
 unfolding runFrom
 from-make k n d e = rw (e, runFrom)
@@ -62,16 +62,16 @@ ends-few (isNumbers l w h) = omega arith
 ends-few (isRows l w h i) = omega arith
 
 from-leaves : (k : ℕ) (n : Net) → Leaves k n (runFrom k n)
-from-leaves zero n = rw (from-none n) (go (move n) ((move-iff n (move n)) .0 refl))
+from-leaves zero n = rw (from-none n) (go (moveOf n) ((move-iff n (moveOf n)) .0 refl))
   where
     go : (m : Move) → Allows n m → Leaves 0 n (record { network = n; stop = ended m; steps = [] })
     go m (nothing h) = record { leads = stay; ends = isDone (omega arith) h }
     go m (noNumber w l) = record { leads = stay; ends = isAsked refl w }
     go m (noRows w l h) = record { leads = stay; ends = isAsked refl w }
     go m (next w l h) = record { leads = stay; ends = isAsked refl w }
-from-leaves (suc k) n = go (move n) refl ((move-iff n (move n)) .0 refl) (λ d. from-leaves k (prepare (step n d)))
+from-leaves (suc k) n = go (moveOf n) refl ((move-iff n (moveOf n)) .0 refl) (λ d. from-leaves k (prepare (step n d)))
   where
-    go : (m : Move) → move n ≡ m → Allows n m → ((d : Divisor) → Leaves k (prepare (step n d)) (runFrom k (prepare (step n d))))
+    go : (m : Move) → moveOf n ≡ m → Allows n m → ((d : Divisor) → Leaves k (prepare (step n d)) (runFrom k (prepare (step n d))))
         → Leaves (suc k) n (runFrom (suc k) n)
     go m e (nothing h) t = rw (from-finished k n e) (record { leads = stay; ends = isDone (omega arith) h })
     go m e (noNumber w l) t = rw (from-stuck k n numbers e) (record { leads = stay; ends = isNumbers (omega arith) w l })
@@ -126,9 +126,9 @@ then r q = record { network = q .network; stop = q .stop; steps = r .steps ++ q 
 from-add : (s t : ℕ) (n : Net) → runFrom (s + suc t) n ≡ then (runFrom s n) (runFrom (suc t) (runFrom s n .network))
 from-add zero t n = rw (zero-add, from-none n)
 from-add (suc s) t n =
-    ap (λ k. runFrom k n) (suc-add s (suc t)) ∙ go (move n) refl ((move-iff n (move n)) .0 refl) (λ d. from-add s t (prepare (step n d)))
+    ap (λ k. runFrom k n) (suc-add s (suc t)) ∙ go (moveOf n) refl ((move-iff n (moveOf n)) .0 refl) (λ d. from-add s t (prepare (step n d)))
   where
-    go : (m : Move) → move n ≡ m → Allows n m
+    go : (m : Move) → moveOf n ≡ m → Allows n m
         → ((d : Divisor) → let p = prepare (step n d) in runFrom (s + suc t) p ≡ then (runFrom s p) (runFrom (suc t) (runFrom s p .network)))
         → runFrom (suc (s + suc t)) n ≡ then (runFrom (suc s) n) (runFrom (suc t) (runFrom (suc s) n .network))
     go m e (nothing h) f = rw (from-finished (s + suc t) n e, from-finished s n e, from-finished t n e)
@@ -159,7 +159,7 @@ module _ (s : ℕ) (n : Net) where
   unfolding run
   later t = from-add s t (startOf n) ∙ ap (then (run s n)) (sym (again (suc t)))
 
-  none-more : let m = run s n .network in run 0 m ≡ record { network = m; stop = ended (move m); steps = [] }
+  none-more : let m = run s n .network in run 0 m ≡ record { network = m; stop = ended (moveOf m); steps = [] }
   none-more = again 0 ∙ from-none (run s n .network)
 
   -- runs of s then t steps end in the network of a run of s + t

@@ -50,8 +50,8 @@ unfoldable pub choose : Net → Option Divisor → Move
 choose n none = finished
 choose n (some d) = cond (ltZ (pos 0) (weight n d)) (roomFor n d) finished
 
-unfoldable pub move : Net → Move
-move n = choose n (best n)
+unfoldable pub moveOf : Net → Move
+moveOf n = choose n (best n)
 
 -- no step is left to make: done comes before asked, and asked before the others
 abbrev pub ended : Move → Stop
@@ -71,8 +71,8 @@ prepare n = n
 
 -- from a network that is prepared
 unfoldable pub runFrom : ℕ → Net → Result
-runFrom zero n = record { network = n; stop = ended (move n); steps = [] }
-runFrom (suc k) n = elim (move n) [
+runFrom zero n = record { network = n; stop = ended (moveOf n); steps = [] }
+runFrom (suc k) n = elim (moveOf n) [
   | finished ↦ record { network = n; stop = done; steps = [] }
   | stuck r ↦ record { network = n; stop = r; steps = [] }
   | makes d ↦ let r = runFrom k (prepare (step n d)) in record { network = r .network; stop = r .stop; steps = making n d ∷ r .steps }

@@ -33,7 +33,7 @@ use Rattle.extract_tidy.proofs.Arranged.{arranged-parts, arranged-sized}
 use Rattle.extract_tidy.proofs.Laid.{limited-room, nodes-few}
 use Rattle.extract_divisor.specs.Divisor.{divisorOf}
 use Rattle.extract_divisor.specs.declared.Divisor.{Divisor}
-use Rattle.extract_step.specs.Replace.{allowed, outcome, Zeros, Stepped}
+use Rattle.extract_step.specs.Replace.{allowed, outcomeOf, Zeros, Stepped}
 use Rattle.extract_step.specs.Parts.{SourceNodes, Ready}
 use Rattle.extract_step.proofs.Becoming.{rewrite-length}
 use Rattle.extract_step.specs.declared.Next.{Next}
@@ -153,8 +153,8 @@ module _ (n : Network) (shape : Shaped n) (a : arranged n ≡ true) where
 
 -- two answers to one step are the same, where their words are words
 module _ (n : Network) (d : Divisor) (r t : Next) (x : Typed (r .network)) (y : Typed (t .network)) where
-  pub stepped-one : Stepped n (outcome n d) r → Stepped n (outcome n d) t → r ≡ t
-  stepped-one = go (outcome n d)
+  pub stepped-one : Stepped n (outcomeOf n d) r → Stepped n (outcomeOf n d) t → r ≡ t
+  stepped-one = go (outcomeOf n d)
     where
       join : r .outcome ≡ t .outcome → r .network ≡ t .network → r .number .0 ≡ t .number .0 → r .literals ≡ t .literals → r ≡ t
       join p q u v = λ i. record { outcome = p i; network = q i; number = record { 0 = u i }; literals = v i }

@@ -28,7 +28,7 @@ use Rattle.extract_tidy.proofs.Arranged.{arranged-in}
 use Rattle.extract_divisor.specs.Divisor.{divisorOf}
 use Rattle.extract_divisor.specs.declared.Divisor.{Divisor}
 use Rattle.extract_fit.specs.Fitness.{fitting}
-use Rattle.extract_step.specs.Replace.{allowed, outcome, After, Stepped}
+use Rattle.extract_step.specs.Replace.{allowed, outcomeOf, After, Stepped}
 use Rattle.extract_step.specs.declared.Outcome.the-variants.{Made}
 use Rattle.extract_step.specs.declared.Next.{Next}
 use Rattle.extract_fit.proofs.Fitting.{fitting-iff}
@@ -43,8 +43,8 @@ pub record Takes (n : Net) (d : divisor.Divisor) (t : Next) : Type 0 where
   pub literals : literalCount (step n d) ≤ mostLiterals
   pub after : After n d t
 
-pub stepped-takes : (n : Network) (d : Divisor) (t : Next) → Stepped n (outcome n d) t → t .outcome ≡ Made → Takes (netOf n) (divisorOf d) t
-unfolding outcome roomFor
+pub stepped-takes : (n : Network) (d : Divisor) (t : Next) → Stepped n (outcomeOf n d) t → t .outcome ≡ Made → Takes (netOf n) (divisorOf d) t
+unfolding outcomeOf roomFor
 stepped-takes n d t s q =
     go (arranged n && fitting (variables m) e) (ltb (variables m) mostVariables) (ltb mostCubes (cubeCount (step m e)))
     (ltb mostLiterals (literalCount (step m e))) refl refl refl refl s
@@ -94,7 +94,7 @@ module _ (n : Network) (shape : Shaped n) (r : rules n ≡ true)
 
 -- what a step hands back, where it is made
 pub made-rules : (n : Network) (d : Divisor) (t : Next) → Shaped n → rules n ≡ true
-    → Stepped n (outcome n d) t → t .outcome ≡ Made → (rules (t .network) ≡ true) × (arranged (t .network) ≡ true)
+    → Stepped n (outcomeOf n d) t → t .outcome ≡ Made → (rules (t .network) ≡ true) × (arranged (t .network) ≡ true)
 made-rules n d t shape r s q =
     let k = stepped-takes n d t s q in
     (takes-rules n shape r (divisorOf d) t k, takes-arranged n shape r (divisorOf d) t k)

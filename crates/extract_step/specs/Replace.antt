@@ -5,7 +5,7 @@ use mathlib.Core.Option.{Option, none, some}
 use lib.Dec.{ltb}
 use Rattle.network.specs.Net.{Net, variables, literalCount}
 use Rattle.network.specs.Held.{netOf, mostLiterals}
-use Rattle.network.specs.Handed.{Holds, Blank}
+use Rattle.network.specs.Handed.{Holds, AllZero}
 use Rattle.network.specs.declared.Network.{Network}
 use Rattle.extract_laws.specs.Divisor as divisor
 use Rattle.extract_laws.specs.Extract.{nextFree, step}
@@ -24,8 +24,8 @@ allowed n (stuck r) = some (stuck r)
 allowed n finished = some finished
 
 -- whether the network has a number and rows for the step, where network and divisor are fit for one
-unfoldable pub outcome : Network → Divisor → Option Move
-outcome n d = cond (arranged n && fitting (variables (netOf n)) (divisorOf d)) (allowed (netOf n) (roomFor (netOf n) (divisorOf d))) none
+unfoldable pub outcomeOf : Network → Divisor → Option Move
+outcomeOf n d = cond (arranged n && fitting (variables (netOf n)) (divisorOf d)) (allowed (netOf n) (roomFor (netOf n) (divisorOf d))) none
 
 -- the network after the step, the number of its new node, and its literal count
 pub record After (n : Net) (d : divisor.Divisor) (r : Next) : Type 0 where
@@ -35,7 +35,7 @@ pub record After (n : Net) (d : divisor.Divisor) (r : Next) : Type 0 where
 
 -- no step: all zeros
 pub record Zeros (r : Next) : Type 0 where
-  pub blank : Blank (r .network)
+  pub blank : AllZero (r .network)
   pub number : r .number .0 ≡ 0
   pub literals : r .literals ≡ 0
 

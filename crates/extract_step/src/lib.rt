@@ -18,7 +18,7 @@ ghost use Rattle.extract_laws.specs.Divisor.{own, part, hit, gone, rewrite};
 ghost use Rattle.extract_laws.specs.Run.{roomFor};
 ghost use Rattle.extract_divisor.specs.Divisor.{divisorOf};
 ghost use Rattle.extract_fit.specs.Fitness.{fitting};
-ghost use Rattle.extract_step.specs.Replace.{allowed, Zeros, Stepped, outcome};
+ghost use Rattle.extract_step.specs.Replace.{allowed, Zeros, Stepped, outcomeOf};
 ghost use Rattle.extract_step.specs.Parts.{fate, fateOf, become, Fitted, SourceNodes, Ready};
 
 pub enum Outcome {
@@ -205,17 +205,17 @@ fn made(words: &[u64], counts: &[usize], n: usize, m: usize, k: usize, d: Diviso
         (allowed (netAt n m k (now (counts .entry)) (now (words .entry))) (roomFor (netAt n m k (now (counts .entry)) (now (words .entry))) (divisorOf d))) r
         ⌝ }
 {
-    let mut out = [0u64; network::WORDS];
-    let mut sizes = [0usize; network::NODES];
+    let mut out = [0u64; network::WORD_SLOTS];
+    let mut sizes = [0usize; network::NODE_SLOTS];
     let v = (n + k) as u32;
     let x = cube::plain(Variable(v));
     let to = put_nodes(words, counts, m + k, d, x, &mut out, &mut sizes);
-    if own_size(d) > network::CUBES - to {
+    if own_size(d) > network::MOST_CUBES - to {
         return refused(Outcome::Rows);
     }
     let end = put_own(d, &mut out, to);
     let literals = expression_survey::literals(expression::part(&out, 0, end));
-    if literals > network::LITERAL_COUNT {
+    if literals > network::MOST_LITERALS {
         return refused(Outcome::Unfit);
     }
     sizes[m + k] = end - to;
@@ -237,7 +237,7 @@ fn made(words: &[u64], counts: &[usize], n: usize, m: usize, k: usize, d: Diviso
 // cube order, a divisor whose own node is no expression over the network's variables or that has not the smaller literal or part
 // first, and a step that passes 32,768 literals.
 pub fn step(n: Network, d: Divisor) -> Next
-    ensures { λ r. ⌜ Stepped n (outcome n d) r ⌝ }
+    ensures { λ r. ⌜ Stepped n (outcomeOf n d) r ⌝ }
 {
     if !extract_tidy::is_arranged(n) {
         return refused(Outcome::Unfit);
@@ -246,7 +246,7 @@ pub fn step(n: Network, d: Divisor) -> Next
     if !extract_fit::is_fit(d, v) {
         return refused(Outcome::Unfit);
     }
-    if v >= network::VARIABLES {
+    if v >= network::MOST_VARIABLES {
         return refused(Outcome::Numbers);
     }
     let words = n.words;

@@ -70,8 +70,8 @@ pub fn in_order(n: Network) -> Handed
     };
     let words = n.words;
     let counts = n.counts;
-    let mut out = [0u64; network::WORDS];
-    let mut sizes = [0usize; network::NODES];
+    let mut out = [0u64; network::WORD_SLOTS];
+    let mut sizes = [0usize; network::NODE_SLOTS];
     lay_nodes(
         &words,
         &counts,

@@ -26,11 +26,11 @@ pub const LITERALS_WIDTH: usize = 7;
 pub const LITERAL_WIDTH: usize = 7;
 
 // The most bits of a cube, of a node and of an image whose fields are all in range.
-pub const CUBE_BITS: usize = LITERALS_WIDTH + LITERAL_WIDTH * network::VARIABLES;
+pub const CUBE_BITS: usize = LITERALS_WIDTH + LITERAL_WIDTH * network::MOST_VARIABLES;
 
-pub const NODE_BITS: usize = CUBES_WIDTH + network::CUBES * CUBE_BITS;
+pub const NODE_BITS: usize = CUBES_WIDTH + network::MOST_CUBES * CUBE_BITS;
 
-pub const IMAGE_BITS: usize = HEAD_WIDTH + (network::OUTPUTS + network::VARIABLES - 1) * NODE_BITS;
+pub const IMAGE_BITS: usize = HEAD_WIDTH + (network::MOST_OUTPUTS + network::MOST_VARIABLES - 1) * NODE_BITS;
 
 // The bytes of the longest such image, and one more by which a longer one is known.
 pub const ROOM: usize = (IMAGE_BITS + 7) / 8 + 1;

@@ -21,12 +21,12 @@ ghost use Rattle.image_number.specs.Parts.{Wide, Itself, Numbers, Placin
 // ---- the new numbers
 
 // Each variable at its own number.
-fn own() -> [u32; network::VARIABLES]
+fn own() -> [u32; network::MOST_VARIABLES]
     ensures { λ r. ⌜ Itself mostVariables r ⌝ }
 {
-    let mut places = [0u32; network::VARIABLES];
+    let mut places = [0u32; network::MOST_VARIABLES];
     let mut v = 0;
-    while v < network::VARIABLES {
+    while v < network::MOST_VARIABLES {
         places[v] = v as u32;
         v += 1;
     }
@@ -34,7 +34,7 @@ fn own() -> [u32; network::VARIABLES]
 }
 
 // The new number of each variable: inputs keep theirs, the divisors take those from n on in their order.
-fn places_of(order: &[u32], n: usize, k: usize) -> [u32; network::VARIABLES]
+fn places_of(order: &[u32], n: usize, k: usize) -> [u32; network::MOST_VARIABLES]
     requires { ⌜ Numbers n k (now order) ⌝ }
     ensures { λ r. ⌜ Placing n k (now (order .entry)) r ⌝ }
 {
@@ -125,8 +125,8 @@ fn build(n: usize, m: usize, k: usize, words: &[u64], counts: &[usize], order: &
     ensures { λ r. ⌜ Holds r (renumbered (netAt n m k (now (counts .entry)) (now (words .entry)))) ⌝ }
 {
     let places = places_of(order, n, k);
-    let mut sizes = [0usize; network::NODES];
-    let mut out = [0u64; network::WORDS];
+    let mut sizes = [0usize; network::NODE_SLOTS];
+    let mut out = [0u64; network::WORD_SLOTS];
     let mut at = 0;
     let mut i = 0;
     while i < m + k {

@@ -48,7 +48,7 @@ fn sizes_of(a: usize, b: usize, k: usize) -> Head
     requires { ⌜ (a < mostInputs) × (b < mostOutputs) × (k < mostVariables) ⌝ }
     ensures { λ r. ⌜ r ≡ sizesOf a b k ⌝ }
 {
-    if a + 1 + k > network::VARIABLES {
+    if a + 1 + k > network::MOST_VARIABLES {
         return Head::Bad(12);
     }
     Head::Of(Sizes {
@@ -161,10 +161,10 @@ fn in_order(
 fn is_few(s: State) -> bool
     ensures { λ r. ⌜ r ≡ fewIn s ⌝ }
 {
-    if s.cubes > network::CUBES {
+    if s.cubes > network::MOST_CUBES {
         return false;
     }
-    s.literals <= network::LITERAL_COUNT as usize
+    s.literals <= network::MOST_LITERALS as usize
 }
 
 // 11 for what is left over, then 12 for the sums, then 13 for the order.
@@ -207,8 +207,8 @@ fn finish(
     divisors: usize,
     t: State,
     apart: &[u64],
-    held: [u64; network::WORDS],
-    counts: [usize; network::NODES],
+    held: [u64; network::WORD_SLOTS],
+    counts: [usize; network::NODE_SLOTS],
 ) -> Handed
     requires { ⌜ AllRead (bitsIn (now bytes)) z divisors t (now apart) held counts ⌝ }
     ensures { λ r. ⌜ Told (judgeRaw (nodesAt (bitsIn (now (bytes .entry))) z)) r ⌝ }
@@ -233,12 +233,12 @@ fn finish(
 }
 
 // The divisors are read: now the outputs, whose counts stand before theirs.
-fn rest(bytes: &[u8], z: Sizes, s: State, apart: &[u64], given: [usize; network::NODES]) -> Handed
+fn rest(bytes: &[u8], z: Sizes, s: State, apart: &[u64], given: [usize; network::NODE_SLOTS]) -> Handed
     requires { ⌜ DivisorsRead (bitsIn (now bytes)) z s (now apart) given ⌝ }
     ensures { λ r. ⌜ Told (judgeRaw (nodesAt (bitsIn (now (bytes .entry))) z)) r ⌝ }
 {
     let mut counts = given;
-    let mut words = [0u64; network::WORDS];
+    let mut words = [0u64; network::WORD_SLOTS];
     let mut next = s;
     next.cubes = 0;
     let o = nodes::nodes(
@@ -261,8 +261,8 @@ fn body(bytes: &[u8], z: Sizes) -> Handed
     requires { ⌜ SizesFit z ⌝ }
     ensures { λ r. ⌜ Told (judgeRaw (nodesAt (bitsIn (now (bytes .entry))) z)) r ⌝ }
 {
-    let mut counts = [0usize; network::NODES];
-    let mut apart = [0u64; network::WORDS];
+    let mut counts = [0usize; network::NODE_SLOTS];
+    let mut apart = [0u64; network::WORD_SLOTS];
     let start = State {
         at: image_laws::HEAD_WIDTH,
         cubes: 0,

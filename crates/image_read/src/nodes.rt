@@ -73,7 +73,7 @@ fn node(bytes: &[u8], start: State, v: usize, words: &mut [u64]) -> Step
     let Field::Value(k) = f else {
         return Step::Bad(11);
     };
-    if k > network::CUBES {
+    if k > network::MOST_CUBES {
         return Step::Bad(12);
     }
     let mut s = start;

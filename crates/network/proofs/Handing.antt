@@ -14,7 +14,7 @@ use Rattle.network.specs.Held.{numbered, used, netOf}
 pub use Rattle.network.specs.Rules.{InTurn}
 use Rattle.network_nodes.specs.Nodes.{cut}
 pub use Rattle.network.specs.Handed.{Typed}
-use Rattle.network.specs.Handed.{flat, nodeSlots, wordSlots, Shaped, Holds, Blank}
+use Rattle.network.specs.Handed.{flat, nodeSlots, wordSlots, Shaped, Holds, AllZero}
 use Rattle.network.specs.declared.Network.{Network}
 
 -- cubes written node after node are cut into the nodes again
@@ -76,7 +76,7 @@ holds-one n p m a b h k = λ i. record {
 }
 
 -- no two networks of zeros differ
-pub blank-one : (n p : Network) → Blank n → Blank p → n ≡ p
+pub blank-one : (n p : Network) → AllZero n → AllZero p → n ≡ p
 blank-one n p h k = λ i. record {
   inputs = (h .inputs ∙ sym (k .inputs)) i;
   outputs = (h .outputs ∙ sym (k .outputs)) i;

@@ -8,7 +8,7 @@ use native.Mathlib.Omega.{arith}
 use Rattle.expression.specs.declared.Verdict.the-variants.{Accepted, Refused}
 use Rattle.network.specs.Net.{Net}
 use Rattle.network.specs.Held.{rules}
-use Rattle.network.specs.Handed.{Typed, Holds, Blank, Return, gives, refuses, Told, byRules}
+use Rattle.network.specs.Handed.{Typed, Holds, AllZero, Return, gives, refuses, Told, byRules}
 use Rattle.network.specs.declared.Network.{Network}
 use Rattle.network.specs.declared.Handed.{Handed}
 use Rattle.network.proofs.Handing.{holds-one, blank-one}
@@ -35,7 +35,7 @@ module _ (n : Network) (m : Net) (r : Handed) where
   ]
 
   -- refused, it breaks one, and the network is zero
-  pub told-refused : (k : ℕ) → Told (byRules n m) r → r .answer ≡ Refused k → (rules n ≡ false) × Blank (r .network)
+  pub told-refused : (k : ℕ) → Told (byRules n m) r → r .answer ≡ Refused k → (rules n ≡ false) × AllZero (r .network)
   told-refused k t a = elim (decided (rules n)) [
     | inl e ↦ let q = (rw e at t) .0 in let z : _≡_ {A = ℕ} 0 1 = cc in absurd (omega arith)
     | inr e ↦ (e, (rw e at t) .1)

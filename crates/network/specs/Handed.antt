@@ -56,7 +56,7 @@ pub record Holds (n : Network) (m : Net) : Type 0 where
   pub laid : LaidNodes (n .words) (n .counts) (cubeCount m) (nodes m)
 
 -- every field is zero
-pub record Blank (n : Network) : Type 0 where
+pub record AllZero (n : Network) : Type 0 where
   pub inputs : n .inputs ≡ 0
   pub outputs : n .outputs ≡ 0
   pub divisors : n .divisors ≡ 0
@@ -73,7 +73,7 @@ pub data Return : Type 0 where
 -- the network held; or the number, with a network of zeros
 abbrev pub Told : Return → Handed → Type 0
 Told (gives m) r = (r .answer ≡ Accepted) × Holds (r .network) m
-Told (refuses k) r = (r .answer ≡ Refused k) × Blank (r .network)
+Told (refuses k) r = (r .answer ≡ Refused k) × AllZero (r .network)
 
 -- what is given for a network handed in: 10 where it breaks a rule
 abbrev pub byRules : Network → Net → Return

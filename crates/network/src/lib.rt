@@ -1,34 +1,34 @@
 // Networks by value, and the limits on them.
 use expression::Verdict;
 ghost use mathlib.Core.Path.{_≡_};
-ghost use Rattle.network.specs.Handed.{Blank, Told, refuses, Carries};
+ghost use Rattle.network.specs.Handed.{AllZero, Told, refuses, Carries};
 ghost use Prim.Native.Nat.{_+_, min};
 ghost use Rattle.sets.specs.Word.{largest};
 ghost use Rattle.network.specs.Held.{upTo, sized, numberAt, placeAt};
 
 // The limits: inputs, outputs, inputs plus divisors, cubes, and literals counted over all of them.
-pub const INPUTS: usize = 32;
+pub const MOST_INPUTS: usize = 32;
 
-pub const OUTPUTS: usize = 32;
+pub const MOST_OUTPUTS: usize = 32;
 
-pub const VARIABLES: usize = 64;
+pub const MOST_VARIABLES: usize = 64;
 
-pub const CUBES: usize = 1088;
+pub const MOST_CUBES: usize = 1088;
 
-pub const LITERAL_COUNT: u64 = 32768;
+pub const MOST_LITERALS: u64 = 32768;
 
 // Slots for nodes and for words of cubes.
-pub const NODES: usize = OUTPUTS + VARIABLES;
+pub const NODE_SLOTS: usize = MOST_OUTPUTS + MOST_VARIABLES;
 
-pub const WORDS: usize = expression::WORDS * CUBES;
+pub const WORD_SLOTS: usize = expression::WORDS * MOST_CUBES;
 
 // Counts and cubes of the outputs first, then of the divisors by number; slots past those in use mean nothing.
 pub struct Network {
     pub inputs: usize,
     pub outputs: usize,
     pub divisors: usize,
-    pub counts: [usize; NODES],
-    pub words: [u64; WORDS],
+    pub counts: [usize; NODE_SLOTS],
+    pub words: [u64; WORD_SLOTS],
 }
 
 // A network handed back; a refusal carries a network of zeros.
@@ -46,7 +46,7 @@ pub enum Number {
 // Numbers of divisors in the order of the listing, as many as are listed, and zeros after them.
 pub struct Listed {
     pub count: usize,
-    pub order: [u32; VARIABLES],
+    pub order: [u32; MOST_VARIABLES],
 }
 
 const WORD_MOST: usize = sets::WORD_MOST as usize;
@@ -92,29 +92,29 @@ fn up_to(most: usize, x: usize) -> bool
 pub fn is_sized(n: Network) -> bool
     ensures { λ r. ⌜ r ≡ sized n ⌝ }
 {
-    if !up_to(INPUTS, n.inputs) {
+    if !up_to(MOST_INPUTS, n.inputs) {
         return false;
     }
-    if !up_to(OUTPUTS, n.outputs) {
+    if !up_to(MOST_OUTPUTS, n.outputs) {
         return false;
     }
-    if n.divisors > VARIABLES - n.inputs {
+    if n.divisors > MOST_VARIABLES - n.inputs {
         return false;
     }
     let counts = n.counts;
-    network_nodes::start(&counts, n.outputs + n.divisors, CUBES + 1) <= CUBES
+    network_nodes::start(&counts, n.outputs + n.divisors, MOST_CUBES + 1) <= MOST_CUBES
 }
 
 // The network of zeros, handed back beside a refusal.
 pub fn blank() -> Network
-    ensures { λ r. ⌜ Blank r ⌝ }
+    ensures { λ r. ⌜ AllZero r ⌝ }
 {
     Network {
         inputs: 0,
         outputs: 0,
         divisors: 0,
-        counts: [0usize; NODES],
-        words: [0u64; WORDS],
+        counts: [0usize; NODE_SLOTS],
+        words: [0u64; WORD_SLOTS],
     }
 }
 

@@ -9,7 +9,7 @@ use borrow.Author.Tests.{eq-eqb, ne-eqb, le-leb, lt-leb}
 use Rattle.sets.specs.Lists.{keep}
 use Rattle.sets.specs.Literal.{plainOf}
 use Rattle.sets.specs.Sets.{mem, without}
-use Rattle.sets.proofs.Truth.{stand, below, equal, beyond}
+use Rattle.sets.proofs.Truth.{compared, below, equal, beyond}
 use Rattle.sets.proofs.Sets.{keep-mem, without-mem}
 use Rattle.network_reads.specs.Reading.{Marks}
 use Rattle.network_reads.proofs.Marking.{marks-none, marks-plain}
@@ -49,7 +49,7 @@ above-next {set} {left} {r} {one} v s e m = record {
 }
   where
     turn : (u : ℕ) (b a : Bool) → ((b && (a && leb v u)) && not (b && (eqb u v || false))) ≡ (b && (a && leb (v + 1) u))
-    turn u b a = elim (stand u v) [
+    turn u b a = elim (compared u v) [
       | below h _ _ ↦ rw (lt-leb v u h, lt-leb (v + 1) u (omega arith), ne-eqb u v (λ q. omega arith), and-false a, and-false b)
       | equal h _ _ ↦ rw (le-leb v u (omega arith), lt-leb (v + 1) u (omega arith), eq-eqb u v h, and-true a, and-false a, and-true b, and-false b) (here b)
       | beyond h _ _ ↦ rw (le-leb v u (omega arith), le-leb (v + 1) u (omega arith), ne-eqb u v (λ q. omega arith), and-false b) (and-true (b && (a && true)))

@@ -9,7 +9,7 @@ use lib.Dec.{ltb, eqb}
 use borrow.Author.Tests.{lt-ltb, le-ltb, eq-eqb, ne-eqb, eqb-true, eqb-false}
 use Rattle.sets.specs.Sets.{mem, insert}
 use Rattle.sets.specs.Literal.{plainOf, negatedOf}
-use Rattle.sets.proofs.Truth.{both, iff, decided, clash, stand, below, equal, beyond}
+use Rattle.sets.proofs.Truth.{both, iff, decided, clash, compared, below, equal, beyond}
 use Rattle.sets.proofs.Sets.{insert-mem, mem-append}
 use Rattle.cube.specs.Cube.{joined, width}
 use Rattle.expression.specs.Value.{lit}
@@ -37,7 +37,7 @@ joined-past v b c h = rw (le-ltb (signed v b) (2 * width) (signed-large v b h))
 -- a variable more is known
 pub known-input : (n x : ℕ) → (eqb x n || known n [] x) ≡ known (n + 1) [] x
 unfolding mem
-known-input n x = elim (stand x n) [
+known-input n x = elim (compared x n) [
   | below l _ _ ↦ rw (lt-ltb x n l, lt-ltb x (n + 1) (omega arith), or-true (eqb x n))
   | equal e _ _ ↦ rw (eq-eqb x n e, lt-ltb x (n + 1) (omega arith))
   | beyond l _ _ ↦ rw (ne-eqb x n (λ e. omega arith), le-ltb x n (omega arith), le-ltb x (n + 1) (omega arith))

@@ -1,7 +1,7 @@
 // The listing of a network's divisors: again and again the smallest number whose own divisors are all listed.
 use cube::Cube;
 use cube::Variable;
-use expression::Place;
+use expression::Position;
 use network::Listed;
 use network::Network;
 ghost use mathlib.Core.Path.{_≡_};
@@ -55,7 +55,7 @@ fn is_next(f: &[u64], v: usize, k: Cube) -> bool
 }
 
 // The first divisor that is not known and reads known variables alone.
-fn next(words: &[u64], counts: &[usize], n: usize, m: usize, k: usize, known: Cube) -> Place
+fn next(words: &[u64], counts: &[usize], n: usize, m: usize, k: usize, known: Cube) -> Position
     requires { ⌜ InLimits n m k (now words) (now counts) ⌝ }
     ensures { λ r. ⌜ placeOf r ≡ nextIn (lits known) (netAt n m k (now (counts .entry)) (now (words .entry)) .divisors) ⌝ }
 {
@@ -67,11 +67,11 @@ fn next(words: &[u64], counts: &[usize], n: usize, m: usize, k: usize, known: Cu
             v,
             known,
         ) {
-            return Place::At(v);
+            return Position::At(v);
         }
         i += 1;
     }
-    Place::Nothing
+    Position::Nothing
 }
 
 // Again and again the smallest number whose own divisors are all listed.
@@ -79,12 +79,12 @@ fn list(words: &[u64], counts: &[usize], n: usize, m: usize, k: usize) -> Listed
     requires { ⌜ InLimits n m k (now words) (now counts) ⌝ }
     ensures { λ r. ⌜ PaddedList (listing (netAt n m k (now (counts .entry)) (now (words .entry)))) (r .count) (r .order) ⌝ }
 {
-    let mut order = [0u32; network::VARIABLES];
+    let mut order = [0u32; network::MOST_VARIABLES];
     let mut count = 0;
     let mut known = below(n);
     while count < k {
         let f = next(words, counts, n, m, k, known);
-        let Place::At(v) = f else {
+        let Position::At(v) = f else {
             return Listed { count, order };
         };
         order[count] = v as u32;
@@ -125,7 +125,7 @@ fn nothing() -> Listed
 {
     Listed {
         count: 0,
-        order: [0u32; network::VARIABLES],
+        order: [0u32; network::MOST_VARIABLES],
     }
 }
 

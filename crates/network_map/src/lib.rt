@@ -2,8 +2,8 @@
 use cube::Cube;
 use cube::Variable;
 use network::Network;
-use network::OUTPUTS;
-use network::VARIABLES;
+use network::MOST_OUTPUTS;
+use network::MOST_VARIABLES;
 ghost use mathlib.Core.Path.{_≡_};
 ghost use Prim.Native.Nat.{_<_};
 ghost use Rattle.sets.specs.Literal.{plainOf};
@@ -15,10 +15,10 @@ ghost use Rattle.network_map.specs.Parts.{HasRow, RowSet};
 ghost use Rattle.network_reads.specs.Reading.{Marks};
 
 // A row of cells for each output, a cell in it for each variable.
-pub const CELLS: usize = OUTPUTS * VARIABLES;
+pub const CELL_SLOTS: usize = MOST_OUTPUTS * MOST_VARIABLES;
 
-fn none() -> [bool; CELLS] {
-    [false; CELLS]
+fn none() -> [bool; CELL_SLOTS] {
+    [false; CELL_SLOTS]
 }
 
 // Whether the set has the variable v.
@@ -40,24 +40,24 @@ fn row(n: Network, j: usize) -> Cube
 }
 
 // Row j of the cells becomes the set.
-fn set_row(cells: &mut [bool; CELLS], j: usize, set: Cube)
+fn set_row(cells: &mut [bool; CELL_SLOTS], j: usize, set: Cube)
     requires { ⌜ HasRow (now cells) j ⌝ }
     ensures { λ r. ⌜ RowSet (now (cells .entry)) (now (cells .exit)) j (lits set) ⌝ }
 {
     let mut v = 0;
-    while v < VARIABLES {
-        cells[j * VARIABLES + v] = has(set, v);
+    while v < MOST_VARIABLES {
+        cells[j * MOST_VARIABLES + v] = has(set, v);
         v += 1;
     }
 }
 
 // Cell v of row j says whether output j hangs on the divisor of number v, directly or through others; no input is one.
-pub fn cells(n: Network) -> [bool; CELLS]
+pub fn cells(n: Network) -> [bool; CELL_SLOTS]
     ensures { λ r. ⌜ Crossed n r ⌝ }
 {
     let mut all = none();
     let mut j = 0;
-    while j < OUTPUTS {
+    while j < MOST_OUTPUTS {
         set_row(&mut all, j, row(n, j));
         j += 1;
     }

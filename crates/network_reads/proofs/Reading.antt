@@ -10,7 +10,7 @@ use lib.ListN.{length, getD, drop, drop-of-length-le}
 use borrow.Author.Tests.{eq-eqb, ne-eqb, eqb-true, eqb-false, le-leb, lt-leb}
 use Rattle.sets.specs.Literal.{plainOf, negatedOf}
 use Rattle.sets.specs.Sets.{mem}
-use Rattle.sets.proofs.Truth.{iff, both, either, or-left, or-right, clash, decided, stand, below, equal, beyond}
+use Rattle.sets.proofs.Truth.{iff, both, either, or-left, or-right, clash, decided, compared, below, equal, beyond}
 use Rattle.sets.proofs.Lists.{_∈_}
 use Rattle.sets.proofs.Sets.{mem-of, of-mem, insert-mem, union-mem}
 use Rattle.sets.proofs.Places.{drop-next}
@@ -64,7 +64,7 @@ onward-first l u = rw (le-leb 0 u (omega arith))
 
 pub onward-next : (v : ℕ) (l : List ℕ) (u : ℕ) → onward v l u ≡ (mem u (cond (mem v l) (v ∷ []) []) || onward (v + 1) l u)
 unfolding mem
-onward-next v l u = rw (alone (mem v l)) (elim (stand u v) [
+onward-next v l u = rw (alone (mem v l)) (elim (compared u v) [
   | below h _ _ ↦ rw (lt-leb v u h, lt-leb (v + 1) u (omega arith), ne-eqb u v (λ e. omega arith), and-false (mem v l))
   | equal e _ _ ↦ rw (e, le-leb v v (omega arith), lt-leb (v + 1) v (omega arith), eq-eqb v v refl, and-true (mem v l)) (sym (or-false (mem v l)))
   | beyond h _ _ ↦ rw (le-leb v u (omega arith), le-leb (v + 1) u (omega arith), ne-eqb u v (λ e. omega arith), and-false (mem v l))
@@ -76,7 +76,7 @@ onward-next v l u = rw (alone (mem v l)) (elim (stand u v) [
 
 -- past the last variable of a cube there is none
 pub onward-done : (c : Cube) (v : ℕ) → width ≤ v → (u : ℕ) → onward v (variablesOf (lits c)) u ≡ false
-onward-done c v h u = elim (stand u v) [
+onward-done c v h u = elim (compared u v) [
   | below k _ _ ↦ rw (lt-leb v u k)
   | equal e _ _ ↦ past (omega arith)
   | beyond k _ _ ↦ past (omega arith)

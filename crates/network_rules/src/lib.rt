@@ -44,7 +44,7 @@ fn is_lawful(words: &[u64], counts: &[usize], e: usize) -> bool
     if !all_expressions(words, counts, e) {
         return false;
     }
-    count(words, counts, e) <= network::LITERAL_COUNT
+    count(words, counts, e) <= network::MOST_LITERALS
 }
 
 // Whether every divisor is listed.

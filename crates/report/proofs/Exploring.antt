@@ -49,10 +49,10 @@ module _ (n : Network) (shape : Shaped n) (h : rules n ≡ true) (r : Ran) (t : 
   never-refused k e = let q = told .0 .1 in let z : _≡_ {A = ℕ} 0 1 = cc in omega arith
 
   -- what is found is what the definitions say
-  pub explored : (start end : ℕ) (stop : Stop) → r .answer ≡ Stopped stop → start ≡ literalCount (netOf n) → end ≡ literalCount (netOf (r .network))
+  pub explored-run : (start end : ℕ) (stop : Stop) → r .answer ≡ Stopped stop → start ≡ literalCount (netOf n) → end ≡ literalCount (netOf (r .network))
       → Explored n (record { answer = Read; start = start; steps = r .steps; end = end; stop = stop })
   unfolding runOf ranText
-  explored start end stop a b e =
+  explored-run start end stop a b e =
       let q = told .0 .1 in
       let same : told .0 .0 ≡ stop = cc in
       let why : stopOf stop ≡ result .stop = ap stopOf (sym same) ∙ told .0 .2 in

@@ -9,7 +9,7 @@ use native.Mathlib.Omega.{arith}
 use lib.Dec.{eqb, leb}
 use borrow.Author.Tests.{eqb-true, leb-true, leb-false, ne-eqb, le-leb, lt-leb}
 use Rattle.sets.specs.Sets.{mem, asc, firstFrom}
-use Rattle.sets.proofs.Truth.{clash, either, or-left, or-right, decided, refuted, below, equal, beyond, stand}
+use Rattle.sets.proofs.Truth.{clash, either, or-left, or-right, decided, refuted, below, equal, beyond, compared}
 use Rattle.sets.proofs.Sets.{mem-head, head-le, tail-asc}
 
 pub some-not-none : {A : Type 0} {x : ℕ} (o : Option ℕ) → o ≡ some x → o ≡ none → A
@@ -38,7 +38,7 @@ pub first-some : (l : ℕ) (xs : List ℕ) (x : ℕ) → asc xs ≡ true → mem
 unfolding firstFrom mem
 first-some l [] x a m le h = absurd (false≢true m)
 first-some l (y ∷ ys) x a m le h = elim (decided (leb l y)) [
-  | inl t ↦ elim (stand y x) [
+  | inl t ↦ elim (compared y x) [
     | below b p q ↦ clash (mem-head y ys) (h y (leb-true l y t) b)
     | equal e p q ↦ rw (t, e)
     | beyond b p q ↦ absurd (omega (arith, head-le y ys x a m))
@@ -86,7 +86,7 @@ some-first l (y ∷ ys) x a h = elim (decided (leb l y)) [
 pub first-next : (l : ℕ) (xs : List ℕ) → mem l xs ≡ false → firstFrom l xs ≡ firstFrom (l + 1) xs
 unfolding firstFrom mem
 first-next l [] h = refl
-first-next l (x ∷ xs) h = elim (stand l x) [
+first-next l (x ∷ xs) h = elim (compared l x) [
   | below b p q ↦ rw (le-leb l x (omega arith), le-leb (l + 1) x (omega arith))
   | equal b p q ↦ clash (or-left (eqb l x) (mem l xs) q) h
   | beyond b p q ↦ rw (lt-leb l x (omega arith), lt-leb (l + 1) x (omega arith)) (first-next l xs (tail-not l x xs h))

@@ -14,7 +14,7 @@ use Rattle.sets.specs.Sets.{mem, asc, before, firstFrom}
 use Rattle.sets.specs.Lists.{isSome}
 use Rattle.sets.specs.Meaning.{Earlier, prefix, differ}
 use Rattle.sets.specs.Masks.{literals}
-use Rattle.sets.proofs.Truth.{decided, clash, Stand, below, equal, beyond, stand}
+use Rattle.sets.proofs.Truth.{decided, clash, Stand, below, equal, beyond, compared}
 use Rattle.sets.proofs.Orders.{ltb-order, before-order, asym, lex-true, lex-self}
 use Rattle.sets.proofs.Sets.{mem-head, head-le, tail-asc, tail-mem, ext}
 use Rattle.sets.proofs.Literals.{literals-asc, mem-xor}
@@ -78,7 +78,7 @@ pub before-first : (a b : List ℕ) (d : ℕ) → asc a ≡ true → asc b ≡ t
 unfolding before firstFrom mem
 before-first [] b d p q h m k = absurd (false≢true m)
 before-first (x ∷ a) [] d p q h m k = refl
-before-first (x ∷ a) (y ∷ b) d p q h m k = go (stand x d) (before-first a b d (tail-asc x a p) (tail-asc y b q))
+before-first (x ∷ a) (y ∷ b) d p q h m k = go (compared x d) (before-first a b d (tail-asc x a p) (tail-asc y b q))
   where
     le : x ≤ d
     le = head-le x a d p m
@@ -95,7 +95,7 @@ before-first (x ∷ a) (y ∷ b) d p q h m k = go (stand x d) (before-first a b 
         ap (λ (z : ℕ). before (x ∷ a) (z ∷ b)) e ∙ before-same x a b
         ∙ ih (λ l lt. tail-mem x a b l p q′ (subst (λ (z : ℕ). mem l (x ∷ a) ≡ mem l (z ∷ b)) e (h l lt))) (rw ne at m) (rw ne′ at k)
         ∙ rw (lt-leb d y (omega arith))
-    go (equal s _ _) ih = later (stand y d)
+    go (equal s _ _) ih = later (compared y d)
       where
         later : Stand y d → before (x ∷ a) (y ∷ b) ≡ isSome (cond (leb d y) (some y) (firstFrom d b))
         later (below t _ _) = let xy : x ≤ y = head-le x a y p (h y t ∙ mem-head y b) in absurd (omega arith)

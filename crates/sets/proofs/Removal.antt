@@ -9,7 +9,7 @@ use lib.Dec.{eqb, ltb}
 use borrow.Author.Tests.{eqb-true, eq-eqb, ne-eqb, ltb-true}
 use Rattle.sets.specs.Lists.{all}
 use Rattle.sets.specs.Sets.{mem, sub, asc, without, before}
-use Rattle.sets.proofs.Truth.{both, either, decided, clash, refuted, or-left, or-right, Stand, below, equal, beyond, stand}
+use Rattle.sets.proofs.Truth.{both, either, decided, clash, refuted, or-left, or-right, Stand, below, equal, beyond, compared}
 use Rattle.sets.proofs.Lists.{ahead}
 use Rattle.sets.proofs.Sets.{sub-in, sub-out, head-le, tail-asc, head-once}
 use Rattle.sets.proofs.Ordering.{before-same, before-head, before-asym}
@@ -26,7 +26,7 @@ module _ (l : ℕ) where
   pub without-absent : (a : List ℕ) → mem l a ≡ false → without a (l ∷ []) ≡ a
   unfolding without mem
   without-absent [] h = refl
-  without-absent (x ∷ a) h = go (stand l x) (without-absent a)
+  without-absent (x ∷ a) h = go (compared l x) (without-absent a)
     where
       go : Stand l x → (mem l a ≡ false → without a (l ∷ []) ≡ a) → without (x ∷ a) (l ∷ []) ≡ x ∷ a
       go (below s p q) ih = without-there x a (λ e. omega arith) ∙ ap (x ∷_) (ih (rw q at h))
@@ -41,7 +41,7 @@ module _ (l : ℕ) where
 -- one that begins lower comes first, before and after
 lower : (l x y : ℕ) (a b : List ℕ) → asc (x ∷ a) ≡ true → asc (y ∷ b) ≡ true → mem l (x ∷ a) ≡ true → mem l (y ∷ b) ≡ true
     → sub (y ∷ b) (x ∷ a) ≡ false → x < y → before (without (x ∷ a) (l ∷ [])) (without (y ∷ b) (l ∷ [])) ≡ true
-lower l x y a b p q m n s h = rw (without-there l x a (λ e. omega (arith, head-le y b l q n))) (go (stand y l) b refl)
+lower l x y a b p q m n s h = rw (without-there l x a (λ e. omega (arith, head-le y b l q n))) (go (compared y l) b refl)
   where
     go : Stand y l → (c : List ℕ) → b ≡ c → before (x ∷ without a (l ∷ [])) (without (y ∷ b) (l ∷ [])) ≡ true
     go (below t _ _) c e = rw (without-there l y b (λ e. omega arith)) (before-head x y _ _ h)
@@ -69,7 +69,7 @@ pub before-removed : (l : ℕ) (a b : List ℕ) → asc a ≡ true → asc b ≡
     → before (without a (l ∷ [])) (without b (l ∷ [])) ≡ before a b
 before-removed l [] b p q m n s t = clash m (unfold mem in refl)
 before-removed l (x ∷ a) [] p q m n s t = clash n (unfold mem in refl)
-before-removed l (x ∷ a) (y ∷ b) p q m n s t = go (stand x y) (before-removed l a b (tail-asc x a p) (tail-asc y b q))
+before-removed l (x ∷ a) (y ∷ b) p q m n s t = go (compared x y) (before-removed l a b (tail-asc x a p) (tail-asc y b q))
   where
     go : Stand x y → (mem l a ≡ true → mem l b ≡ true → sub a b ≡ false → sub b a ≡ false → before (without a (l ∷ [])) (without b (l ∷ [])) ≡ before a b)
         → before (without (x ∷ a) (l ∷ [])) (without (y ∷ b) (l ∷ [])) ≡ before (x ∷ a) (y ∷ b)

@@ -10,7 +10,7 @@ use lib.Bits.{bitOr}
 use borrow.Author.Tests.{ltb-true, ltb-false}
 use Rattle.sets.specs.Sets.{mem, firstFrom}
 use Rattle.sets.specs.Masks.{bit, side, test, literals}
-use Rattle.sets.proofs.Truth.{clash, or-left, or-right, decided, refuted, Stand, below, equal, beyond, stand}
+use Rattle.sets.proofs.Truth.{clash, or-left, or-right, decided, refuted, Stand, below, equal, beyond, compared}
 use Rattle.sets.proofs.Digits.{bit-or, bit-shr, bit-none, bit-high}
 use Rattle.sets.proofs.Literals.{literals-mem, mem-inside, mem-plain, mem-negated, mem-wide, literals-asc}
 use Rattle.sets.proofs.First.{first-none, first-some, some-first}
@@ -66,7 +66,7 @@ module _ (w p n v : ℕ) where
         let b′ : bit n (v + t) ≡ true = sym (bit-shr n v t) ∙ (rw z at (sym (bit-or (p / 2 ^ v) (n / 2 ^ v) t) ∙ b)) in
         let h : v + t < w = inside n hn b′ in
         sym (first-some (2 * v) (literals w p n) (2 * (v + t) + 1) (literals-asc w p n) (mem-negated w p n (v + t) h ∙ b′) (omega arith)
-        (λ k lo hi. go k lo hi h (stand k (2 * (v + t)))))
+        (λ k lo hi. go k lo hi h (compared k (2 * (v + t)))))
       where
         go : (k : ℕ) → 2 * v ≤ k → k < 2 * (v + t) + 1 → v + t < w → Stand k (2 * (v + t)) → mem k (literals w p n) ≡ false
         go k lo hi h (below r x y) = quiet t low k lo r

@@ -55,8 +55,8 @@ pub data Stand (a b : ℕ) : Type 0 where
   equal : a ≡ b → ltb a b ≡ false → eqb a b ≡ true → Stand a b
   beyond : b < a → ltb a b ≡ false → eqb a b ≡ false → Stand a b
 
-pub stand : (a b : ℕ) → Stand a b
-stand a b = go (decided (ltb a b)) (decided (eqb a b))
+pub compared : (a b : ℕ) → Stand a b
+compared a b = go (decided (ltb a b)) (decided (eqb a b))
   where
     go : (ltb a b ≡ true) ⊎ (ltb a b ≡ false) → (eqb a b ≡ true) ⊎ (eqb a b ≡ false) → Stand a b
     go (inl p) (inl q) = let h : a < b = ltb-true a b p in let e : a ≡ b = eqb-true a b q in absurd (omega arith)

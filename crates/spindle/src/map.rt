@@ -4,9 +4,9 @@ use crate::line;
 use crate::node;
 use crate::node::Name;
 use network::Network;
-use network::OUTPUTS;
-use network::VARIABLES;
-use network_map::CELLS;
+use network::MOST_OUTPUTS;
+use network::MOST_VARIABLES;
+use network_map::CELL_SLOTS;
 use std::num;
 
 // The columns of the names and of what they stand for.
@@ -183,14 +183,14 @@ fn put_item(at: usize, is_in: bool, letter: u8, i: usize) -> usize {
 }
 
 // Whether output j hangs on the variable v.
-fn hangs(cells: &[bool; CELLS], j: usize, v: usize) -> bool {
-    if j >= OUTPUTS {
+fn hangs(cells: &[bool; CELL_SLOTS], j: usize, v: usize) -> bool {
+    if j >= MOST_OUTPUTS {
         return false;
     }
-    if v >= VARIABLES {
+    if v >= MOST_VARIABLES {
         return false;
     }
-    cells[j * VARIABLES + v]
+    cells[j * MOST_VARIABLES + v]
 }
 
 // The list ends its line; an empty one says so.
@@ -203,14 +203,14 @@ fn end_list(at: usize) {
 }
 
 // Whether the node named hangs together with number i of the others.
-fn is_listed(cells: &[bool; CELLS], name: Name, i: usize) -> bool {
+fn is_listed(cells: &[bool; CELL_SLOTS], name: Name, i: usize) -> bool {
     if name.letter == b'y' {
         return hangs(cells, name.number, i);
     }
     hangs(cells, i, name.number)
 }
 
-fn put_list(cells: &[bool; CELLS], name: Name, letter: u8, most: usize) -> usize {
+fn put_list(cells: &[bool; CELL_SLOTS], name: Name, letter: u8, most: usize) -> usize {
     let mut at = 0;
     let mut i = 0;
     while i < most {
@@ -221,15 +221,15 @@ fn put_list(cells: &[bool; CELLS], name: Name, letter: u8, most: usize) -> usize
 }
 
 // The conditions that an orchard hangs on, or the orchards that hang on a condition.
-fn put_others(cells: &[bool; CELLS], name: Name) -> usize {
+fn put_others(cells: &[bool; CELL_SLOTS], name: Name) -> usize {
     if name.letter == b'y' {
-        return put_list(cells, name, b'x', VARIABLES);
+        return put_list(cells, name, b'x', MOST_VARIABLES);
     }
-    put_list(cells, name, b'y', OUTPUTS)
+    put_list(cells, name, b'y', MOST_OUTPUTS)
 }
 
 // The name and the text of node i, up to the last column, and its list.
-fn print_node(n: Network, i: usize, cells: &[bool; CELLS], wide: usize) {
+fn print_node(n: Network, i: usize, cells: &[bool; CELL_SLOTS], wide: usize) {
     let name = node::name_of(n, i);
     let at = put_name(name.letter, name.number);
     line::column(form::put_text(at, n, i), wide);
@@ -237,7 +237,7 @@ fn print_node(n: Network, i: usize, cells: &[bool; CELLS], wide: usize) {
 }
 
 // So many nodes from one on.
-fn print_nodes(n: Network, from: usize, count: usize, cells: &[bool; CELLS], wide: usize) {
+fn print_nodes(n: Network, from: usize, count: usize, cells: &[bool; CELL_SLOTS], wide: usize) {
     let mut i = 0;
     while i < count {
         print_node(n, num::wrapping_add_usize(from, i), cells, wide);

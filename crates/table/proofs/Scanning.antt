@@ -8,9 +8,9 @@ use native.Mathlib.Omega.{arith}
 use lib.ListN.{length, take, drop, length-drop, take-append-drop}
 use lib.Seq.{drop-drop}
 use borrow.Author.Tests.{le-leb, lt-leb}
-use Rattle.sets.proofs.Truth.{Stand, below, equal, beyond, stand}
+use Rattle.sets.proofs.Truth.{Stand, below, equal, beyond, compared}
 use Rattle.expression.specs.Words.{cubesOf}
-use Rattle.network.specs.Handed.{Blank}
+use Rattle.network.specs.Handed.{AllZero}
 use Rattle.table_lines.specs.Text.{lineOf, linesOf, content, contentSpan}
 use Rattle.table_lines.specs.declared.Span.{Span}
 use Rattle.table_kinds.specs.Kinds.{kindOf}
@@ -70,7 +70,7 @@ module _ (text : List ℕ) (at : ℕ) where
       }
 
   from-next : (e : ℕ) → e ≡ stop → at ≤ length text → linesFrom text at ≡ lineOf rest ∷ linesFrom text (e + 1)
-  from-next e q h = rw (le-leb at (length text) h) (go (stand e (length text)))
+  from-next e q h = rw (le-leb at (length text) h) (go (compared e (length text)))
     where
       go : Stand e (length text) → linesOf rest ≡ lineOf rest ∷ linesFrom text (e + 1)
       go (below l _ _) =
@@ -181,7 +181,7 @@ module _ (words marks : List ℕ) where
 
   -- a refusal is handed on
   scans-refused : (o : table.Outcome) (x : Scanned) (r : Table) → Scans o x words marks → (q : Refusal) → x .answer ≡ answer.Refused q
-      → (r .answer ≡ x .answer) × Blank (r .network) → Told o r
+      → (r .answer ≡ x .answer) × AllZero (r .network) → Told o r
   scans-refused (table.accepted t) x r h q e b = let a = h .0 in let z : _≡_ {A = ℕ} 0 1 = cc in absurd (omega arith)
   scans-refused (table.refused p) x r h q e b = (b .0 ∙ h, b .1)
 
@@ -190,5 +190,5 @@ module _ (words marks : List ℕ) where
     pub text-read : x .answer ≡ answer.Read → (t : table.State) × (readText text ≡ table.accepted t) × Stands t (x .state) words marks
     text-read e = let r = scans-read (readLines 1 (linesOf text) start) x h e in (r .0, text-lines text short ∙ r .1, r .2)
 
-    pub text-refused : (r : Table) (q : Refusal) → x .answer ≡ answer.Refused q → (r .answer ≡ x .answer) × Blank (r .network) → Told (readText text) r
+    pub text-refused : (r : Table) (q : Refusal) → x .answer ≡ answer.Refused q → (r .answer ≡ x .answer) × AllZero (r .network) → Told (readText text) r
     text-refused r q e b = rw (text-lines text short) (scans-refused (readLines 1 (linesOf text) start) x r h q e b)

@@ -11,7 +11,7 @@ ghost use Rattle.sets.specs.Masks.{bit};
 ghost use Rattle.cube.specs.Cube.{lits};
 ghost use Rattle.expression.specs.Words.{Appends};
 ghost use Rattle.network.specs.Held.{mostOutputs};
-ghost use Rattle.network.specs.Handed.{Holds, Blank};
+ghost use Rattle.network.specs.Handed.{Holds, AllZero};
 ghost use Rattle.table_lines.specs.Text.{linesOf};
 ghost use Rattle.table.specs.Table.{mostRows, start, readLines, readText, setWide, setTall, setStated, finish};
 ghost use Rattle.table.specs.Answers.{Told};
@@ -21,9 +21,9 @@ ghost use Rattle.table.specs.Parts.{pick, Room, formed, Buildable, netFr
 // The limits of a table.
 const MOST_BYTES: usize = 65536;
 
-const MOST_INPUTS: u32 = network::INPUTS as u32;
+const MOST_INPUTS: u32 = network::MOST_INPUTS as u32;
 
-const MOST_OUTPUTS: u32 = network::OUTPUTS as u32;
+const MOST_OUTPUTS: u32 = network::MOST_OUTPUTS as u32;
 
 const MOST_PRODUCTS: u32 = 32768;
 
@@ -301,8 +301,8 @@ fn build(inputs: usize, outputs: usize, words: &[u64], marks: &[u64], kept: usiz
     requires { ⌜ Buildable (now words) (now marks) kept outputs ⌝ }
     ensures { λ r. ⌜ Holds r (netFrom inputs outputs (now (words .entry)) (now (marks .entry)) kept) ⌝ }
 {
-    let mut counts = [0usize; network::NODES];
-    let mut out = [0u64; network::WORDS];
+    let mut counts = [0usize; network::NODE_SLOTS];
+    let mut out = [0u64; network::WORD_SLOTS];
     let mut at = 0;
     let mut j = 0;
     while j < outputs {
@@ -322,7 +322,7 @@ fn build(inputs: usize, outputs: usize, words: &[u64], marks: &[u64], kept: usiz
 
 // A refusal, with a network of zeros.
 fn refused(answer: Answer) -> Table
-    ensures { λ r. ⌜ (r .answer ≡ answer) × Blank (r .network) ⌝ }
+    ensures { λ r. ⌜ (r .answer ≡ answer) × AllZero (r .network) ⌝ }
 {
     Table {
         answer,

@@ -8,7 +8,7 @@ use lib.Dec.{ltb}
 use lib.ListN.{length, drop, getD, drop-of-length-le}
 use borrow.Author.Tests.{eq-eqb, ne-eqb, lt-ltb, le-ltb}
 use Rattle.sets.specs.Lists.{isNil}
-use Rattle.sets.proofs.Truth.{Stand, below, equal, beyond, stand}
+use Rattle.sets.proofs.Truth.{Stand, below, equal, beyond, compared}
 use Rattle.table_lines.specs.Text.{trimFront, trimEnd, lineOf, linesOf}
 use Rattle.table_lines.proofs.Lining.{line-le, lines-next, lines-last, line-after}
 use Rattle.table_rows.specs.Lines.{isPlace}
@@ -98,7 +98,7 @@ module _ (i : ℕ) where
   -- the first line, and those after it
   names-first : (t : List ℕ) → firstName i (linesOf t) ≡ firstName i (lineOf t ∷ linesOf (drop (suc (length (lineOf t))) t))
   unfolding firstName
-  names-first t = go (stand (length (lineOf t)) (length t))
+  names-first t = go (compared (length (lineOf t)) (length t))
     where
       go : Stand (length (lineOf t)) (length t) → firstName i (linesOf t) ≡ firstName i (lineOf t ∷ linesOf (drop (suc (length (lineOf t))) t))
       go (below h _ _) = ap (firstName i) (lines-next t h)

@@ -14,7 +14,7 @@ use borrow.Author.Tests.{eq-eqb, ne-eqb, le-leb, lt-leb, lt-ltb, leb-true, ltb-t
 use Rattle.sets.specs.Lists.{all}
 use Rattle.sets.specs.Sets.{insert}
 use Rattle.sets.specs.Masks.{packed}
-use Rattle.sets.proofs.Truth.{both, Stand, below, equal, beyond, stand}
+use Rattle.sets.proofs.Truth.{both, Stand, below, equal, beyond, compared}
 use Rattle.sets.proofs.Lists.{all-in, all-out, all-cong}
 use Rattle.cube.specs.Cube.{width, joined}
 use Rattle.table_lines.specs.Text.{startsBlank, trimFront}
@@ -31,7 +31,7 @@ use Rattle.sets.proofs.Packing.{packed-lt, packed-ones}
 pub insert-last : (l : ℕ) (c : List ℕ) → all (λ x. ltb x l) c ≡ true → insert l c ≡ c ++ (l ∷ [])
 unfolding insert
 insert-last l [] h = refl
-insert-last l (x ∷ c) h = go (stand l x) (insert-last l c ((both (ltb x l) (all (λ y. ltb y l) c) h) .1)) ((both (ltb x l) (all (λ y. ltb y l) c) h) .0)
+insert-last l (x ∷ c) h = go (compared l x) (insert-last l c ((both (ltb x l) (all (λ y. ltb y l) c) h) .1)) ((both (ltb x l) (all (λ y. ltb y l) c) h) .0)
   where
     go : Stand l x → insert l c ≡ c ++ (l ∷ []) → ltb x l ≡ true → cond (ltb l x) (l ∷ x ∷ c) (cond (eqb l x) (x ∷ c) (x ∷ insert l c)) ≡ x ∷ (c ++ (l ∷ []))
     go (below p q r) e k = absurd (omega (arith, ltb-true x l k))

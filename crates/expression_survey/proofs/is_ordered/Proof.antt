@@ -6,7 +6,7 @@ use mathlib.Core.List.{List}
 use native.Mathlib.Omega.{arith}
 use borrow.Author.Needs.{needs}
 use lib.ListN.{length}
-use Rattle.cube.proofs.Verdict.{is-before, told}
+use Rattle.cube.proofs.Verdict.{is-before, order-told}
 use Rattle.sets.proofs.Truth.{refuted}
 use Rattle.expression.specs.Words.{cubesOf}
 use Rattle.expression_survey.proofs.Neighbours.{Climbs, climbs-ordered, climbs-not, climbs-next}
@@ -40,7 +40,7 @@ loop-again c =
     let l = t .before .before .before .before .before in
     let e = t .before .before .cube-at .ensures in
     let g = t .before .cube-at2 .ensures in
-    let b = told _ _ .first (sym (t .compare .ensures) ∙ c .enum-told .given .1) in
+    let b = order-told _ _ .first (sym (t .compare .ensures) ∙ c .enum-told .given .1) in
     (omega arith, climbs-next (cubes l) (l .loop .i) (omega arith) (rw (← e, ← g) b) (l .loop .inv .1))
 
 returns-2 : tie.Need-returns-2 Inv-loop μ-loop

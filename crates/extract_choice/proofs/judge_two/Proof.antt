@@ -9,7 +9,7 @@ use borrow.Author.Tests.{not-true, not-false}
 use Rattle.sets.specs.Sets.{before}
 use Rattle.sets.proofs.Truth.{refuted}
 use Rattle.cube.specs.Cube.{lits}
-use Rattle.cube.proofs.Verdict.{is-before, told}
+use Rattle.cube.proofs.Verdict.{is-before, order-told}
 use Rattle.extract_choice.proofs.Sums.{Sides, no-left, no-right, sum-sides}
 use borrow.Author.Needs.{needs}
 use Rattle.extract_choice.proofs.judge_two.Statement.{statement}
@@ -29,7 +29,7 @@ right t = lits (parted t .without2 .result)
 
 -- what the comparison says of the parts
 in-order : (c : tie.After-enum-told) → before (left (c .before .before)) (right (c .before .before)) ≡ true
-in-order c = told _ _ .first (sym (c .before .before .compare .ensures) ∙ c .enum-told .given .1)
+in-order c = order-told _ _ .first (sym (c .before .before .compare .ensures) ∙ c .enum-told .given .1)
 
 turned : (c : tie.At-match-keys2) → before (left (c .before)) (right (c .before)) ≡ false
 turned c = refuted (λ b. elim (rw (c .before .compare .ensures ∙ sym (is-before _ _ b)) at (c .match .keys2)) [ inl w ↦ omega arith | inr w ↦ omega arith ])

@@ -13,7 +13,7 @@ use Rattle.extract_tidy.specs.Tidy.{arranged}
 use Rattle.extract_tidy.proofs.Arranged.{arranged-sized}
 use Rattle.extract_divisor.specs.Divisor.{divisorOf}
 use Rattle.extract_fit.specs.Fitness.{fitting}
-use Rattle.extract_step.specs.Replace.{outcome}
+use Rattle.extract_step.specs.Replace.{outcomeOf}
 use Rattle.extract_fit.proofs.Fitting.{fitting-more}
 use Rattle.extract_step.proofs.Answering.{arranged-source, arranged-variables, room-full}
 use borrow.Author.Needs.{needs}
@@ -47,14 +47,14 @@ tested c =
     ap (λ (v : ℕ). fitting v (divisorOf (s .args .d))) (arranged-variables (s .args .n) (shape s) (tidy e)) ∙ sym (c .is-fit .ensures)
 
 returns : tie.Need-returns
-unfolding outcome
+unfolding outcomeOf
 returns c = rw (sym (c .before .before .is-arranged .ensures) ∙ not-true _ (c .before .if1 .taken)) (c .refused .ensures)
 
 add-v : tie.Need-add-v
 add-v c = record { fits = omega (arith, few (c .before)) }
 
 returns-2 : tie.Need-returns-2
-unfolding outcome
+unfolding outcomeOf
 returns-2 c = let p = c .before .before in rw (tidy (p .before .before), tested p ∙ not-true _ (c .before .if2 .taken)) (c .refused2 .ensures)
 
 -- the divisor is fit
@@ -62,7 +62,7 @@ fits : (c : tie.Else2) → let a = start (tidied c) .args in fitting (variables 
 fits c = tested (c .before) ∙ not-false _ (c .if2 .left)
 
 returns-3 : tie.Need-returns-3
-unfolding outcome
+unfolding outcomeOf
 returns-3 c =
     let e = c .before .before in
     let t = tidied e in
@@ -82,7 +82,7 @@ made-requires c κs =
     }
 
 returns-4 : tie.Need-returns-4
-unfolding outcome
+unfolding outcomeOf
 returns-4 c = let e = room (c .before) .before in rw (tidy (tidied e), fits e) (c .made .ensures)
 
 pub step-spec : {M : Type 1} → statement M

@@ -6,7 +6,7 @@ use mathlib.Core.List.{List}
 use native.Mathlib.Omega.{arith}
 use lib.ListN.{length, getD}
 use Rattle.sets.specs.Sets.{mem}
-use Rattle.sets.proofs.Truth.{Stand, below, equal, beyond, stand}
+use Rattle.sets.proofs.Truth.{Stand, below, equal, beyond, compared}
 use Rattle.network.specs.Held.{mostOutputs, mostVariables}
 use Rattle.network.specs.declared.Network.{Network}
 use Rattle.network_reads.specs.Reading.{Marks}
@@ -23,7 +23,7 @@ Rows n l j = (k v : ℕ) → k < j → v < mostVariables → getD l (k * mostVar
 
 -- a row more
 next : (n : Network) (l m : List Bool) (j : ℕ) (set : List ℕ) → Marks set (rowOf n j) → RowSet l m j set → Rows n l j → Rows n m (j + 1)
-next n l m j set p r old k v h b = go (stand k j)
+next n l m j set p r old k v h b = go (compared k j)
   where
     go : Stand k j → getD m (k * mostVariables + v) false ≡ mem v (rowOf n k)
     go (below i _ _) = r .before (k * mostVariables + v) (omega arith) ∙ old k v i b

@@ -9,7 +9,7 @@ use lib.ListN.{length, getD}
 use lib.Seq.{getD-set-same, getD-set-other}
 use Rattle.sets.specs.Literal.{plainOf}
 use Rattle.sets.specs.Sets.{mem}
-use Rattle.sets.proofs.Truth.{Stand, below, equal, beyond, stand}
+use Rattle.sets.proofs.Truth.{Stand, below, equal, beyond, compared}
 use Rattle.cube.specs.Cube.{lits}
 use Rattle.network.specs.Held.{mostOutputs, mostVariables}
 use borrow.Author.Needs.{needs}
@@ -19,7 +19,7 @@ use Rattle.network_map.proofs.set_row.Tie as tie
 -- a cell more
 next : (l : List Bool) (a v : ℕ) (x : Bool) (p : ℕ → Bool) → a + v < length l → x ≡ p v
     → ((u : ℕ) → u < v → getD l (a + u) false ≡ p u) → (u : ℕ) → u < v + 1 → getD (list.set l (a + v) x) (a + u) false ≡ p u
-next l a v x p h e old u b = go (stand u v)
+next l a v x p h e old u b = go (compared u v)
   where
     go : Stand u v → getD (list.set l (a + v) x) (a + u) false ≡ p u
     go (below k _ _) = getD-set-other l (a + v) (a + u) x false (λ q. omega arith) ∙ old u k

@@ -4,7 +4,7 @@ use Rattle.network.specs.Handed.{Shaped}
 use Rattle.network.proofs.Handing.{shape-of}
 use Rattle.extract_laws.specs.Run.{askedSteps}
 use Rattle.extract.proofs.Telling.{ran-rules}
-use Rattle.report.proofs.Exploring.{never-refused, explored}
+use Rattle.report.proofs.Exploring.{never-refused, explored-run}
 use Rattle.report.proofs.explore.Statement.{statement}
 use Rattle.report.proofs.explore.Tie as tie
 
@@ -26,7 +26,7 @@ returns-2 c =
     let b = e .before in
     let r = b .before .before .before .before in
     let s = r .before in
-    explored _ (shape s) (s .pre) _ (r .run .ensures) _ _ _ (b .before .before .answer .given .1) (b .count-of .ensures) (e .count-of2 .ensures)
+    explored-run _ (shape s) (s .pre) _ (r .run .ensures) _ _ _ (b .before .before .answer .given .1) (b .count-of .ensures) (e .count-of2 .ensures)
 
 pub explore-spec : {M : Type 1} → statement M
 explore-spec =
