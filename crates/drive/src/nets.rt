@@ -5,6 +5,8 @@ use crate::wire::Told;
 use network::Network;
 use network::Number;
 use std::num;
+ghost use mathlib.Core.Path.{_≡_};
+ghost use Rattle.drive.specs.Wire.{numberTold};
 
 // ---- requests
 
@@ -86,7 +88,9 @@ pub fn put_handed(out: &mut [u8], t: Told, network: Network) -> usize {
 }
 
 // What a number is told as.
-pub fn number_told(x: Number) -> Told {
+pub fn number_told(x: Number) -> Told
+    ensures { λ r. ⌜ r ≡ numberTold x ⌝ }
+{
     match x {
         Number::Is(v) => wire::found(v),
         Number::No(k) => wire::refused(k, 0),

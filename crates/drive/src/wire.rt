@@ -1,6 +1,8 @@
 // An answer line put together.
 use letters::Wrote;
 use libc::STDOUT_FILENO;
+ghost use mathlib.Core.Path.{_≡_};
+ghost use Rattle.drive.specs.Wire.{foundOf, refusedOf, wroteOf};
 
 // One byte after n others. A room that is full is written out first, so that an answer may have any length.
 pub fn put(out: &mut [u8], n: usize, b: u8) -> usize {
@@ -100,7 +102,9 @@ pub struct Told {
     pub second: u64,
 }
 
-pub fn found(x: u64) -> Told {
+pub fn found(x: u64) -> Told
+    ensures { λ r. ⌜ r ≡ foundOf x ⌝ }
+{
     Told {
         ok: true,
         first: x,
@@ -110,7 +114,9 @@ pub fn found(x: u64) -> Told {
 }
 
 // Refused by number, at a line.
-pub fn refused(number: u32, line: u32) -> Told {
+pub fn refused(number: u32, line: u32) -> Told
+    ensures { λ r. ⌜ r ≡ refusedOf number line ⌝ }
+{
     Told {
         ok: false,
         first: number as u64,
@@ -120,7 +126,9 @@ pub fn refused(number: u32, line: u32) -> Told {
 }
 
 // How many bytes were written to a lent room, or what they were refused for.
-pub fn wrote(a: Wrote) -> Told {
+pub fn wrote(a: Wrote) -> Told
+    ensures { λ r. ⌜ r ≡ wroteOf a ⌝ }
+{
     match a {
         Wrote::Bytes(n) => found(n as u64),
         Wrote::Refused(k) => refused(k, 0),
