@@ -5,7 +5,7 @@ use mathlib.Core.List.{List}
 use mathlib.Core.Option.{Option}
 use lib.ListN.{length}
 use lib.Seq.{sets}
-use Rattle.letters.specs.Laid.{largest}
+use Rattle.sets.specs.Word.{largest}
 use Rattle.drive_request.specs.Reading.{valuesOf, countOf}
 use Rattle.drive_request.specs.declared.Count.{Count}
 use Rattle.drive_request.specs.declared.Count.the-variants.{Are, Nothing}
