@@ -50,7 +50,12 @@ pub fn read_net(text: &[u8]) -> Given {
 
 // ---- answers
 
-fn put_counts(out: &mut [u8], n: usize, counts: [usize; network::NODE_SLOTS], nodes: usize) -> usize {
+fn put_counts(
+    out: &mut [u8],
+    n: usize,
+    counts: [usize; network::NODE_SLOTS],
+    nodes: usize,
+) -> usize {
     let mut at = wire::put_text(out, n, b" ;");
     let mut i = 0;
     while i < network::NODE_SLOTS {

@@ -30,7 +30,8 @@ pub const CUBE_BITS: usize = LITERALS_WIDTH + LITERAL_WIDTH * network::MOST_VARI
 
 pub const NODE_BITS: usize = CUBES_WIDTH + network::MOST_CUBES * CUBE_BITS;
 
-pub const IMAGE_BITS: usize = HEAD_WIDTH + (network::MOST_OUTPUTS + network::MOST_VARIABLES - 1) * NODE_BITS;
+pub const IMAGE_BITS: usize = HEAD_WIDTH
+    + (network::MOST_OUTPUTS + network::MOST_VARIABLES - 1) * NODE_BITS;
 
 // The bytes of the longest such image, and one more by which a longer one is known.
 pub const ROOM: usize = (IMAGE_BITS + 7) / 8 + 1;

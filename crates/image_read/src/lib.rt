@@ -233,7 +233,13 @@ fn finish(
 }
 
 // The divisors are read: now the outputs, whose counts stand before theirs.
-fn rest(bytes: &[u8], z: Sizes, s: State, apart: &[u64], given: [usize; network::NODE_SLOTS]) -> Handed
+fn rest(
+    bytes: &[u8],
+    z: Sizes,
+    s: State,
+    apart: &[u64],
+    given: [usize; network::NODE_SLOTS],
+) -> Handed
     requires { ⌜ DivisorsRead (bitsIn (now bytes)) z s (now apart) given ⌝ }
     ensures { λ r. ⌜ Told (judgeRaw (nodesAt (bitsIn (now (bytes .entry))) z)) r ⌝ }
 {

@@ -1,9 +1,9 @@
 // Which output of a network hangs on which divisor: the dispatcher's map as a table of cells.
 use cube::Cube;
 use cube::Variable;
-use network::Network;
 use network::MOST_OUTPUTS;
 use network::MOST_VARIABLES;
+use network::Network;
 ghost use mathlib.Core.Path.{_≡_};
 ghost use Prim.Native.Nat.{_<_};
 ghost use Rattle.sets.specs.Literal.{plainOf};

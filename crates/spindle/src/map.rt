@@ -3,9 +3,9 @@ use crate::form;
 use crate::line;
 use crate::node;
 use crate::node::Name;
-use network::Network;
 use network::MOST_OUTPUTS;
 use network::MOST_VARIABLES;
+use network::Network;
 use network_map::CELL_SLOTS;
 use std::num;
 

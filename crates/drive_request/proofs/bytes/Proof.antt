@@ -28,12 +28,4 @@ returns-4 c = let p = c .before .before in let entry = p .before .before .before
 
 pub bytes-spec : {M : Type 1} → statement M
 bytes-spec =
-    tie.close
-    (tie.spec
-    returns
-    (λ c. search needs)
-    returns-2
-    returns-3
-    (λ c κs. search needs)
-    (λ c. search needs)
-    returns-4)
+    tie.close (tie.spec returns (λ c. search needs) returns-2 returns-3 (λ c κs. search needs) (λ c. search needs) returns-4)

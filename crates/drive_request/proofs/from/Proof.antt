@@ -16,13 +16,5 @@ returns-2 c = rest-past (c .before .before .args .text .now) (c .before .before 
 
 pub from-spec : {M : Type 1} → statement M
 from-spec =
-    tie.close
-    (tie.spec
-    (λ c. search needs)
-    (λ c. search needs)
-    (λ c. search needs)
-    returns
-    (λ c. search needs)
-    (λ c. search needs)
-    (λ c. search needs)
-    returns-2)
+    tie.close (tie.spec (λ c. search needs) (λ c. search needs) (λ c. search needs) returns (λ c. search needs) (λ c. search needs) (λ c. search
+    needs) returns-2)

@@ -64,20 +64,5 @@ returns-3 c = let s = c .before in
 
 pub number-spec : {M : Type 1} → statement M
 number-spec =
-    tie.close
-    (tie.spec
-    Inv-loop
-    μ-loop
-    (λ c κs. search needs)
-    returns
-    loop-holds
-    (λ c. search needs)
-    (λ c κs. search needs)
-    returns-2
-    (λ c. omega (arith, fits c))
-    (λ c. search needs)
-    (λ c. omega (arith, fits c))
-    (λ c. search needs)
-    (λ c. search needs)
-    loop-again
-    returns-3)
+    tie.close (tie.spec Inv-loop μ-loop (λ c κs. search needs) returns loop-holds (λ c. search needs) (λ c κs. search needs) returns-2 (λ c. omega
+    (arith, fits c)) (λ c. search needs) (λ c. omega (arith, fits c)) (λ c. search needs) (λ c. search needs) loop-again returns-3)

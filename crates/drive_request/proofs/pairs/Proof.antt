@@ -75,31 +75,7 @@ returns-5 c = let s = c .before in storing-done (storing-as (pairs-done (word s)
 
 pub pairs-spec : {M : Type 1} → statement M
 pairs-spec =
-    tie.close
-    (tie.spec
-    Inv-loop
-    μ-loop
-    loop-holds
-    (λ c. search needs)
-    (λ c. c .before .before .loop .inv .1 .size)
-    returns
-    (λ c. search needs)
-    (λ c κs. search needs)
-    (λ c. two (one (c .before)) .loop .inv .1 .size)
-    returns-2
-    (λ c. search needs)
-    (λ c. search needs)
-    (λ c κs. search needs)
-    (λ c. two (one (next (c .before) .before)) .loop .inv .1 .size)
-    returns-3
-    (λ c. due (c .before) .size)
-    returns-4
-    (λ c. search needs)
-    (λ c. search needs)
-    (λ c. search needs)
-    (λ c. search needs)
-    (λ c. search needs)
-    (λ c. search needs)
-    loop-again
-    (λ c. c .before .loop .inv .1 .size)
-    returns-5)
+    tie.close (tie.spec Inv-loop μ-loop loop-holds (λ c. search needs) (λ c. c .before .before .loop .inv .1 .size) returns (λ c. search needs) (λ c
+    κs. search needs) (λ c. two (one (c .before)) .loop .inv .1 .size) returns-2 (λ c. search needs) (λ c. search needs) (λ c κs. search needs) (λ c.
+    two (one (next (c .before) .before)) .loop .inv .1 .size) returns-3 (λ c. due (c .before) .size) returns-4 (λ c. search needs) (λ c. search needs)
+    (λ c. search needs) (λ c. search needs) (λ c. search needs) (λ c. search needs) loop-again (λ c. c .before .loop .inv .1 .size) returns-5)

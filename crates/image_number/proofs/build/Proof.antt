@@ -101,24 +101,11 @@ returns c =
 
 pub build-spec : {M : Type 1} → statement M
 build-spec =
-    tie.close
-    (tie.spec
-    Inv-loop
-    μ-loop
-    (λ c κs. numbers-in (c .before .before .before .pre))
-    loop-holds
-    (λ c. omega (arith, few c))
-    (λ c κs. source-ready (start (c .before) .pre) _ (omega arith))
-    (λ c. omega (arith, taken c, few (head c)))
-    shared-slice-read-size
-    (λ c κs. search needs)
-    (λ c. search needs)
-    (λ c. search needs)
-    put-node-requires
-    (λ c. omega (arith, few (head (chosen (put c)))))
-    (λ c. omega (arith, few (head (chosen (put c)))))
-    (λ c. omega (arith, roomy (put c), as-many (put c)))
-    (λ c. omega (arith, few (head (chosen (put c)))))
-    (λ c. search needs)
-    loop-again
+    tie.close (tie.spec Inv-loop μ-loop (λ c κs. numbers-in (c .before .before .before .pre)) loop-holds (λ c. omega (arith, few c)) (λ c κs.
+    source-ready (start (c .before) .pre) _ (omega arith)) (λ c. omega (arith, taken c, few (head c))) shared-slice-read-size (λ c κs. search needs)
+    (λ c. search needs) (λ c. search needs) put-node-requires (λ c. omega (arith, few (head (chosen (put c))))) (λ c. omega (
+      arith,
+      few (head (chosen
+          (put c))),
+    )) (λ c. omega (arith, roomy (put c), as-many (put c))) (λ c. omega (arith, few (head (chosen (put c))))) (λ c. search needs) loop-again
     returns)

@@ -14,14 +14,5 @@ returns-2 c = let n = c .before .before in let v = n .before .before .before in
 
 pub new-literal-spec : {M : Type 1} → statement M
 new-literal-spec =
-    tie.close
-    (tie.spec
-    (λ c κs. search needs)
-    (λ c. search needs)
-    (λ c. search needs)
-    (λ c. search needs)
-    (λ c κs. search needs)
-    (λ c κs. search needs)
-    returns
-    (λ c κs. search needs)
-    returns-2)
+    tie.close (tie.spec (λ c κs. search needs) (λ c. search needs) (λ c. search needs) (λ c. search needs) (λ c κs. search needs) (λ c κs. search
+    needs) returns (λ c κs. search needs) returns-2)

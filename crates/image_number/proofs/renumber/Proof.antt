@@ -44,17 +44,5 @@ returns-2 c =
 
 pub renumber-spec : {M : Type 1} → statement M
 renumber-spec =
-    tie.close
-    (tie.spec
-    (λ c κs. search needs)
-    (λ c. search needs)
-    (λ c. search needs)
-    (λ c κs. search needs)
-    returns
-    (λ c κs. search needs)
-    (λ c. search needs)
-    (λ c. search needs)
-    (λ c. search needs)
-    build-requires
-    (λ c κs. search needs)
-    returns-2)
+    tie.close (tie.spec (λ c κs. search needs) (λ c. search needs) (λ c. search needs) (λ c κs. search needs) returns (λ c κs. search needs) (λ c.
+    search needs) (λ c. search needs) (λ c. search needs) build-requires (λ c κs. search needs) returns-2)

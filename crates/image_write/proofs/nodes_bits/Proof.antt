@@ -39,15 +39,5 @@ returns c =
 
 pub nodes-bits-spec : {M : Type 1} → statement M
 nodes-bits-spec =
-    tie.close
-    (tie.spec
-    Inv-loop
-    μ-loop
-    (λ c. search needs)
-    (λ c κs. search needs)
-    node-bits-requires
-    (λ c. search needs)
-    (λ c. search needs)
-    (λ c. search needs)
-    loop-again
-    returns)
+    tie.close (tie.spec Inv-loop μ-loop (λ c. search needs) (λ c κs. search needs) node-bits-requires (λ c. search needs) (λ c. search needs) (λ c.
+    search needs) loop-again returns)

@@ -54,11 +54,4 @@ returns c = let u = c .before .before in outputs-due (u .before .before .before 
 
 pub put-all-spec : {M : Type 1} → statement M
 put-all-spec =
-    tie.close
-    (tie.spec
-    put-head-requires
-    (λ c. search needs)
-    put-nodes-requires
-    put-nodes-requires-2
-    (λ c. search needs)
-    returns)
+    tie.close (tie.spec put-head-requires (λ c. search needs) put-nodes-requires put-nodes-requires-2 (λ c. search needs) returns)

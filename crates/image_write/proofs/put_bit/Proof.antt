@@ -25,16 +25,5 @@ returns-2 c =
 
 pub put-bit-spec : {M : Type 1} → statement M
 put-bit-spec =
-    tie.close
-    (tie.spec
-    (λ c κs. search needs)
-    (λ c. search needs)
-    (λ c. search needs)
-    (λ c. search needs)
-    returns
-    (λ c. search needs)
-    add-o
-    (λ c. search needs)
-    (λ c. search needs)
-    (λ c. search needs)
-    returns-2)
+    tie.close (tie.spec (λ c κs. search needs) (λ c. search needs) (λ c. search needs) (λ c. search needs) returns (λ c. search needs) add-o (λ c.
+    search needs) (λ c. search needs) (λ c. search needs) returns-2)

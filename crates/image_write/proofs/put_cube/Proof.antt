@@ -82,23 +82,6 @@ loop-again c =
 
 pub put-cube-spec : {M : Type 1} → statement M
 put-cube-spec =
-    tie.close
-    (tie.spec
-    Inv-loop
-    μ-loop
-    (λ c κs. search needs)
-    (λ c. search needs)
-    put-field-requires
-    loop-holds
-    (λ c κs. search needs)
-    (λ c. search needs)
-    (λ c. search needs)
-    (λ c. search needs)
-    returns
-    (λ c. search needs)
-    put-field-requires-2
-    (λ c κs. search needs)
-    (λ c κs. search needs)
-    (λ c κs. search needs)
-    (λ c. omega (arith, ap length (others c)))
-    loop-again)
+    tie.close (tie.spec Inv-loop μ-loop (λ c κs. search needs) (λ c. search needs) put-field-requires loop-holds (λ c κs. search needs) (λ c. search
+    needs) (λ c. search needs) (λ c. search needs) returns (λ c. search needs) put-field-requires-2 (λ c κs. search needs) (λ c κs. search needs) (λ c
+    κs. search needs) (λ c. omega (arith, ap length (others c))) loop-again)

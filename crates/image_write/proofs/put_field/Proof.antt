@@ -42,15 +42,5 @@ returns c = going-done (going-as (c .before .loop .inv .1) (field-none _ _ (omeg
 
 pub put-field-spec : {M : Type 1} → statement M
 put-field-spec =
-    tie.close
-    (tie.spec
-    Inv-loop
-    μ-loop
-    loop-holds
-    (λ c. search needs)
-    (λ c. search needs)
-    put-bit-requires
-    (λ c. search needs)
-    loop-again
-    (λ c. search needs)
-    returns)
+    tie.close (tie.spec Inv-loop μ-loop loop-holds (λ c. search needs) (λ c. search needs) put-bit-requires (λ c. search needs) loop-again (λ c.
+    search needs) returns)

@@ -60,13 +60,5 @@ returns c = let p = c .before .before in divisors-due (p .before .before .before
 
 pub put-head-spec : {M : Type 1} → statement M
 put-head-spec =
-    tie.close
-    (tie.spec
-    put-field-requires
-    (λ c. search needs)
-    put-field-requires-2
-    (λ c. search needs)
-    put-field-requires-3
-    put-field-requires-4
-    (λ c. search needs)
-    returns)
+    tie.close (tie.spec put-field-requires (λ c. search needs) put-field-requires-2 (λ c. search needs) put-field-requires-3 put-field-requires-4 (λ
+    c. search needs) returns)

@@ -73,17 +73,5 @@ returns c =
 
 pub put-node-spec : {M : Type 1} → statement M
 put-node-spec =
-    tie.close
-    (tie.spec
-    Inv-loop
-    μ-loop
-    (λ c κs. search needs)
-    put-field-requires
-    loop-holds
-    (λ c κs. search needs)
-    put-cube-requires
-    (λ c. search needs)
-    (λ c. search needs)
-    loop-again
-    (λ c. search needs)
-    returns)
+    tie.close (tie.spec Inv-loop μ-loop (λ c κs. search needs) put-field-requires loop-holds (λ c κs. search needs) put-cube-requires (λ c. search
+    needs) (λ c. search needs) loop-again (λ c. search needs) returns)

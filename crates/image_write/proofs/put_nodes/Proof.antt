@@ -43,15 +43,5 @@ returns c = let h = c .before in going-done (going-as (h .loop .inv .1) (nodes-n
 
 pub put-nodes-spec : {M : Type 1} → statement M
 put-nodes-spec =
-    tie.close
-    (tie.spec
-    Inv-loop
-    μ-loop
-    loop-holds
-    (λ c κs. search needs)
-    put-node-requires
-    (λ c. search needs)
-    (λ c. search needs)
-    loop-again
-    (λ c. search needs)
-    returns)
+    tie.close (tie.spec Inv-loop μ-loop loop-holds (λ c κs. search needs) put-node-requires (λ c. search needs) (λ c. search needs) loop-again (λ c.
+    search needs) returns)

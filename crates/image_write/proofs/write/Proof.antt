@@ -49,21 +49,6 @@ returns-3 c =
 
 pub write-spec : {M : Type 1} → statement M
 write-spec =
-    tie.close
-    (tie.spec
-    (λ c κs. search needs)
-    (λ c. search needs)
-    (λ c. search needs)
-    returns
-    (λ c. search needs)
-    (λ c. search needs)
-    (λ c. omega (arith, there (renumbered-held (lent c)) .nodes))
-    nodes-bits-requires
-    (λ c. search needs)
-    (λ c. search needs)
-    returns-2
-    (λ c. search needs)
-    (λ c. search needs)
-    put-all-requires
-    (λ c. search needs)
-    returns-3)
+    tie.close (tie.spec (λ c κs. search needs) (λ c. search needs) (λ c. search needs) returns (λ c. search needs) (λ c. search needs) (λ c. omega
+    (arith, there (renumbered-held (lent c)) .nodes)) nodes-bits-requires (λ c. search needs) (λ c. search needs) returns-2 (λ c. search needs) (λ c.
+    search needs) put-all-requires (λ c. search needs) returns-3)

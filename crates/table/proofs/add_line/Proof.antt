@@ -38,17 +38,5 @@ returns-5 c =
 
 pub add-line-spec : {M : Type 1} → statement M
 add-line-spec =
-    tie.close
-    (tie.spec
-    returns
-    returns-2
-    (λ c κs. search needs)
-    (λ c. search needs)
-    (λ c. search needs)
-    returns-3
-    (λ c. search needs)
-    returns-4
-    (λ c κs. search needs)
-    (λ c. search needs)
-    (λ c. search needs)
-    returns-5)
+    tie.close (tie.spec returns returns-2 (λ c κs. search needs) (λ c. search needs) (λ c. search needs) returns-3 (λ c. search needs) returns-4 (λ c
+    κs. search needs) (λ c. search needs) (λ c. search needs) returns-5)

@@ -48,17 +48,8 @@ returns c = laid-outputs (start (c .before) .pre) _ (omega arith) (c .before .lo
 
 pub build-spec : {M : Type 1} → statement M
 build-spec =
-    tie.close
-    (tie.spec
-    Inv-loop
-    μ-loop
-    loop-holds
-    (λ c. search needs)
-    fill-output-requires
-    (λ c. omega (arith, c .before .fill-output .ensures .next))
-    (λ c. search needs)
-    (λ c. search needs)
-    (λ c. search needs)
-    (λ c. search needs)
-    loop-again
-    returns)
+    tie.close (tie.spec Inv-loop μ-loop loop-holds (λ c. search needs) fill-output-requires (λ c. omega (
+      arith,
+      c .before .fill-output .ensures
+          .next,
+    )) (λ c. search needs) (λ c. search needs) (λ c. search needs) (λ c. search needs) loop-again returns)

@@ -41,12 +41,5 @@ returns c =
 
 pub fill-output-spec : {M : Type 1} → statement M
 fill-output-spec =
-    tie.close
-    (tie.spec
-    (λ c κs. search needs)
-    (λ c κs. search needs)
-    add-to
-    (λ c κs. search needs)
-    (λ c κs. search needs)
-    (λ c. search needs)
+    tie.close (tie.spec (λ c κs. search needs) (λ c κs. search needs) add-to (λ c κs. search needs) (λ c κs. search needs) (λ c. search needs)
     returns)

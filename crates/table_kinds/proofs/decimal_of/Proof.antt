@@ -77,18 +77,5 @@ returns-3 c = let h = c .before in
 
 pub decimal-of-spec : {M : Type 1} → statement M
 decimal-of-spec =
-    tie.close
-    (tie.spec
-    Inv-loop
-    μ-loop
-    returns
-    loop-holds
-    (λ c. search needs)
-    returns-2
-    mul-n
-    (λ c κs. search needs)
-    add-n
-    (λ c. search needs)
-    (λ c. search needs)
-    loop-again
-    returns-3)
+    tie.close (tie.spec Inv-loop μ-loop returns loop-holds (λ c. search needs) returns-2 mul-n (λ c κs. search needs) add-n (λ c. search needs) (λ c.
+    search needs) loop-again returns-3)

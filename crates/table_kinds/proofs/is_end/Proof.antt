@@ -14,11 +14,4 @@ returns-2 c = let d = c .before .before in
 
 pub is-end-spec : {M : Type 1} → statement M
 is-end-spec =
-    tie.close
-    (tie.spec
-    (λ c. search needs)
-    (λ c κs. search needs)
-    returns
-    (λ c. search needs)
-    (λ c κs. search needs)
-    returns-2)
+    tie.close (tie.spec (λ c. search needs) (λ c κs. search needs) returns (λ c. search needs) (λ c κs. search needs) returns-2)

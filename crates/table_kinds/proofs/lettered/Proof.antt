@@ -37,12 +37,4 @@ returns-5 c = let d = c .before .before .before in
 
 pub lettered-spec : {M : Type 1} → statement M
 lettered-spec =
-    tie.close
-    (tie.spec
-    (λ c. search needs)
-    (λ c. search needs)
-    returns
-    returns-2
-    returns-3
-    returns-4
-    returns-5)
+    tie.close (tie.spec (λ c. search needs) (λ c. search needs) returns returns-2 returns-3 returns-4 returns-5)

@@ -23,15 +23,5 @@ returns-3 c = let d = c .before .before .before .before in
 
 pub named-of-spec : {M : Type 1} → statement M
 named-of-spec =
-    tie.close
-    (tie.spec
-    returns
-    (λ c. search needs)
-    returns-2
-    (λ c. search needs)
-    (λ c. search needs)
-    (λ c. search needs)
-    (λ c. search needs)
-    (λ c κs. search needs)
-    (λ c κs. search needs)
-    returns-3)
+    tie.close (tie.spec returns (λ c. search needs) returns-2 (λ c. search needs) (λ c. search needs) (λ c. search needs) (λ c. search needs) (λ c κs.
+    search needs) (λ c κs. search needs) returns-3)

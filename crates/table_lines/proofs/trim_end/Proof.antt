@@ -43,16 +43,5 @@ returns c = let h = c .before .before in
 
 pub trim-end-spec : {M : Type 1} → statement M
 trim-end-spec =
-    tie.close
-    (tie.spec
-    Inv-loop
-    μ-loop
-    loop-holds
-    (λ c. search needs)
-    (λ c. search needs)
-    (λ c κs. search needs)
-    (λ c. search needs)
-    (λ c. search needs)
-    loop-again
-    slice-aggregate-result
-    returns)
+    tie.close (tie.spec Inv-loop μ-loop loop-holds (λ c. search needs) (λ c. search needs) (λ c κs. search needs) (λ c. search needs) (λ c. search
+    needs) loop-again slice-aggregate-result returns)

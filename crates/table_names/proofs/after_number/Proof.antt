@@ -16,16 +16,5 @@ returns-2 c = rw (le-ltb _ _ (c .before .before .if1 .left)) (c .after3 .ensures
 
 pub after-number-spec : {M : Type 1} → statement M
 after-number-spec =
-    tie.close
-    (tie.spec
-    (λ c. search needs)
-    (λ c. search needs)
-    (λ c κs. search needs)
-    returns
-    (λ c. search needs)
-    (λ c. search needs)
-    (λ c κs. search needs)
-    (λ c. search needs)
-    (λ c. search needs)
-    (λ c κs. search needs)
-    returns-2)
+    tie.close (tie.spec (λ c. search needs) (λ c. search needs) (λ c κs. search needs) returns (λ c. search needs) (λ c. search needs) (λ c κs. search
+    needs) (λ c. search needs) (λ c. search needs) (λ c κs. search needs) returns-2)

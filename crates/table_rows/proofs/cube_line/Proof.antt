@@ -48,15 +48,6 @@ returns-3 c = let f = c .before .before .before in
 
 pub cube-line-spec : {M : Type 1} → statement M
 cube-line-spec =
-    tie.close
-    (tie.spec
-    (λ c κs. search needs)
-    returns
-    (λ c κs. bounds c .2)
-    returns-2
-    (λ c. let k = bounds (c .before .before) .2 in search needs)
-    (λ c. let k = bounds (c .before .before) .2 in search needs)
-    (λ c. search needs)
-    (λ c κs. search needs)
-    (λ c κs. bounds (c .before .before .before .before))
-    returns-3)
+    tie.close (tie.spec (λ c κs. search needs) returns (λ c κs. bounds c .2) returns-2 (λ c. let k = bounds (c .before .before) .2 in search needs) (λ
+    c. let k = bounds (c .before .before) .2 in search needs) (λ c. search needs) (λ c κs. search needs) (λ c κs. bounds (c .before .before .before
+    .before)) returns-3)

@@ -29,11 +29,4 @@ returns-2 c = rw (whole (c .before .before .before)) (c .counted .ensures ∙ ap
 
 pub marked-spec : {M : Type 1} → statement M
 marked-spec =
-    tie.close
-    (tie.spec
-    (λ c κs. search needs)
-    returns
-    cube-of-requires
-    marks-of-requires
-    (λ c κs. search needs)
-    returns-2)
+    tie.close (tie.spec (λ c κs. search needs) returns cube-of-requires marks-of-requires (λ c κs. search needs) returns-2)

@@ -58,17 +58,5 @@ returns c = let h = c .before in
 
 pub marks-of-spec : {M : Type 1} → statement M
 marks-of-spec =
-    tie.close
-    (tie.spec
-    Inv-loop
-    μ-loop
-    loop-holds
-    (λ c. search needs)
-    mul-mask
-    (λ c. search needs)
-    add-mask
-    (λ c. search needs)
-    loop-again
-    (λ c. search needs)
-    loop-again-2
-    returns)
+    tie.close (tie.spec Inv-loop μ-loop loop-holds (λ c. search needs) mul-mask (λ c. search needs) add-mask (λ c. search needs) loop-again (λ c.
+    search needs) loop-again-2 returns)
