@@ -1,20 +1,15 @@
 -- All rows of the table hold: the test is computed. Assumes nothing.
-use mathlib.Core.Path.{_≡_, refl}
-use mathlib.Core.Bool.{true}
-use Rattle.sets.specs.Lists.{all}
-use Rattle.sets.specs.Masks.{bit}
+use mathlib.Core.{Path._≡_, Path.refl, Bool.true}
+use Rattle.sets.{specs.Lists.all, specs.Masks.bit, proofs.Lists._∈_, proofs.Lists.all-out}
 use Rattle.sets.specs.Sets.{mem, sub, apart, insert, union, without, meet, same, before}
-use Rattle.sets.proofs.Lists.{_∈_, all-out}
 use Rattle.expression.specs.Expression.{has, place, sort, loose}
 use Rattle.division.specs.Division.{divides, quotient, product, remainder}
 use Rattle.cokernel.specs.Cokernels.{common, isCokernel, opens}
-use Rattle.factor.specs.Form.{most, formBy}
+use Rattle.factor.specs.{Form.most, Form.formBy, Text.sumText, Text.formText}
 use Rattle.letters.specs.Letters.{digits, decimal}
 use Rattle.letters_products.specs.Products.{literalText, cubeText}
-use Rattle.factor.specs.Text.{sumText, formText}
-use Rattle.network.specs.Net.{cubesAt}
+use Rattle.network.specs.{Net.cubesAt, Held.numbered}
 use Rattle.network.specs.Listing.{ready, nextReady, listMore, listing}
-use Rattle.network.specs.Held.{numbered}
 use Rattle.extract_laws.specs.Divisor.{small, useOf, swap, rewrite}
 use Rattle.extract_laws.specs.Extract.{allUses, basesLiterals, weight, pairsIn, smallerFirst, sumOf, sumsIn, candidates, sooner, better, bestOf, best, nextFree}
 use Rattle.extract_laws.specs.Run.{roomFor, choose, moveOf, prepare, runFrom, inOrder, run}
@@ -26,8 +21,7 @@ use Rattle.image_laws.specs.Reading.{allInOrder, judgeRaw, readImage}
 use Rattle.cases.specs.Tests.{alike, equalCubes, sameInteger, sameDivisor, turn, sameStop, equalNode, sameNet}
 use Rattle.cases.specs.Cases.{Case, begins, finishes, readAs, isRight, f₁, f₆, f₉, f₁₂, image₅, table}
 use Rattle.cases.specs.Meaning.{Says}
-use Rattle.cases.proofs.Opening.{opened, cokernels-opened}
-use Rattle.cases.proofs.Testing.{holds-says}
+use Rattle.cases.proofs.{Opening.opened, Opening.cokernels-opened, Testing.holds-says}
 
 -- the co-kernels come by the cheaper walk, all else as it is defined
 pub cases-hold : all isRight table ≡ true

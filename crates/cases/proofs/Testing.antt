@@ -7,24 +7,19 @@ use lib.Dec.{eqb}
 use lib.ListN.{length}
 use lib.IntN.{ℤ, pos, negsuc}
 use borrow.Author.Tests.{eqb-true}
-use Rattle.sets.specs.Sets.{same}
-use Rattle.sets.proofs.Truth.{both}
-use Rattle.sets.proofs.Sets.{same-eq}
+use Rattle.sets.{specs.Sets.same, proofs.Truth.both, proofs.Sets.same-eq}
 use Rattle.division.specs.Division.{quotient}
 use Rattle.cokernel.specs.Cokernels.{cokernels}
-use Rattle.factor.specs.Form.{formOf}
-use Rattle.factor.specs.Text.{formText}
+use Rattle.factor.specs.{Form.formOf, Text.formText}
 use Rattle.network.specs.Net.{Node, Net, literalCount, cubesAt}
 use Rattle.extract_laws.specs.Divisor.{Divisor, pair, sum, own}
 use Rattle.extract_laws.specs.Extract.{weight}
 use Rattle.extract_laws.specs.Run.{Stop, done, asked, numbers, rows, Made, Result, run, askedSteps}
-use Rattle.image_laws.specs.Image.{imageOf}
+use Rattle.image_laws.specs.{Image.imageOf, Reading.readImage}
 use Rattle.network.specs.Handed.{Return, gives, refuses}
-use Rattle.image_laws.specs.Reading.{readImage}
 use Rattle.cases.specs.Tests.{alike, equalCubes, sameInteger, sameDivisor, turn, sameStop, equalNode, sameNet}
 use Rattle.cases.specs.Cases.{Case, hasCokernels, divides, hasText, counts, weighs, takes, ends, hasImage, readsBack, begins, finishes}
-use Rattle.cases.specs.Cases.{readAs, isRight}
-use Rattle.cases.specs.Meaning.{Says}
+use Rattle.cases.specs.{Cases.readAs, Cases.isRight, Meaning.Says}
 
 -- ---- the tests
 

@@ -8,15 +8,13 @@ use lib.IntN.{ℤ, pos}
 use Rattle.sets.specs.Sets.{same}
 use Rattle.division.specs.Division.{quotient, remainder}
 use Rattle.cokernel.specs.Cokernels.{cokernels}
-use Rattle.factor.specs.Form.{formOf}
-use Rattle.factor.specs.Text.{formText}
+use Rattle.factor.specs.{Form.formOf, Text.formText}
 use Rattle.network.specs.Net.{Net, literalCount, cubesAt}
 use Rattle.extract_laws.specs.Divisor.{Divisor, sum, own}
 use Rattle.extract_laws.specs.Extract.{weight}
 use Rattle.extract_laws.specs.Run.{Stop, done, Made, Result, run, askedSteps}
-use Rattle.image_laws.specs.Image.{imageOf}
+use Rattle.image_laws.specs.{Image.imageOf, Reading.readImage}
 use Rattle.network.specs.Handed.{Return, gives, refuses}
-use Rattle.image_laws.specs.Reading.{readImage}
 use Rattle.cases.specs.Tests.{alike, equalCubes, sameInteger, sameDivisor, sameStop, sameNet}
 
 pub data Case : Type 0 where

@@ -4,15 +4,11 @@ use mathlib.Core.List.{[], _∷_, map}
 use lib.ListN.{length}
 use Rattle.division.specs.Division.{quotient, remainder}
 use Rattle.cokernel.specs.Cokernels.{cokernels}
-use Rattle.factor.specs.Form.{formOf}
-use Rattle.factor.specs.Text.{formText}
-use Rattle.network.specs.Net.{literalCount, cubesAt}
-use Rattle.extract_laws.specs.Divisor.{own}
-use Rattle.extract_laws.specs.Extract.{weight}
+use Rattle.factor.specs.{Form.formOf, Text.formText}
+use Rattle.network.specs.{Net.literalCount, Net.cubesAt, Handed.gives}
+use Rattle.extract_laws.specs.{Divisor.own, Extract.weight}
 use Rattle.extract_laws.specs.Run.{Made, run, askedSteps}
-use Rattle.image_laws.specs.Image.{imageOf}
-use Rattle.network.specs.Handed.{gives}
-use Rattle.image_laws.specs.Reading.{readImage}
+use Rattle.image_laws.specs.{Image.imageOf, Reading.readImage}
 use Rattle.cases.specs.Cases.{Case, hasCokernels, divides, hasText, counts, weighs, takes, ends, hasImage, readsBack}
 
 abbrev pub Says : Case → Type 0

@@ -10,14 +10,11 @@ use lib.Dec.{ltb}
 use lib.ListN.{length}
 use borrow.Author.Tests.{ltb-true, ltb-false}
 use Rattle.sets.specs.Sets.{mem, sub, asc, insert, before}
-use Rattle.sets.proofs.Truth.{clash, decided}
+use Rattle.sets.proofs.{Truth.clash, Truth.decided, Orders.before-order, Orders.ext-in}
 use Rattle.sets.proofs.Lists.{_∈_, all-in, all-out, keep-all, keep-length}
-use Rattle.sets.proofs.Orders.{before-order, ext-in}
 use Rattle.sets.proofs.Sets.{sub-in, sub-out, ext}
 use Rattle.cube.specs.Cube.{width}
-use Rattle.expression.specs.Words.{cubesOf}
-use Rattle.expression.specs.Expression.{Cubes, ordered}
-use Rattle.expression.proofs.Words.{cubes-asc, cubes-inside}
+use Rattle.expression.{specs.Words.cubesOf, specs.Expression.Cubes, specs.Expression.ordered, proofs.Words.cubes-asc, proofs.Words.cubes-inside}
 use Rattle.cokernel.specs.Cokernels.{above, common, isCokernel, opens, beyond, cokernels}
 use Rattle.cokernel.specs.Meaning.{Held, Prefix, Alive, branchCubes}
 use Rattle.cokernel.proofs.Closing.{above-asc, common-more, common-above, cokernel-out, cokernel-iff, common-cokernel}

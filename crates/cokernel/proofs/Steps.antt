@@ -1,32 +1,27 @@
 -- The steps of the search: closing a cube in one pass, opening a branch, going on to the next literal. Assumes nothing.
 use Prim.Native.Nat.{ℕ, suc, zero-le, _+_, _-_, _*_, _<_, _≤_, min}
 use mathlib.Core.Path.{_≡_, refl, sym, _∙_, subst}
-use mathlib.Core.Logic.{inl, inr}
+use mathlib.Core.{Logic.inl, Logic.inr, Option.none, Option.some}
 use mathlib.Core.Bool.{Bool, true, false, cond, not, _&&_}
 use mathlib.Core.List.{List, [], _∷_, _++_, append-nil}
-use mathlib.Core.Option.{none, some}
 use native.Mathlib.Numerals.{add-one}
 use native.Mathlib.Omega.{arith}
 use lib.Dec.{leb, ltb, eqb}
 use lib.ListN.{length, getD, drop, drop-of-length-le, length-append}
 use borrow.Author.Tests.{leb-true, le-leb, lt-ltb, ltb-true, ltb-false, ne-eqb, not-true}
-use Rattle.sets.specs.Lists.{all}
+use Rattle.sets.{specs.Lists.all, proofs.Places.drop-next, proofs.Rows.nil-of}
 use Rattle.sets.specs.Sets.{mem, sub, asc, insert, without, meet, same, firstFrom}
 use Rattle.sets.proofs.Truth.{iff, both, together, decided, clash}
 use Rattle.sets.proofs.First.{none-first, some-first, IsFirst}
-use Rattle.sets.proofs.Places.{drop-next}
 use Rattle.sets.proofs.Sets.{without-mem, all-mem, mem-all, sub-out}
 use Rattle.cube.specs.Cube.{width, joined}
-use Rattle.sets.proofs.Rows.{nil-of}
-use Rattle.expression.specs.Words.{Placed}
+use Rattle.expression.specs.{Words.Placed, Expression.Cubes}
 use Rattle.expression.proofs.Placing.{placed-none, placed-then, placed-length}
 use Rattle.cokernel.specs.Cokernels.{above, common, isCokernel, opens, beyond}
 use Rattle.cokernel.specs.Parts.{only, Shared, Branched, Walks, Walked}
-use Rattle.expression.specs.Expression.{Cubes}
 use Rattle.cokernel.specs.Meaning.{Held, Prefix, SameBelow}
-use Rattle.cokernel.proofs.Closing.{above-asc, common-above}
+use Rattle.cokernel.proofs.{Closing.above-asc, Closing.common-above, Exactly.beyond-none}
 use Rattle.cokernel.proofs.Walking.{prefix-on, prefix-with, prefix-past, opens-out, opens-in}
-use Rattle.cokernel.proofs.Exactly.{beyond-none}
 
 -- ---- closing a cube, from the last cube to the first
 

@@ -9,14 +9,10 @@ use lib.ListN.{length}
 use borrow.Author.Tests.{lt-ltb, le-ltb}
 use Rattle.sets.specs.Sets.{same}
 use Rattle.cube.specs.Cube.{width}
-use Rattle.expression.specs.Words.{cubesOf, Written}
-use Rattle.expression.specs.Answers.{refusal}
-use Rattle.expression.proofs.Words.{fit, written-one}
-use Rattle.cokernel.specs.Cokernels.{beyond, cokernels}
-use Rattle.cokernel.specs.Answers.{refusedBy, Told}
+use Rattle.expression.{specs.Words.cubesOf, specs.Words.Written, specs.Answers.refusal, proofs.Words.fit, proofs.Words.written-one}
+use Rattle.cokernel.specs.{Cokernels.beyond, Cokernels.cokernels, Answers.refusedBy, Answers.Told}
 use Rattle.cokernel.specs.Parts.{only, Shared, Walks, Walked}
-use Rattle.cokernel.specs.declared.Listed.{Listed}
-use Rattle.cokernel.specs.declared.Listed.the-variants.{All, Refused}
+use Rattle.cokernel.specs.declared.{Listed.Listed, Listed.the-variants.All, Listed.the-variants.Refused}
 use Rattle.expression.specs.Expression.{Cubes}
 use Rattle.cokernel.proofs.Walking.{prefix-none}
 use Rattle.cokernel.proofs.Steps.{cokernel-test, walked-then, walked-only}

@@ -1,16 +1,11 @@
 -- What the search for co-kernels answers, for every expression and room.
 use Prim.Native.Nat.{ℕ}
-use mathlib.Core.Path.{_≡_}
-use mathlib.Core.Bool.{cond}
-use mathlib.Core.List.{List}
+use mathlib.Core.{Path._≡_, Bool.cond, List.List}
 use mathlib.Core.Option.{Option, none, some}
 use lib.Dec.{ltb}
 use lib.ListN.{length}
-use Rattle.expression.specs.Words.{cubesOf, Written}
-use Rattle.expression.specs.Answers.{refusal}
-use Rattle.cokernel.specs.Cokernels.{cokernels}
-use Rattle.cokernel.specs.declared.Listed.{Listed}
-use Rattle.cokernel.specs.declared.Listed.the-variants.{All, Refused}
+use Rattle.expression.specs.{Words.cubesOf, Words.Written, Answers.refusal}
+use Rattle.cokernel.specs.{Cokernels.cokernels, declared.Listed.Listed, declared.Listed.the-variants.All, declared.Listed.the-variants.Refused}
 
 -- 6, 7; 9 exactly when there are more co-kernels than places
 unfoldable pub refusedBy : List ℕ → List ℕ → Option ℕ

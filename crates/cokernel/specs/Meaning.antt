@@ -1,7 +1,6 @@
 -- What the laws of co-kernels speak of: the cubes searched, where the walk stands, and what a branch lists.
 use Prim.Native.Nat.{ℕ, _<_, _≤_}
-use mathlib.Core.Path.{_≡_}
-use mathlib.Core.Bool.{true, cond}
+use mathlib.Core.{Path._≡_, Bool.true, Bool.cond}
 use mathlib.Core.List.{List, [], _∷_, _++_, List·Memᴰ}
 use lib.ListN.{length}
 use Rattle.sets.specs.Sets.{mem, asc}

@@ -1,19 +1,15 @@
 -- The literals of a cube: they ascend, each is of a variable that a cube has a place for, and they are all that a cube holds. Assumes nothing.
 use Prim.Native.Nat.{ℕ, _*_, _^_, _<_, _≤_}
-use mathlib.Core.Path.{_≡_}
-use mathlib.Core.Bool.{true}
-use mathlib.Core.Option.{some}
+use mathlib.Core.{Path._≡_, Bool.true, Option.some}
 use lib.Dec.{ltb}
 use lib.ListN.{length}
 use borrow.Author.Tests.{ltb-true}
 use Rattle.sets.specs.Sets.{mem, asc, firstFrom}
-use Rattle.sets.proofs.Truth.{both}
-use Rattle.sets.proofs.Sets.{ext}
+use Rattle.sets.proofs.{Truth.both, Sets.ext}
 use Rattle.sets.proofs.Literals.{literals-asc, literals-at-most, mem-inside, plain-injective, negated-injective}
 use Rattle.sets.proofs.Scan as scan
-use Rattle.cube.specs.Cube.{width, lits}
+use Rattle.cube.specs.{Cube.width, Cube.lits, declared.Cube.Cube}
 pub use Rattle.cube.specs.Cube.{fitCube}
-use Rattle.cube.specs.declared.Cube.{Cube}
 
 module _ (c : Cube) where
   pub lits-asc : asc (lits c) ≡ true

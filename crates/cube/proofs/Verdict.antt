@@ -6,8 +6,7 @@ use Prim.Native.Nat.{ℕ}
 use native.Mathlib.Omega.{arith}
 use Rattle.sets.specs.Sets.{before}
 use Rattle.sets.proofs.Ordering.{before-irrefl, before-asym, before-linear}
-use Rattle.cube.specs.Cube.{orderOf}
-use Rattle.cube.specs.declared.Order.{Order}
+use Rattle.cube.specs.{Cube.orderOf, declared.Order.Order}
 use Rattle.cube.specs.declared.Order.the-variants.{Before, Same, After}
 
 pub is-before : (a b : List ℕ) → before a b ≡ true → Before ≡ orderOf a b

@@ -4,11 +4,8 @@ use mathlib.Core.List.{List}
 use mathlib.Core.Bool.{Bool, cond, _&&_}
 use mathlib.Core.Option.{Option, none, some}
 use lib.Dec.{ltb}
-use Rattle.sets.specs.Sets.{insert, before}
-use Rattle.sets.specs.Masks.{literals}
-use Rattle.cube.specs.declared.Cube.{Cube}
-use Rattle.cube.specs.declared.Found.{Found}
-use Rattle.cube.specs.declared.Found.the-variants.{At, Nothing}
+use Rattle.sets.specs.{Sets.insert, Sets.before, Masks.literals}
+use Rattle.cube.specs.declared.{Cube.Cube, Found.Found, Found.the-variants.At, Found.the-variants.Nothing}
 use Rattle.cube.specs.declared.Order.{Order}
 use Rattle.cube.specs.declared.Order.the-variants.{Before, Same, After}
 

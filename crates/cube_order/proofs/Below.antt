@@ -1,17 +1,14 @@
 -- Literals of variables below a number, by the first one that is not. Assumes nothing.
 use Prim.Native.Nat.{ℕ, _*_, _/_, _<_}
 use mathlib.Core.Path.{_≡_, refl, sym}
-use mathlib.Core.Bool.{true, not}
-use mathlib.Core.List.{List}
+use mathlib.Core.{Bool.true, Bool.not, List.List}
 use mathlib.Core.Option.{Option, none, some}
 use native.Mathlib.Omega.{arith}
 use lib.Dec.{ltb}
 use borrow.Author.Tests.{ltb-true, lt-ltb}
-use Rattle.sets.specs.Lists.{isSome}
+use Rattle.sets.{specs.Lists.isSome, proofs.Sets.all-mem, proofs.Sets.mem-all, proofs.First.none-first, proofs.First.some-first}
 use Rattle.sets.specs.Sets.{mem, asc, readsBelow, firstFrom}
 use Rattle.sets.proofs.Truth.{clash, refuted, Stand, below, equal, beyond, compared}
-use Rattle.sets.proofs.Sets.{all-mem, mem-all}
-use Rattle.sets.proofs.First.{none-first, some-first}
 
 module _ (v : ℕ) (a : List ℕ) where
   pub all-below : ((x : ℕ) → mem x a ≡ true → x < 2 * v) → true ≡ readsBelow v a

@@ -6,11 +6,10 @@ use mathlib.Core.List.{List, [], _∷_}
 use native.Mathlib.Omega.{arith}
 use lib.ListN.{length, length-map}
 use borrow.Author.Tests.{not-true}
-use Rattle.sets.specs.Lists.{keep}
+use Rattle.sets.{specs.Lists.keep, proofs.Orders.before-order, proofs.Orders.ext-in}
 use Rattle.sets.specs.Sets.{sub, asc, without, before}
 use Rattle.sets.proofs.Truth.{iff, both, together, clash, refuted}
 use Rattle.sets.proofs.Lists.{all-in, all-out, keep-in, keep-out, keep-length, pairwise-keep}
-use Rattle.sets.proofs.Orders.{before-order, ext-in}
 use Rattle.sets.proofs.Sets.{rejoin, unjoin, union-right}
 use Rattle.expression.specs.Expression.{expression, has, sort}
 use Rattle.expression.proofs.Members.{has-in, has-out}

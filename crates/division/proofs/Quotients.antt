@@ -13,9 +13,8 @@ use Rattle.sets.proofs.Truth.{both, together, either, clash, refuted}
 use Rattle.sets.proofs.Lists.{_∈_, any-in, any-out, all-in, all-out, keep-in, keep-out, map-in, map-out, pairwise-keep, pairwise-map}
 use Rattle.sets.proofs.Sets.{sub-in, sub-out, union-mem, without-asc, without-sub, rejoin, unjoin, union-right, same-eq, eq-same, proper-sub}
 use Rattle.expression.specs.Expression.{isCube, loose, expression, has, ordered}
-use Rattle.expression.proofs.Members.{has-in, has-out}
+use Rattle.expression.proofs.{Members.has-in, Members.has-out, Absorbing.loose-in, Absorbing.loose-out}
 use Rattle.expression.proofs.Sorting.{sort-in, sort-out, expression-sort}
-use Rattle.expression.proofs.Absorbing.{loose-in, loose-out}
 use Rattle.division.specs.Division.{inQuotient, leftOver, quotient, product, remainder}
 
 -- ---- expressions

@@ -8,19 +8,14 @@ use native.Mathlib.Omega.{arith}
 use lib.Dec.{ltb}
 use lib.ListN.{length}
 use borrow.Author.Tests.{lt-ltb, le-ltb}
-use Rattle.sets.specs.Lists.{isNil, orElse}
-use Rattle.sets.proofs.Truth.{or-right}
-use Rattle.sets.proofs.First.{some-not-none}
+use Rattle.sets.{specs.Lists.isNil, specs.Lists.orElse, proofs.Truth.or-right, proofs.First.some-not-none}
 use Rattle.sets.proofs.Rows.{nil-of, nil-some, some-nil}
-use Rattle.expression.specs.Words.{cubesOf, Written}
-use Rattle.expression.specs.Answers.{refusal, refusalOf}
-use Rattle.expression.specs.declared.Verdict.{Verdict}
-use Rattle.expression.specs.declared.Verdict.the-variants.{Accepted, Refused}
+use Rattle.expression.specs.{Words.cubesOf, Words.Written, Answers.refusal, Answers.refusalOf}
+use Rattle.expression.specs.declared.{Verdict.Verdict, Verdict.the-variants.Accepted, Verdict.the-variants.Refused}
 use Rattle.expression_accept.proofs.Accepting as accept
-use Rattle.division.specs.Division.{quotient, remainder}
+use Rattle.division.specs.{Division.quotient, Division.remainder, declared.Division.Division}
 use Rattle.division.specs.Answers.{either, roomed, refusedBy, Told}
 use Rattle.division.specs.Parts.{noCubes, admitted, cramped, Handed}
-use Rattle.division.specs.declared.Division.{Division}
 use Rattle.division.specs.declared.Division.the-variants.{Done, Refused as Turned}
 
 -- ---- the smaller of two refusals

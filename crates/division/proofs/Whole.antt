@@ -1,20 +1,15 @@
 -- What the steps of a division leave: the dividend in cube order, the quotient and the remainder, each in a room of its own. Assumes nothing.
 use Prim.Native.Nat.{ℕ, _*_, _≤_}
 use mathlib.Core.Path.{_≡_, sym, _∙_, ap, subst}
-use mathlib.Core.Bool.{true}
-use mathlib.Core.List.{List}
+use mathlib.Core.{Bool.true, List.List}
 use lib.ListN.{length, replicate, length-replicate}
 use Rattle.sets.specs.Lists.{keep}
 use Rattle.expression.specs.Words.{cubeWords, cubesOf, Appends}
-use Rattle.expression.specs.Expression.{sort, ordered}
-use Rattle.expression.specs.Answers.{mostHanded}
-use Rattle.expression.proofs.Words.{room-cubes}
-use Rattle.expression.proofs.Placing.{appends-as}
-use Rattle.expression.proofs.Sorting.{sort-length, expression-sort}
+use Rattle.expression.{specs.Expression.sort, specs.Expression.ordered, specs.Answers.mostHanded, proofs.Words.room-cubes}
+use Rattle.expression.proofs.{Placing.appends-as, Sorting.sort-length, Sorting.expression-sort}
 use Rattle.division.specs.Division.{quotient, remainder}
 use Rattle.division.specs.Parts.{OrderedRoom, unsortedQuotient, spared, sparedOf}
-use Rattle.division.proofs.Quotients.{quotient-form}
-use Rattle.division.proofs.Making.{made-quotient, made-remainder}
+use Rattle.division.proofs.{Quotients.quotient-form, Making.made-quotient, Making.made-remainder}
 use Rattle.division.proofs.Refusing.{Admissible}
 
 -- a room for an expression handed in

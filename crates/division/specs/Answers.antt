@@ -1,16 +1,12 @@
 -- What a division answers, for every two expressions and rooms.
 use Prim.Native.Nat.{ℕ}
-use mathlib.Core.Path.{_≡_}
-use mathlib.Core.Bool.{cond, _||_}
-use mathlib.Core.List.{List}
+use mathlib.Core.{Path._≡_, Bool.cond, Bool._||_, List.List}
 use mathlib.Core.Option.{Option, none, some}
 use lib.Dec.{ltb}
 use lib.ListN.{length}
 use Rattle.sets.specs.Lists.{isNil}
-use Rattle.expression.specs.Words.{cubesOf, Written}
-use Rattle.expression.specs.Answers.{refusal}
-use Rattle.division.specs.Division.{quotient, remainder}
-use Rattle.division.specs.declared.Division.{Division}
+use Rattle.expression.specs.{Words.cubesOf, Words.Written, Answers.refusal}
+use Rattle.division.specs.{Division.quotient, Division.remainder, declared.Division.Division}
 use Rattle.division.specs.declared.Division.the-variants.{Done, Refused}
 
 -- the refusal of either expression, the smaller number first

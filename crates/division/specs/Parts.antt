@@ -1,19 +1,14 @@
 -- What the parts of a division promise each other.
 use Prim.Native.Nat.{ℕ, _≤_}
-use mathlib.Core.Path.{_≡_}
+use mathlib.Core.{Path._≡_, List.List, List.[]}
 use mathlib.Core.Bool.{Bool, true, false, cond, not, _&&_, _||_}
-use mathlib.Core.List.{List, []}
 use mathlib.Core.Option.{Option, none, some}
 use lib.Dec.{ltb}
 use lib.ListN.{length, getD}
 use Rattle.sets.specs.Lists.{all, keep, isNil, orElse}
 use Rattle.sets.specs.Sets.{sub, without}
-use Rattle.expression.specs.Words.{cubesOf, Written}
-use Rattle.expression.specs.Expression.{has, ordered}
-use Rattle.expression.specs.Answers.{refusal}
-use Rattle.division.specs.Division.{inQuotient, leftOver}
-use Rattle.division.specs.Answers.{either}
-use Rattle.division.specs.declared.Division.{Division}
+use Rattle.expression.specs.{Words.cubesOf, Words.Written, Expression.has, Expression.ordered, Answers.refusal}
+use Rattle.division.specs.{Division.inQuotient, Division.leftOver, Answers.either, declared.Division.Division}
 use Rattle.division.specs.declared.Division.the-variants.{Done, Refused}
 
 -- 8 for a divisor with no cubes

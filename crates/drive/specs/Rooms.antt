@@ -1,13 +1,10 @@
 -- The lengths of the rooms, and what is read into them.
 use Prim.Native.Nat.{ℕ}
-use mathlib.Core.Path.{_≡_}
-use mathlib.Core.List.{List}
-use mathlib.Core.Option.{Option}
+use mathlib.Core.{Path._≡_, List.List, Option.Option}
 use lib.ListN.{length}
 use lib.Seq.{sets}
 use Rattle.sets.specs.Word.{largest}
-use Rattle.drive_request.specs.Reading.{valuesOf, countOf}
-use Rattle.drive_request.specs.declared.Count.{Count}
+use Rattle.drive_request.specs.{Reading.valuesOf, Reading.countOf, declared.Count.Count}
 use Rattle.drive_request.specs.declared.Count.the-variants.{Are, Nothing}
 
 -- the most bytes of a line

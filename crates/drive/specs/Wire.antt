@@ -1,10 +1,8 @@
 -- What came of a request, as it is told.
 use Prim.Native.Nat.{ℕ}
 use mathlib.Core.Bool.{true, false}
-use Rattle.letters.specs.declared.Wrote.{Wrote}
-use Rattle.letters.specs.declared.Wrote.the-variants.{Bytes, Refused}
-use Rattle.network.specs.declared.Number.{Number}
-use Rattle.network.specs.declared.Number.the-variants.{Is, No}
+use Rattle.letters.specs.declared.{Wrote.Wrote, Wrote.the-variants.Bytes, Wrote.the-variants.Refused}
+use Rattle.network.specs.declared.{Number.Number, Number.the-variants.Is, Number.the-variants.No}
 use Rattle.drive.specs.declared.wire.Told.{Told}
 
 -- one number

@@ -10,8 +10,7 @@ use native.Mathlib.Omega.{arith}
 use lib.Dec.{eqb, leb}
 use lib.ListN.{length, getD, drop, drop-of-length-le}
 use borrow.Author.Tests.{lt-ltb, le-ltb, le-leb, lt-leb, eq-eqb, ne-eqb, leb-true}
-use Rattle.sets.proofs.Truth.{both}
-use Rattle.sets.proofs.Places.{drop-next}
+use Rattle.sets.proofs.{Truth.both, Places.drop-next}
 use Rattle.drive_request.specs.Numbers.{digitOf, hexAfter, wellLed, pairsOf, bytesOf}
 
 -- ---- a digit

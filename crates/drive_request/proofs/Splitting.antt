@@ -10,8 +10,7 @@ use lib.ListN.{length, getD, take, drop, length-drop, drop-of-length-le}
 use lib.Seq.{drop-drop, length-take-le, take-nil, drop-length}
 use borrow.Author.Tests.{ltb-true, ltb-false}
 use Rattle.bytes.specs.Bytes.{indexOf, indexAfter}
-use Rattle.sets.specs.Lists.{isNil}
-use Rattle.sets.proofs.Truth.{decided}
+use Rattle.sets.{specs.Lists.isNil, proofs.Truth.decided}
 use Rattle.drive_request.specs.Words.{onto, wordsOf, isPart, ahead, endsBlank, filled, partsIn, groupsOf}
 
 pub index-le : (b : ℕ) (t : List ℕ) → indexOf b t ≤ length t

@@ -5,8 +5,7 @@ use mathlib.Core.List.{List, [], _∷_, map}
 use mathlib.Core.Option.{Option, none, some}
 use lib.Dec.{eqb, leb, ltb}
 use lib.ListN.{length}
-use Rattle.drive_request.specs.declared.Hex.{Hex}
-use Rattle.drive_request.specs.declared.Hex.the-variants.{Is, Nothing}
+use Rattle.drive_request.specs.declared.{Hex.Hex, Hex.the-variants.Is, Hex.the-variants.Nothing}
 use Rattle.drive_request.specs.Words.{wordsOf}
 
 -- the value of a lower-case hex digit; 16 for another byte

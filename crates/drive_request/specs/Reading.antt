@@ -1,14 +1,12 @@
 -- Values read into a lent room.
 use Prim.Native.Nat.{ℕ, suc}
-use mathlib.Core.Path.{_≡_}
-use mathlib.Core.Bool.{cond}
+use mathlib.Core.{Path._≡_, Bool.cond}
 use mathlib.Core.List.{List, [], _∷_}
 use mathlib.Core.Option.{Option, none, some}
 use lib.Dec.{ltb}
 use lib.ListN.{length}
 use lib.Seq.{sets}
-use Rattle.drive_request.specs.declared.Count.{Count}
-use Rattle.drive_request.specs.declared.Count.the-variants.{Are, Nothing}
+use Rattle.drive_request.specs.declared.{Count.Count, Count.the-variants.Are, Count.the-variants.Nothing}
 
 -- the values before the first that is none
 unfoldable pub valuesOf : List (Option ℕ) → List ℕ

@@ -1,11 +1,8 @@
 -- Membership of a cube in an expression, as a test. Assumes nothing.
 use Prim.Native.Nat.{ℕ}
-use mathlib.Core.Path.{_≡_}
-use mathlib.Core.Bool.{true}
-use mathlib.Core.List.{List, Memᴰ·cast}
-use Rattle.sets.specs.Sets.{same}
+use mathlib.Core.{Path._≡_, Bool.true, List.List, List.Memᴰ·cast}
+use Rattle.sets.{specs.Sets.same, proofs.Sets.same-eq, proofs.Sets.same-self}
 use Rattle.sets.proofs.Lists.{_∈_, any-in, any-out}
-use Rattle.sets.proofs.Sets.{same-eq, same-self}
 use Rattle.expression.specs.Expression.{has}
 
 pub has-in : {c : List ℕ} {f : List (List ℕ)} → c ∈ f → has c f ≡ true

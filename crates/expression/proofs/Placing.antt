@@ -13,8 +13,7 @@ use lib.Seq.{set-split, drop-drop, take-at, drop-at, take-all, length-take-le, a
 use Rattle.sets.proofs.Truth.{decided}
 use Rattle.expression.specs.Words.{cubeWords, cubesOf, Put, Placed, Appends, fitting, blanks, Front}
 use Rattle.expression.specs.Expression.{sort}
-use Rattle.expression.proofs.Words.{zeros}
-use Rattle.expression.proofs.Sorting.{sort-length}
+use Rattle.expression.proofs.{Words.zeros, Sorting.sort-length}
 
 -- ---- a list with another over it, from a place on
 

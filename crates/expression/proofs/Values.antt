@@ -4,10 +4,7 @@ use mathlib.Core.Path.{_≡_, refl, sym, _∙_, ap}
 use mathlib.Core.Bool.{Bool, not, _&&_, _||_, or-assoc}
 use mathlib.Core.List.{List, [], _∷_, _++_}
 use native.Mathlib.Omega.{arith}
-use Rattle.sets.specs.Lists.{all}
-use Rattle.sets.specs.Literal.{plainOf, negatedOf}
-use Rattle.sets.specs.Sets.{union}
-use Rattle.sets.proofs.Sets.{union-all}
+use Rattle.sets.{specs.Lists.all, specs.Literal.plainOf, specs.Literal.negatedOf, specs.Sets.union, proofs.Sets.union-all}
 use Rattle.expression.specs.Value.{lit, cubeValue, value}
 
 module _ (a : ℕ → Bool) where

@@ -10,15 +10,11 @@ use lib.ListN.{length, getD, set, take, drop, replicate, length-take, length-dro
 use lib.Seq.{set-out, take-nil, drop-nil, take-all, drop-drop, drop-append-le, length-take-le}
 use borrow.Rule.Slice.PartMut.{putMid, postOf, post-is}
 use borrow.Author.Tests.{ltb-true}
-use Rattle.sets.specs.Lists.{all, isNil}
-use Rattle.sets.specs.Sets.{mem, asc}
-use Rattle.sets.specs.Masks.{literals}
+use Rattle.sets.{specs.Lists.all, specs.Lists.isNil, specs.Sets.mem, specs.Sets.asc, specs.Masks.literals, proofs.Lists._∈_}
 use Rattle.sets.proofs.Truth.{both, Stand, below, equal, beyond, compared}
-use Rattle.sets.proofs.Lists.{_∈_}
 use Rattle.sets.proofs.Rows.{nil-of, nil-some}
 use Rattle.sets.proofs.Literals.{literals-none, plain-injective, negated-injective}
-use Rattle.cube.specs.Cube.{width, lits}
-use Rattle.cube.specs.declared.Cube.{Cube}
+use Rattle.cube.specs.{Cube.width, Cube.lits, declared.Cube.Cube}
 use Rattle.cube.proofs.Lits.{lits-asc, lits-inside, lits-at-most}
 use Rattle.expression.specs.Words.{cubeWords, cubesOf, spareOf, Spans, Put, Written, Placed}
 pub use Rattle.expression.specs.Words.{fit}

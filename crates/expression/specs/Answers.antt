@@ -6,15 +6,11 @@ use mathlib.Core.List.{List, [], List·Memᴰ}
 use mathlib.Core.Option.{Option, none, some}
 use lib.Dec.{ltb}
 use lib.ListN.{length, getD}
-use Rattle.sets.specs.Lists.{isNil}
-use Rattle.sets.specs.Sets.{sub, proper}
-use Rattle.sets.specs.Word.{largest}
+use Rattle.sets.specs.{Lists.isNil, Sets.sub, Sets.proper, Word.largest}
 use Rattle.expression.specs.Words.{cubeWords, cubesOf, spareOf}
-use Rattle.expression.specs.Expression.{expression}
-use Rattle.expression.specs.declared.Verdict.{Verdict}
+use Rattle.expression.specs.{Expression.expression, declared.Verdict.Verdict}
 use Rattle.expression.specs.declared.Verdict.the-variants.{Accepted, Refused}
-use Rattle.expression.specs.declared.Position.{Position}
-use Rattle.expression.specs.declared.Position.the-variants.{At, Nothing}
+use Rattle.expression.specs.declared.{Position.Position, Position.the-variants.At, Position.the-variants.Nothing}
 
 -- how many cubes an expression handed in may have
 abbrev pub mostHanded : ℕ

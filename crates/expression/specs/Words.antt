@@ -1,12 +1,10 @@
 -- The cubes that lent words hold, two words for each: plain mask, negated mask.
 use Prim.Native.Nat.{ℕ, _+_, _-_, _*_, _^_, _≤_, min}
-use mathlib.Core.Path.{_≡_}
-use mathlib.Core.Bool.{Bool}
+use mathlib.Core.{Path._≡_, Bool.Bool}
 use mathlib.Core.List.{List, [], _∷_, _++_}
 use lib.Dec.{ltb}
 use lib.ListN.{length, take, drop, set, replicate}
-use Rattle.sets.specs.Lists.{all}
-use Rattle.sets.specs.Masks.{literals}
+use Rattle.sets.specs.{Lists.all, Masks.literals}
 use Rattle.cube.specs.Cube.{width}
 
 -- how many words hold a cube

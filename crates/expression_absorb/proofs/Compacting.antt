@@ -1,21 +1,18 @@
 -- Absorption in place: what stands while the cubes are passed one by one, and the scan for a cube that the present one contains. Assumes nothing.
 use Prim.Native.Nat.{ℕ, _+_, _-_, _<_, _≤_}
 use mathlib.Core.Path.{_≡_, refl, sym, _∙_, ap, subst}
-use mathlib.Core.Logic.{inl, inr}
+use mathlib.Core.{Logic.inl, Logic.inr, List.List·Memᴰ·append-cases, List.Memᴰ·cast}
 use mathlib.Core.Bool.{Bool, true, false, not, _&&_, _||_}
 use mathlib.Core.List.{List, [], _∷_, _++_, append-nil, List·Memᴰ·head as here, List·Memᴰ·tail as there, List·Memᴰ·eq-of-singleton}
-use mathlib.Core.List.{List·Memᴰ·append-cases, Memᴰ·cast}
 use native.Mathlib.Numerals.{add-one}
 use native.Mathlib.Omega.{arith}
 use lib.Dec.{ltb}
 use lib.ListN.{length, getD, take, drop, set, length-drop, length-set, take-append-drop, drop-of-length-le}
 use lib.Seq.{length-take-le, take-suc, take-suc-set, take-set-lt, drop-set-lt, drop-drop, getD-take, getD-drop, append-snoc}
 use borrow.Author.Tests.{ltb-true, ltb-false, lt-ltb, not-true}
-use Rattle.sets.specs.Lists.{all}
+use Rattle.sets.{specs.Lists.all, proofs.Lists._∈_, proofs.Sets.eq-same}
 use Rattle.sets.specs.Sets.{sub, asc, same}
 use Rattle.sets.proofs.Truth.{both, together, or-left, or-right, decided, clash, refuted}
-use Rattle.sets.proofs.Lists.{_∈_}
-use Rattle.sets.proofs.Sets.{eq-same}
 use Rattle.expression.specs.Expression.{dropped, absorbFrom, absorbed}
 use Rattle.sets.proofs.Places.{at-in, in-at, set-in, drop-next}
 use Rattle.expression.proofs.Absorbing.{Cubes, Covered, Passed, pass-none, pass-dropped, pass-kept, cover-dropped, dropped-early, dropped-late}

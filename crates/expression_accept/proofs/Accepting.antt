@@ -9,16 +9,14 @@ use native.Mathlib.Omega.{arith}
 use lib.Dec.{ltb, eqb}
 use lib.ListN.{length, getD}
 use borrow.Author.Tests.{ltb-true, ltb-false, lt-ltb, le-ltb, eqb-true, eqb-false}
-use Rattle.sets.specs.Lists.{all, pairwise}
+use Rattle.sets.{specs.Lists.all, specs.Lists.pairwise, proofs.First.some-not-none, proofs.Places.pairwise-at, proofs.Places.at-pairwise}
 use Rattle.sets.specs.Sets.{sub, asc, proper}
 use Rattle.sets.proofs.Truth.{both, decided, compared, below, equal, beyond}
-use Rattle.sets.proofs.First.{some-not-none}
 use Rattle.sets.proofs.Lists.{all-in, all-out, all-cong}
 use Rattle.expression.specs.Words.{cubeWords, cubesOf}
 use Rattle.expression.specs.Expression.{isCube, loose, expression}
 use Rattle.expression.specs.Answers.{mostHanded, refusal, Acceptable}
 use Rattle.expression.proofs.Words.{cubes-asc, spare-length, spare-none, spare-some}
-use Rattle.sets.proofs.Places.{pairwise-at, at-pairwise}
 use Rattle.expression.proofs.Absorbing.{loose-in, loose-out}
 
 -- no cube contains or equals another, by places

@@ -1,12 +1,10 @@
 -- A count as 64 bits hold it, and one more. Assumes nothing.
 use Prim.Native.Nat.{ℕ, suc, _+_, _-_, _<_, _≤_, min}
-use mathlib.Core.Path.{_≡_}
-use mathlib.Core.Logic.{inl, inr}
+use mathlib.Core.{Path._≡_, Logic.inl, Logic.inr}
 use native.Mathlib.Omega.{arith}
 use lib.Dec.{ltb}
 use borrow.Author.Tests.{ltb-true, ltb-false}
-use Rattle.sets.specs.Word.{largest}
-use Rattle.sets.proofs.Truth.{decided}
+use Rattle.sets.{specs.Word.largest, proofs.Truth.decided}
 use Rattle.expression.specs.Answers.{capped}
 
 capped-least : (t : ℕ) → capped t ≡ min t largest

@@ -1,15 +1,12 @@
 -- Cubes stand in cube order exactly where each comes before the next. Assumes nothing.
 use Prim.Native.Nat.{ℕ, suc, _+_, _-_, _<_}
-use mathlib.Core.Path.{_≡_, refl}
-use mathlib.Core.Bool.{true, false}
+use mathlib.Core.{Path._≡_, Path.refl, Bool.true, Bool.false}
 use mathlib.Core.List.{List, [], _∷_}
 use native.Mathlib.Omega.{arith}
 use lib.ListN.{length, getD}
-use Rattle.sets.specs.Sets.{before}
+use Rattle.sets.{specs.Sets.before, proofs.Places.pairwise-at, proofs.Ordering.before-trans}
 use Rattle.sets.proofs.Truth.{clash, refuted, below, equal, beyond, compared}
 use Rattle.sets.proofs.Lists.{all-in, all-out, ahead}
-use Rattle.sets.proofs.Places.{pairwise-at}
-use Rattle.sets.proofs.Ordering.{before-trans}
 use Rattle.expression.specs.Expression.{ordered}
 
 -- among the first n cubes each comes before the next

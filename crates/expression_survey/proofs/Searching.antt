@@ -9,8 +9,7 @@ use native.Mathlib.Omega.{arith}
 use lib.Dec.{ltb}
 use lib.ListN.{length, getD}
 use borrow.Author.Tests.{lt-ltb, le-ltb, ltb-true}
-use Rattle.sets.specs.Lists.{isSome}
-use Rattle.sets.specs.Sets.{before}
+use Rattle.sets.specs.{Lists.isSome, Sets.before}
 use Rattle.sets.proofs.Truth.{iff, Stand, below, equal, beyond, compared}
 use Rattle.sets.proofs.Places.{pairwise-at, at-in, in-at}
 use Rattle.sets.proofs.Ordering.{before-irrefl, before-asym, before-linear}

@@ -1,9 +1,8 @@
 -- How a run goes: the steps listed so far, and then a run of the steps left from the network that they led to. Assumes nothing.
 use Prim.Native.Nat.{ℕ, zero, suc, _+_, _-_, _<_, _≤_}
 use mathlib.Core.Path.{_≡_, refl, sym, ap, ap₂, _∙_, subst}
-use mathlib.Core.Bool.{true, false}
+use mathlib.Core.{Bool.true, Bool.false, Option.some}
 use mathlib.Core.List.{List, [], _∷_, _++_, map, map-append, append-assoc, append-nil}
-use mathlib.Core.Option.{some}
 use native.Mathlib.Numerals.{add-one}
 use native.Mathlib.Omega.{arith}
 use lib.IntN.{ℤ, pos, negsuc, _-ℤ_}
@@ -12,40 +11,28 @@ use lib.Seq.{length-take-le, take-suc-set, drop-set-lt, drop-drop}
 use lib.Signed.{leZ, ltZ}
 use borrow.Author.Tests.{leb-true, leb-false, le-ltb, lt-ltb}
 use Rattle.sets.proofs.Truth.{clash}
-use Rattle.network.specs.Net.{Net, literalCount}
-use Rattle.network.specs.Held.{netOf, mostVariables}
-use Rattle.network.specs.Handed.{Holds, Shaped}
-use Rattle.network.specs.declared.Network.{Network}
-use Rattle.network.proofs.Holding.{rules-divisors, rules-iff}
-use Rattle.network.proofs.Limits.{rules-sized}
+use Rattle.network.specs.{Net.Net, Net.literalCount, Held.netOf, Held.mostVariables, Handed.Holds, Handed.Shaped}
+use Rattle.network.{specs.declared.Network.Network, proofs.Holding.rules-divisors, proofs.Holding.rules-iff, proofs.Limits.rules-sized}
 use Rattle.extract_laws.specs.Divisor as divisors
-use Rattle.extract_laws.specs.Extract.{step}
+use Rattle.extract_laws.{specs.Extract.step, proofs.Moving.worth-done, proofs.Moving.move-iff, proofs.Making.step-variables}
 use Rattle.extract_laws.specs.Run as runs
 use Rattle.extract_laws.specs.Run.{weighing, making, Result, Move, finished, makes, done, asked, moveOf, ended, prepare, runFrom}
 use Rattle.extract_laws.specs.Meaning.{Good, Worth, Allows}
 use Rattle.extract_laws.specs.Meaning.Allows.{nothing, noNumber, noRows, next}
 use Rattle.extract_laws.proofs.Running.{from-none, from-finished, from-stuck, from-make}
-use Rattle.extract_laws.proofs.Moving.{worth-done, move-iff}
-use Rattle.extract_laws.proofs.Making.{step-variables}
-use Rattle.extract_laws.proofs.Weighing.{step-literals, step-smaller}
-use Rattle.extract_laws.proofs.Keeping.{worth-fit}
-use Rattle.extract_laws.proofs.Preparing.{prepare-same}
-use Rattle.extract_laws.proofs.Following.{rules-good, rules-within}
-use Rattle.extract_divisor.specs.Divisor.{divisorOf, weighedOf}
+use Rattle.extract_laws.proofs.{Weighing.step-literals, Weighing.step-smaller, Keeping.worth-fit}
+use Rattle.extract_laws.proofs.{Preparing.prepare-same, Following.rules-good, Following.rules-within}
+use Rattle.extract_divisor.specs.{Divisor.divisorOf, Divisor.weighedOf, declared.Step.Step}
 use Rattle.extract_choice.specs.Choice.{chosenIn, Chosen}
-use Rattle.extract_divisor.specs.declared.Step.{Step}
 use Rattle.extract_step.specs.Replace.{outcomeOf, After, Stepped}
 use Rattle.extract_step.specs.declared.Outcome.the-variants as Outcome
 use Rattle.extract_step.specs.declared.Next.{Next}
 use Rattle.extract_step.proofs.Keeping.{Takes, takes-is, takes-rules, takes-arranged}
 use Rattle.extract.specs.Answers.{stopOf, madeOf, noMade, places, Told}
 use Rattle.extract.specs.Parts.{Runnable, Leaves, madeBy, endedAt, reasonOf, stoppedWith}
-use Rattle.extract.specs.declared.Made.{Made}
-use Rattle.extract.specs.declared.Stop.{Stop}
-use Rattle.extract.specs.declared.Stop.the-variants.{Done, Asked}
+use Rattle.extract.specs.declared.{Made.Made, Stop.Stop, Stop.the-variants.Done, Stop.the-variants.Asked}
 use Rattle.extract.proofs.Taking.{Choice, chosen-as, Taken, stepped-as}
-use Rattle.extract.proofs.Taking.Choice.{nothingLeft, oneTaken}
-use Rattle.extract.proofs.Taking.Taken.{wasMade, wasNot}
+use Rattle.extract.proofs.Taking.{Choice.nothingLeft, Choice.oneTaken, Taken.wasMade, Taken.wasNot}
 
 -- steps, and then a run
 abbrev after : List runs.Made → Result → Result

@@ -1,27 +1,19 @@
 -- Where a run starts: from the network in cube order, or nowhere where a rule is broken. Assumes nothing.
 use Prim.Native.Nat.{ℕ}
 use mathlib.Core.Path.{_≡_, refl, sym, _∙_, subst}
-use mathlib.Core.Bool.{true, false}
-use mathlib.Core.Option.{some}
+use mathlib.Core.{Bool.true, Bool.false, Option.some}
 use native.Mathlib.Omega.{arith}
 use Rattle.sets.proofs.Lists.{_∈_}
-use Rattle.network.specs.Net.{Net, nodes}
-use Rattle.network.specs.Held.{netOf, rules}
+use Rattle.network.specs.{Net.Net, Net.nodes, Held.netOf, Held.rules, declared.Network.Network}
 use Rattle.network.specs.Handed.{Holds, AllZero, Shaped}
-use Rattle.network.specs.declared.Network.{Network}
-use Rattle.network.proofs.Ruling.{rules-lawful}
-use Rattle.network.proofs.Handing.{holds-net}
+use Rattle.network.proofs.{Ruling.rules-lawful, Handing.holds-net}
 use Rattle.extract_laws.specs.Run.{runFrom, inOrder, run}
-use Rattle.extract_laws.specs.Meaning.{Good, Within}
+use Rattle.extract_laws.{specs.Meaning.Good, specs.Meaning.Within, proofs.Arranging.in-order-ordered, proofs.Preparing.prepare-same}
 use Rattle.extract_laws.proofs.Arranging.{in-order-inputs, in-order-outputs, in-order-variables, in-order-cubes, in-order-literals, in-order-good}
-use Rattle.extract_laws.proofs.Arranging.{in-order-ordered}
-use Rattle.extract_laws.proofs.Preparing.{prepare-same}
 use Rattle.extract_laws.proofs.Following.{rules-good, rules-within, holds-rules}
 use Rattle.extract_tidy.proofs.Arranged.{arranged-in}
 use Rattle.extract.specs.Answers.{noSteps, runOn, Told}
-use Rattle.extract.specs.Parts.{Runnable}
-use Rattle.extract.specs.declared.Answer.the-variants.{Refused}
-use Rattle.extract.specs.declared.Ran.{Ran}
+use Rattle.extract.specs.{Parts.Runnable, declared.Answer.the-variants.Refused, declared.Ran.Ran}
 
 module _ (n p : Network) (shape : Shaped n)
     (r : rules n ≡ true) (h : Holds p (inOrder (netOf n))) where

@@ -9,30 +9,22 @@ use lib.IntN.{pos}
 use lib.Signed.{ltZ}
 use borrow.Author.Tests.{le-ltb}
 use Rattle.sets.proofs.Truth.{decided}
-use Rattle.network.specs.Net.{Net, literalCount}
-use Rattle.network.specs.Held.{netOf, mostLiterals}
-use Rattle.network.specs.declared.Network.{Network}
+use Rattle.network.specs.{Net.Net, Net.literalCount, Held.netOf, Held.mostLiterals, declared.Network.Network}
 use Rattle.extract_laws.specs.Divisor as divisors
 use Rattle.extract_laws.specs.Extract.{weight, best, step}
 use Rattle.extract_laws.specs.Run.{Weighed, weighing, Move, finished, stuck, makes, roomFor, choose, moveOf}
 use Rattle.extract_laws.specs.Meaning.{Good, Worth, Allows}
 use Rattle.extract_laws.specs.Meaning.Allows.{nothing, noNumber, noRows, next}
-use Rattle.extract_laws.proofs.Weighing.{step-smaller}
-use Rattle.extract_laws.proofs.Choosing.{best-iff}
+use Rattle.extract_laws.proofs.{Weighing.step-smaller, Choosing.best-iff, Keeping.worth-fit}
 use Rattle.extract_laws.proofs.Moving.{worth-done, worth-one, move-iff}
-use Rattle.extract_laws.proofs.Keeping.{worth-fit}
 use Rattle.extract_tidy.specs.Tidy.{arranged}
-use Rattle.extract_divisor.specs.Divisor.{divisorOf, weighedOf}
+use Rattle.extract_divisor.specs.{Divisor.divisorOf, Divisor.weighedOf, declared.Divisor.Divisor, declared.Step.Step}
 use Rattle.extract_choice.specs.Choice.{worthIn, chosenIn, Chosen}
-use Rattle.extract_divisor.specs.declared.Divisor.{Divisor}
-use Rattle.extract_divisor.specs.declared.Step.{Step}
 use Rattle.extract_step.specs.Replace.{allowed, outcomeOf, Stepped}
 use Rattle.extract_step.specs.declared.Outcome.the-variants as Outcome
-use Rattle.extract_step.specs.declared.Next.{Next}
+use Rattle.extract_step.{specs.declared.Next.Next, proofs.Keeping.Takes, proofs.Keeping.stepped-takes}
 use Rattle.extract_fit.proofs.Fitting.{fitting-iff}
-use Rattle.extract_step.proofs.Keeping.{Takes, stepped-takes}
-use Rattle.extract.specs.Answers.{stopOf}
-use Rattle.extract.specs.Parts.{reasonOf}
+use Rattle.extract.specs.{Answers.stopOf, Parts.reasonOf}
 
 -- ---- the choice
 

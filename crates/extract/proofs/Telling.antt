@@ -1,24 +1,16 @@
 -- What a run answers leaves one answer, and says of the networks before and after it what the paper asks. Assumes nothing.
 use Prim.Native.Nat.{ℕ, zero, suc, _+_, _<_, _≤_}
 use mathlib.Core.Path.{_≡_, refl, sym, ap, ap₂, _∙_, subst}
-use mathlib.Core.Logic.{_↔_}
-use mathlib.Core.Bool.{true}
+use mathlib.Core.{Logic._↔_, Bool.true}
 use mathlib.Core.List.{List, [], _∷_, map, nil≢cons, cons≢nil, head-eq-of-cons-eq, tail-eq-of-cons-eq}
 use mathlib.Core.Option.{Option, none, some}
 use native.Mathlib.Omega.{arith}
 use lib.IntN.{pos, _-ℤ_}
 use lib.ListN.{length, take, drop}
-use Rattle.sets.specs.Lists.{all}
-use Rattle.sets.proofs.Truth.{both}
-use Rattle.sets.proofs.Lists.{_∈_}
-use Rattle.cube.proofs.Lits.{fitCube, cube-one}
-use Rattle.cube.specs.Cube.{lits}
-use Rattle.network.specs.Net.{Net, literalCount}
-use Rattle.network.specs.Held.{netOf, rules}
-use Rattle.network.specs.Handed.{Holds, Shaped}
-use Rattle.network.specs.Answers.{counted, evaluated}
-use Rattle.network.specs.declared.Network.{Network}
-use Rattle.network.specs.declared.Number.the-variants.{Is}
+use Rattle.sets.{specs.Lists.all, proofs.Truth.both, proofs.Lists._∈_}
+use Rattle.cube.{proofs.Lits.fitCube, proofs.Lits.cube-one, specs.Cube.lits}
+use Rattle.network.specs.{Net.Net, Net.literalCount, Held.netOf, Held.rules, Handed.Holds, Handed.Shaped}
+use Rattle.network.specs.{Answers.counted, Answers.evaluated, declared.Network.Network, declared.Number.the-variants.Is}
 use Rattle.network.proofs.Handing.{holds-net, holds-one, blank-one}
 use Rattle.extract_laws.specs.Run as runs
 use Rattle.extract_laws.specs.Run.{Result, done, asked, numbers, rows, startOf, run}
@@ -26,17 +18,12 @@ use Rattle.extract_laws.specs.Meaning.{Leads, StepOf, Ends, fall}
 use Rattle.extract_laws.proofs.Running.{run-leads, run-stop, run-few, run-network-add, run-stop-add}
 use Rattle.extract_laws.proofs.Keeping.{leads-counts, start-good, run-good, run-literals}
 use Rattle.extract_laws.proofs.Following.{rules-good, run-rules, run-evaluated}
-use Rattle.extract_divisor.specs.Divisor.{divisorOf}
-use Rattle.extract_divisor.specs.declared.Divisor.{Divisor}
-use Rattle.extract_divisor.specs.declared.Divisor.the-variants.{Pair, Sum}
+use Rattle.extract_divisor.specs.{Divisor.divisorOf, declared.Divisor.Divisor, declared.Divisor.the-variants.Pair, declared.Divisor.the-variants.Sum}
 use Rattle.extract.specs.Answers.{stopOf, madeOf, stepsOf, Lists, runOn, Told}
 use Rattle.extract.specs.Typed.{fitDivisor, fitStep, FitRan}
-use Rattle.extract.specs.declared.Stop.{Stop}
+use Rattle.extract.specs.declared.{Stop.Stop, Answer.the-variants.Stopped, Made.Made}
 use Rattle.extract.specs.declared.Stop.the-variants.{Done, Asked, Numbers, Rows}
-use Rattle.extract.specs.declared.Answer.the-variants.{Stopped}
-use Rattle.extract.specs.declared.Made.{Made}
-use Rattle.extract.specs.declared.Steps.{Steps}
-use Rattle.extract.specs.declared.Ran.{Ran}
+use Rattle.extract.specs.declared.{Steps.Steps, Ran.Ran}
 
 -- ---- one answer
 

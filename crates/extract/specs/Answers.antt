@@ -1,24 +1,18 @@
 -- What a run answers.
 use Prim.Native.Nat.{ℕ, _-_}
-use mathlib.Core.Path.{_≡_}
-use mathlib.Core.Bool.{cond}
+use mathlib.Core.{Path._≡_, Bool.cond}
 use mathlib.Core.List.{List, [], map}
 use mathlib.Core.Option.{Option, none, some}
 use lib.IntN.{pos}
 use lib.ListN.{length, take, drop, replicate}
 use Rattle.network.specs.Held.{netOf, rules, mostVariables}
-use Rattle.network.specs.Handed.{Holds, AllZero}
-use Rattle.network.specs.declared.Network.{Network}
+use Rattle.network.specs.{Handed.Holds, Handed.AllZero, declared.Network.Network}
 use Rattle.extract_laws.specs.Run as runs
 use Rattle.extract_laws.specs.Run.{Result, done, asked, numbers, rows, run}
-use Rattle.extract_divisor.specs.Divisor.{divisorOf}
-use Rattle.extract_divisor.specs.declared.Divisor.the-variants.{Pair}
-use Rattle.extract.specs.declared.Stop.{Stop}
+use Rattle.extract_divisor.specs.{Divisor.divisorOf, declared.Divisor.the-variants.Pair}
+use Rattle.extract.specs.declared.{Stop.Stop, Answer.the-variants.Stopped, Answer.the-variants.Refused}
 use Rattle.extract.specs.declared.Stop.the-variants.{Done, Asked, Numbers, Rows}
-use Rattle.extract.specs.declared.Answer.the-variants.{Stopped, Refused}
-use Rattle.extract.specs.declared.Made.{Made}
-use Rattle.extract.specs.declared.Steps.{Steps}
-use Rattle.extract.specs.declared.Ran.{Ran}
+use Rattle.extract.specs.declared.{Made.Made, Steps.Steps, Ran.Ran}
 
 -- the stop reason that a value means
 abbrev pub stopOf : Stop → runs.Stop

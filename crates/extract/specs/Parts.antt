@@ -1,22 +1,17 @@
 -- Words for the contracts of the private functions: a network that a run starts from, and how a run is handed back.
 use Prim.Native.Nat.{ℕ, _≤_}
-use mathlib.Core.Path.{_≡_}
-use mathlib.Core.Bool.{true, cond}
-use mathlib.Core.List.{List}
+use mathlib.Core.{Path._≡_, Bool.true, Bool.cond, List.List}
 use lib.IntN.{ℤ, pos, _-ℤ_}
 use lib.Signed.{ltZ}
 use Rattle.cube.specs.declared.Variable.{Variable}
 use Rattle.network.specs.Held.{netOf, rules, mostLiterals}
-use Rattle.network.specs.Handed.{Holds}
-use Rattle.network.specs.declared.Network.{Network}
+use Rattle.network.specs.{Handed.Holds, declared.Network.Network}
 use Rattle.extract_divisor.specs.declared.Step.{Step}
 use Rattle.extract_step.specs.declared.Outcome.{Outcome}
 use Rattle.extract_step.specs.declared.Outcome.the-variants as Outcome
 use Rattle.extract_tidy.specs.Tidy.{arranged}
-use Rattle.extract.specs.declared.Stop.{Stop}
+use Rattle.extract.specs.declared.{Stop.Stop, Answer.the-variants.Stopped, Made.Made}
 use Rattle.extract.specs.declared.Stop.the-variants.{Done, Asked, Numbers, Rows}
-use Rattle.extract.specs.declared.Answer.the-variants.{Stopped}
-use Rattle.extract.specs.declared.Made.{Made}
 use Rattle.extract.specs.declared.Ran.{Ran}
 
 -- by the rules, in cube order, and zero in the slots that are not in use

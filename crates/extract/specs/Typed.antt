@@ -4,10 +4,8 @@ use mathlib.Core.Bool.{Bool, true, _&&_}
 use Rattle.sets.specs.Lists.{all}
 use Rattle.cube.proofs.Lits.{fitCube}
 use Rattle.network.proofs.Handing.{Typed}
-use Rattle.extract_divisor.specs.declared.Divisor.{Divisor}
-use Rattle.extract_divisor.specs.declared.Divisor.the-variants.{Pair, Sum}
-use Rattle.extract.specs.declared.Made.{Made}
-use Rattle.extract.specs.declared.Ran.{Ran}
+use Rattle.extract_divisor.specs.declared.{Divisor.Divisor, Divisor.the-variants.Pair, Divisor.the-variants.Sum}
+use Rattle.extract.specs.declared.{Made.Made, Ran.Ran}
 
 abbrev pub fitDivisor : Divisor → Bool
 fitDivisor (Pair p q) = true

@@ -11,20 +11,14 @@ use Rattle.sets.specs.Sets.{mem, without}
 use Rattle.sets.proofs.Lists.{_∈_, all-out, keep-length, keep-append, total-append, total-le, total-map, total-split, total-take-le}
 use Rattle.sets.proofs.Places.{at-in, drop-next}
 use Rattle.cube.specs.Cube.{width}
-use Rattle.expression.specs.Words.{cubesOf}
-use Rattle.expression.specs.Expression.{ordered, literalsOf}
-use Rattle.expression.proofs.Words.{literals-most}
-use Rattle.network.specs.Held.{mostCubes}
+use Rattle.expression.{specs.Words.cubesOf, specs.Expression.ordered, specs.Expression.literalsOf, proofs.Words.literals-most}
+use Rattle.network.{specs.Held.mostCubes, specs.Handed.flat, specs.Parts.nodesOf, proofs.Handing.flat-length}
 use Rattle.network_nodes.specs.Nodes.{cut, countBefore}
-use Rattle.network.specs.Handed.{flat}
-use Rattle.network.specs.Parts.{nodesOf}
 use Rattle.network_nodes.proofs.Cutting.{cut-node, cut-total}
 use Rattle.network_nodes.proofs.Starting.{start-next}
-use Rattle.network.proofs.Handing.{flat-length}
 use Rattle.network.proofs.Parts.{nodes-at, nodes-length}
 use Rattle.extract_laws.specs.Divisor.{sum, useOf, uses, bases}
-use Rattle.extract_divisor.specs.Divisor.{foundUse}
-use Rattle.extract_divisor.proofs.Using.{found-use}
+use Rattle.extract_divisor.{specs.Divisor.foundUse, proofs.Using.found-use}
 use Rattle.extract_choice.specs.Parts.{Orderly, Tallied}
 
 -- a sum over what passes a test, list by list or over all

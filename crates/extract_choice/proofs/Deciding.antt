@@ -10,37 +10,25 @@ use lib.IntN.{pos}
 use lib.ListN.{length, take}
 use lib.Seq.{length-take-le}
 use lib.Signed.{ltZ}
-use Rattle.sets.specs.Sets.{asc}
-use Rattle.sets.proofs.Truth.{decided}
-use Rattle.sets.proofs.Orders.{not-after}
-use Rattle.sets.proofs.Lists.{_∈_, all-out}
-use Rattle.sets.proofs.Sets.{mem-of}
+use Rattle.sets.{specs.Sets.asc, proofs.Truth.decided, proofs.Orders.not-after, proofs.Lists._∈_, proofs.Lists.all-out, proofs.Sets.mem-of}
 use Rattle.cube.proofs.Lits.{fitCube, cube-one}
-use Rattle.expression.specs.Words.{cubesOf}
-use Rattle.expression.proofs.Words.{cubes-asc, cubes-inside}
+use Rattle.expression.{specs.Words.cubesOf, proofs.Words.cubes-asc, proofs.Words.cubes-inside}
 use Rattle.network_nodes.specs.Nodes.{cut, countBefore}
-use Rattle.network.specs.Net.{Net, nodes}
-use Rattle.network.specs.Held.{netOf, used}
+use Rattle.network.specs.{Net.Net, Net.nodes, Held.netOf, Held.used, Parts.nodesOf, declared.Network.Network}
 use Rattle.network.specs.Handed.{flat, nodeSlots, Shaped}
-use Rattle.network.specs.Parts.{nodesOf}
-use Rattle.network.specs.declared.Network.{Network}
 use Rattle.network.proofs.Holding.{nodes-held, cut-used}
 use Rattle.extract_laws.specs.Divisor as extraction
 use Rattle.extract_laws.specs.Extract.{weight, gather, pairsIn, sumsIn, candidates, best}
-use Rattle.extract_laws.specs.Run.{Weighed, weighing}
-use Rattle.extract_laws.specs.Meaning.{Worth, Done}
+use Rattle.extract_laws.specs.{Run.Weighed, Run.weighing, Meaning.Worth, Meaning.Done}
 use Rattle.extract_laws.proofs.Choosing.{heavier-order, best-in, best-iff, best-none}
-use Rattle.extract_tidy.specs.Tidy.{arranged}
-use Rattle.extract_tidy.proofs.Arranged.{arranged-parts, arranged-sized}
+use Rattle.extract_tidy.{specs.Tidy.arranged, proofs.Arranged.arranged-parts, proofs.Arranged.arranged-sized}
 use Rattle.extract_divisor.specs.Divisor.{divisorOf, weighedOf, noStep}
-use Rattle.extract_divisor.specs.declared.Divisor.{Divisor}
-use Rattle.extract_divisor.specs.declared.Divisor.the-variants.{Pair, Sum}
+use Rattle.extract_divisor.specs.declared.{Divisor.Divisor, Divisor.the-variants.Pair, Divisor.the-variants.Sum}
 use Rattle.extract_divisor.specs.declared.Step.{Step}
 use Rattle.extract_choice.specs.Choice.{worthIn, chosenIn, Chosen}
 use Rattle.extract_choice.specs.Parts.{Wins, Adds, Nodes, Cubes, Orderly, literalsFrom}
 use Rattle.extract_choice.specs.Parts.Wins.{nothing, first}
-use Rattle.extract_choice.proofs.Counting.{words-flat}
-use Rattle.extract_choice.proofs.Pairs.{leads-candidates}
+use Rattle.extract_choice.proofs.{Counting.words-flat, Pairs.leads-candidates}
 
 -- ---- networks in cube order
 

@@ -6,19 +6,14 @@ use mathlib.Core.List.{List, [], _∷_, _++_, append-assoc, List·Memᴰ·head a
 use mathlib.Core.List.{List·Memᴰ·eq-of-singleton, List·Memᴰ·cases-cons, Memᴰ·append-left, Memᴰ·append-right, List·Memᴰ·append-cases}
 use lib.IntN.{pos}
 use lib.Signed.{ltZ}
-use Rattle.sets.proofs.Truth.{decided, clash}
-use Rattle.sets.proofs.Lists.{_∈_}
-use Rattle.sets.proofs.Orders.{asym, not-after}
+use Rattle.sets.proofs.{Truth.decided, Truth.clash, Lists._∈_, Orders.asym, Orders.not-after}
 use Rattle.network.specs.Net.{Net}
 use Rattle.extract_laws.specs.Divisor as extraction
 use Rattle.extract_laws.specs.Extract.{weight, sooner, better}
-use Rattle.extract_laws.specs.Run.{weighing}
-use Rattle.extract_laws.proofs.Choosing.{heavier-order, better-order}
-use Rattle.extract_divisor.specs.Divisor.{weighedOf}
-use Rattle.extract_divisor.specs.declared.Step.{Step}
+use Rattle.extract_laws.{specs.Run.weighing, proofs.Choosing.heavier-order, proofs.Choosing.better-order}
+use Rattle.extract_divisor.specs.{Divisor.weighedOf, declared.Step.Step}
 use Rattle.extract_rank.specs.Rank.{outweighs, taken}
-use Rattle.extract_choice.specs.Parts.{Wins, Adds}
-use Rattle.extract_choice.specs.Parts.Wins.{nothing, first}
+use Rattle.extract_choice.specs.{Parts.Wins, Parts.Adds, Parts.Wins.nothing, Parts.Wins.first}
 
 -- ---- what is held leads
 

@@ -1,10 +1,9 @@
 -- Pairs: their uses among the cubes of all nodes, those that cannot have a weight above 0, and all of them in turn. Assumes nothing.
 use Prim.Native.Nat.{ℕ, zero, suc, _+_, _*_, _-_, _<_, _≤_}
 use mathlib.Core.Path.{_≡_, refl, sym, ap, _∙_}
-use mathlib.Core.Logic.{inl, inr}
+use mathlib.Core.{Logic.inl, Logic.inr, List.Memᴰ·append-right, List.List·Memᴰ·append-cases}
 use mathlib.Core.Bool.{Bool, true, false, _&&_}
 use mathlib.Core.List.{List, [], _∷_, _++_, map, List·Memᴰ·head as here, List·Memᴰ·tail as there, Memᴰ·append-left}
-use mathlib.Core.List.{Memᴰ·append-right, List·Memᴰ·append-cases}
 use native.Mathlib.Omega.{arith}
 use lib.ListN.{length}
 use lib.IntN.{pos, _-ℤ_}
@@ -16,19 +15,15 @@ use Rattle.sets.proofs.Truth.{both, together, neither, decided, clash}
 use Rattle.sets.proofs.Lists.{_∈_, any-out, keep-le, keep-none, map-out}
 use Rattle.sets.proofs.Sets.{mem-of, of-mem, sub-out, from-mem, from-asc}
 use Rattle.cube.specs.Cube.{width, joined}
-use Rattle.network.specs.Net.{Net, nodes}
-use Rattle.network.specs.Handed.{flat}
+use Rattle.network.specs.{Net.Net, Net.nodes, Handed.flat}
 use Rattle.extract_laws.specs.Divisor as extraction
-use Rattle.extract_laws.specs.Divisor.{pair}
+use Rattle.extract_laws.specs.{Divisor.pair, Meaning.Used}
 use Rattle.extract_laws.specs.Extract.{allUses, weight, gather, pairsIn, sumsIn, candidates}
-use Rattle.extract_laws.specs.Meaning.{Used}
 use Rattle.extract_laws.proofs.Offering.{gather-in, gather-out, pairs-out, pairs-made}
-use Rattle.extract_divisor.specs.declared.Step.{Step}
-use Rattle.extract_divisor.specs.declared.Divisor.the-variants.{Pair}
+use Rattle.extract_divisor.specs.declared.{Step.Step, Divisor.the-variants.Pair}
 use Rattle.extract_rank.specs.Rank.{taken}
 use Rattle.extract_choice.specs.Parts.{stepOf, Wins, Adds, Cubes, literalsFrom}
-use Rattle.extract_choice.proofs.Ties.{not-above}
-use Rattle.extract_choice.proofs.Counting.{counted-flat, flat-in}
+use Rattle.extract_choice.proofs.{Ties.not-above, Counting.counted-flat, Counting.flat-in}
 use Rattle.extract_choice.proofs.Judging.{leads-with, leads-same, leads-taken}
 
 -- ---- cubes of one or two literals

@@ -15,27 +15,17 @@ use Rattle.sets.specs.Lists.{isNil, any, all, keep, total}
 use Rattle.sets.specs.Sets.{mem, sub, apart, asc, without, before}
 use Rattle.sets.proofs.Truth.{both, decided, clash}
 use Rattle.sets.proofs.Lists.{_∈_, any-out, all-out, keep-in, keep-all, keep-le, total-map, total-le, total-keep-le}
-use Rattle.sets.proofs.Places.{drop-next}
-use Rattle.sets.proofs.Sets.{without-none, sub-refl}
-use Rattle.sets.proofs.Orders.{before-order}
-use Rattle.cube.specs.Cube.{width, lits}
-use Rattle.cube.specs.declared.Cube.{Cube}
-use Rattle.cube.proofs.Lits.{lits-asc}
-use Rattle.expression.specs.Words.{cubesOf}
-use Rattle.expression.specs.Expression.{literalsOf}
-use Rattle.expression.proofs.Words.{cubes-asc}
-use Rattle.network.specs.Net.{Net, nodes}
-use Rattle.network.specs.Held.{mostCubes}
-use Rattle.network.specs.Handed.{flat}
-use Rattle.network.specs.Parts.{nodesOf}
+use Rattle.sets.proofs.{Places.drop-next, Sets.without-none, Sets.sub-refl, Orders.before-order}
+use Rattle.cube.{specs.Cube.width, specs.Cube.lits, specs.declared.Cube.Cube, proofs.Lits.lits-asc}
+use Rattle.expression.{specs.Words.cubesOf, specs.Expression.literalsOf, proofs.Words.cubes-asc}
+use Rattle.network.specs.{Net.Net, Net.nodes, Held.mostCubes, Handed.flat, Parts.nodesOf}
 use Rattle.extract_laws.specs.Divisor.{Divisor, sum, small, useOf, uses, bases}
 use Rattle.extract_laws.specs.Extract.{allUses, basesLiterals, weight, smallerFirst, sumOf, sumsIn}
 use Rattle.extract_laws.specs.Meaning.{Parts, other}
 use Rattle.extract_laws.proofs.Using.{use-out, apart-flip}
 use Rattle.extract_laws.proofs.Parting.{parts-apart, parts-differ, use-left, use-right}
 use Rattle.extract_laws.proofs.Offering.{sums-made, sum-of-in}
-use Rattle.extract_divisor.specs.declared.Step.{Step}
-use Rattle.extract_divisor.specs.declared.Divisor.the-variants.{Sum}
+use Rattle.extract_divisor.specs.declared.{Step.Step, Divisor.the-variants.Sum}
 use Rattle.extract_rank.specs.Rank.{taken}
 use Rattle.extract_choice.specs.Parts.{stepOf, Adds, Nodes, Orderly, Alone, Tallied}
 use Rattle.extract_choice.proofs.Judging.{leads-with, leads-taken, adds-none}

@@ -1,9 +1,6 @@
 -- What the tests of weights and of parts answer, step by step. Assumes nothing.
 use Prim.Native.Nat.{ℕ, zero, suc, _+_, _-_, _<_, _≤_}
-use mathlib.Core.Path.{_≡_}
-use mathlib.Core.Logic.{inl, inr}
-use mathlib.Core.Bool.{false}
-use mathlib.Core.List.{List}
+use mathlib.Core.{Path._≡_, Logic.inl, Logic.inr, Bool.false, List.List}
 use native.Mathlib.Omega.{arith}
 use lib.Dec.{ltb}
 use lib.ListN.{length}

@@ -1,18 +1,13 @@
 -- What the choice of the best divisor answers.
-use mathlib.Core.Path.{_≡_}
-use mathlib.Core.Bool.{cond}
+use mathlib.Core.{Path._≡_, Bool.cond}
 use mathlib.Core.Option.{Option, none, some}
 use lib.IntN.{pos}
 use lib.Signed.{ltZ}
-use Rattle.network.specs.Net.{Net}
-use Rattle.network.specs.Held.{netOf}
-use Rattle.network.specs.declared.Network.{Network}
+use Rattle.network.specs.{Net.Net, Held.netOf, declared.Network.Network}
 use Rattle.extract_laws.specs.Divisor as extraction
-use Rattle.extract_laws.specs.Extract.{weight, best}
-use Rattle.extract_laws.specs.Run.{Weighed, weighing}
+use Rattle.extract_laws.specs.{Extract.weight, Extract.best, Run.Weighed, Run.weighing}
 use Rattle.extract_tidy.specs.Tidy.{arranged}
-use Rattle.extract_divisor.specs.Divisor.{weighedOf, noStep}
-use Rattle.extract_divisor.specs.declared.Step.{Step}
+use Rattle.extract_divisor.specs.{Divisor.weighedOf, Divisor.noStep, declared.Step.Step}
 
 -- the best divisor, where its weight is above 0, with its weight and uses
 unfoldable pub worthIn : Net → Option extraction.Divisor → Option Weighed

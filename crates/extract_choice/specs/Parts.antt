@@ -1,7 +1,6 @@
 -- Words for the contracts of the private functions: divisors judged one after the other, and what words and counts hold.
 use Prim.Native.Nat.{ℕ, _*_, _-_, _≤_}
-use mathlib.Core.Path.{_≡_}
-use mathlib.Core.Bool.{true, false}
+use mathlib.Core.{Path._≡_, Bool.true, Bool.false}
 use mathlib.Core.List.{List, [], _∷_, _++_, List·Memᴰ}
 use lib.ListN.{length}
 use lib.IntN.{pos, _-ℤ_}
@@ -9,20 +8,13 @@ use lib.Signed.{ltZ}
 use Rattle.sets.specs.Lists.{all, keep, from, total}
 use Rattle.sets.specs.Sets.{sub}
 use Rattle.cube.specs.Cube.{width}
-use Rattle.expression.specs.Words.{cubesOf}
-use Rattle.expression.specs.Expression.{ordered, literalsOf}
+use Rattle.expression.specs.{Words.cubesOf, Expression.ordered, Expression.literalsOf}
 use Rattle.network_nodes.specs.Nodes.{countBefore}
-use Rattle.network.specs.Net.{Net, nodes}
-use Rattle.network.specs.Held.{mostCubes}
-use Rattle.network.specs.Handed.{flat}
-use Rattle.network.specs.Parts.{nodesOf}
+use Rattle.network.specs.{Net.Net, Net.nodes, Held.mostCubes, Handed.flat, Parts.nodesOf}
 use Rattle.extract_laws.specs.Divisor as extraction
 use Rattle.extract_laws.specs.Divisor.{sum, uses, bases}
-use Rattle.extract_laws.specs.Extract.{weight, better}
-use Rattle.extract_laws.specs.Run.{weighing}
-use Rattle.extract_divisor.specs.Divisor.{weighedOf, noStep}
-use Rattle.extract_divisor.specs.declared.Divisor.{Divisor}
-use Rattle.extract_divisor.specs.declared.Step.{Step}
+use Rattle.extract_laws.specs.{Extract.weight, Extract.better, Run.weighing}
+use Rattle.extract_divisor.specs.{Divisor.weighedOf, Divisor.noStep, declared.Divisor.Divisor, declared.Step.Step}
 
 -- ---- judging
 

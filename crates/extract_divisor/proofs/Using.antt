@@ -1,8 +1,6 @@
 -- In cube order the test of a use finds the uses: halving finds a cube where it is one of them. Assumes nothing.
 use Prim.Native.Nat.{ℕ}
-use mathlib.Core.Path.{_≡_}
-use mathlib.Core.Bool.{true}
-use mathlib.Core.List.{List}
+use mathlib.Core.{Path._≡_, Bool.true, List.List}
 use Rattle.sets.specs.Sets.{union, without}
 use Rattle.expression.specs.Expression.{ordered}
 use Rattle.expression_survey.proofs.Searching.{find-has}

@@ -1,17 +1,14 @@
 -- Divisors and steps as values, and what the test of a use answers.
 use Prim.Native.Nat.{ℕ}
-use mathlib.Core.Bool.{Bool, _&&_}
-use mathlib.Core.List.{List}
+use mathlib.Core.{Bool.Bool, Bool._&&_, List.List}
 use lib.IntN.{pos}
 use Rattle.sets.specs.Lists.{isSome}
 use Rattle.sets.specs.Sets.{sub, apart, union, without}
 use Rattle.cube.specs.Cube.{lits}
 use Rattle.expression_survey.specs.Search.{findIn}
 use Rattle.extract_laws.specs.Divisor as divisor
-use Rattle.extract_laws.specs.Divisor.{pair, sum}
-use Rattle.extract_laws.specs.Run.{Weighed}
-use Rattle.extract_divisor.specs.declared.Divisor.{Divisor}
-use Rattle.extract_divisor.specs.declared.Divisor.the-variants.{Pair, Sum}
+use Rattle.extract_laws.specs.{Divisor.pair, Divisor.sum, Run.Weighed}
+use Rattle.extract_divisor.specs.declared.{Divisor.Divisor, Divisor.the-variants.Pair, Divisor.the-variants.Sum}
 use Rattle.extract_divisor.specs.declared.Step.{Step}
 
 -- the divisor that a value means

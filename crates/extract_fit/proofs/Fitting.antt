@@ -8,22 +8,15 @@ use native.Mathlib.Omega.{arith}
 use lib.Dec.{ltb}
 use lib.ListN.{length}
 use borrow.Author.Tests.{ltb-true, lt-ltb, le-ltb, ne-eqb}
-use Rattle.sets.specs.Literal.{oppositeOf}
+use Rattle.sets.{specs.Literal.oppositeOf, proofs.Lists._∈_, proofs.Lists.all-in, proofs.Sets.mem-of, proofs.Sets.proper-out}
 use Rattle.sets.specs.Sets.{mem, apart, asc, proper, readsBelow, before}
 use Rattle.sets.proofs.Truth.{both, iff, clash, refuted}
-use Rattle.sets.proofs.Lists.{_∈_, all-in}
-use Rattle.sets.proofs.Sets.{mem-of, proper-out}
-use Rattle.expression.specs.Expression.{expression}
-use Rattle.expression.proofs.Absorbing.{loose-in}
-use Rattle.network.specs.Net.{Net, variables}
-use Rattle.network.specs.Held.{reach}
-use Rattle.network.specs.Meaning.{Reads}
-use Rattle.network.proofs.Numbering.{reach-out, reach-in}
+use Rattle.expression.{specs.Expression.expression, proofs.Absorbing.loose-in}
+use Rattle.network.{specs.Net.Net, specs.Net.variables, specs.Held.reach, specs.Meaning.Reads, proofs.Numbering.reach-out, proofs.Numbering.reach-in}
 use Rattle.extract_laws.specs.Divisor.{Divisor, pair, sum, own, small, sound}
 use Rattle.extract_laws.specs.Meaning.{Fit}
 use Rattle.extract_laws.proofs.Using.{cube-proper, sum-parts, small-sub, apart-flip}
-use Rattle.extract_fit.specs.Fitness.{fitting}
-use Rattle.extract_fit.specs.Parts.{fitPart}
+use Rattle.extract_fit.specs.{Fitness.fitting, Parts.fitPart}
 
 -- ---- the test
 

@@ -1,7 +1,6 @@
 -- What the parts of the test promise each other.
 use Prim.Native.Nat.{ℕ}
-use mathlib.Core.Bool.{Bool, _&&_}
-use mathlib.Core.List.{List}
+use mathlib.Core.{Bool.Bool, Bool._&&_, List.List}
 use Rattle.sets.specs.Sets.{proper, readsBelow}
 use Rattle.extract_laws.specs.Divisor.{small}
 

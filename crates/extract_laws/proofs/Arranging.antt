@@ -1,27 +1,21 @@
 -- Putting a network's cubes in order keeps what it evaluates to and all else; once is enough, and after a step it changes nothing. Assumes nothing.
 use Prim.Native.Nat.{ℕ}
 use mathlib.Core.Path.{_≡_, refl, sym}
-use mathlib.Core.Logic.{inl, inr}
-use mathlib.Core.Bool.{true}
+use mathlib.Core.{Logic.inl, Logic.inr, Bool.true}
 use mathlib.Core.List.{List, [], _∷_, map, List·Memᴰ·not-nil, List·Memᴰ·append-cases}
 use native.Mathlib.Omega.{arith}
 use lib.ListN.{length}
-use Rattle.sets.specs.Sets.{without}
-use Rattle.sets.proofs.Lists.{_∈_, map-out}
-use Rattle.sets.proofs.Ordering.{before-asym}
+use Rattle.sets.{specs.Sets.without, proofs.Lists._∈_, proofs.Lists.map-out, proofs.Ordering.before-asym}
 use Rattle.expression.specs.Expression.{place, sort, ordered, literalsOf}
 use Rattle.expression.proofs.Sorting.{sort-in, sort-out, total-sort, sort-length, sort-sort, expression-sort}
 use Rattle.network.specs.Net.{Node, Net, nodes, variables, cubeCount, literalCount}
-use Rattle.network.specs.Evaluation.{evaluate}
+use Rattle.network.specs.{Evaluation.evaluate, Meaning.Along.end, Meaning.Along.on, Map.onNode}
 use Rattle.network.specs.Meaning.{SameCubes, Along, SameNode, Reordered}
-use Rattle.network.specs.Meaning.Along.{end, on}
-use Rattle.network.specs.Map.{onNode}
 use Rattle.network.proofs.Evaluating.{evaluate-order}
 use Rattle.network.proofs.Mapping.{mapped-nodes, mapped-node, mapped-outputs, mapped-divisors, mapped-total, mapped-good, mapped-fixed}
 use Rattle.extract_laws.specs.Divisor.{Divisor, pair, own, rewrite}
 use Rattle.extract_laws.specs.Extract.{gather, pairsIn, sumOf, sumsIn, candidates, step}
-use Rattle.extract_laws.specs.Run.{inOrder}
-use Rattle.extract_laws.specs.Meaning.{Good}
+use Rattle.extract_laws.specs.{Run.inOrder, Meaning.Good}
 use Rattle.extract_laws.proofs.Making.{step-node}
 use Rattle.extract_laws.proofs.Offering.{gather-out, sums-out, sum-of-out}
 

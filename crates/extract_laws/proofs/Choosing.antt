@@ -9,9 +9,8 @@ use lib.Dec.{ltb}
 use lib.IntN.{ℤ, pos, negsuc}
 use lib.Signed.{ltZ}
 use borrow.Author.Tests.{ltb-true, ltb-false, lt-ltb, le-ltb}
-use Rattle.sets.specs.Sets.{before}
+use Rattle.sets.{specs.Sets.before, proofs.Lists._∈_}
 use Rattle.sets.proofs.Truth.{neither, decided, clash}
-use Rattle.sets.proofs.Lists.{_∈_}
 use Rattle.sets.proofs.Orders.{Strict, asym, not-after, lex-true, lex-self, lex-trans, lex-linear, ltb-order, before-order}
 use Rattle.network.specs.Net.{Net}
 use Rattle.extract_laws.specs.Divisor.{Divisor, pair, sum}

@@ -4,17 +4,11 @@ use mathlib.Core.Path.{_≡_, ap, _∙_}
 use mathlib.Core.Bool.{true}
 use native.Mathlib.Omega.{arith}
 use lib.ListN.{length}
-use Rattle.network.specs.Net.{Net}
-use Rattle.network.specs.Evaluation.{evaluate}
+use Rattle.network.specs.{Net.Net, Evaluation.evaluate, Handed.Shaped, Handed.Holds, Answers.evaluated}
 use Rattle.network.specs.Held.{netOf, rules, mostInputs, mostOutputs}
-use Rattle.network.specs.Handed.{Shaped, Holds}
-use Rattle.network.specs.Answers.{evaluated}
-use Rattle.network.specs.declared.Network.{Network}
-use Rattle.network.specs.declared.Number.the-variants.{Is}
-use Rattle.network.proofs.Handing.{holds-net}
+use Rattle.network.{specs.declared.Network.Network, specs.declared.Number.the-variants.Is, proofs.Handing.holds-net}
 use Rattle.network.proofs.Ruling.{rules-lawful, holds-lawful}
-use Rattle.extract_laws.specs.Run.{run}
-use Rattle.extract_laws.specs.Meaning.{Good, Within}
+use Rattle.extract_laws.specs.{Run.run, Meaning.Good, Meaning.Within}
 use Rattle.extract_laws.proofs.Keeping.{run-inputs, run-outputs, run-good, run-within, run-evaluate}
 
 module _ (n : Network) (shape : Shaped n) (r : rules n ≡ true) where

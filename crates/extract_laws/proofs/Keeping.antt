@@ -2,8 +2,7 @@
 -- the weights. Assumes nothing.
 use Prim.Native.Nat.{ℕ, _+_, _≤_, max}
 use mathlib.Core.Path.{_≡_, refl, sym, ap, _∙_, subst}
-use mathlib.Core.Logic.{inl, inr}
-use mathlib.Core.Bool.{true}
+use mathlib.Core.{Logic.inl, Logic.inr, Bool.true}
 use mathlib.Core.List.{List, [], _∷_, List·Memᴰ·not-nil, List·Memᴰ·cases-cons}
 use native.Mathlib.Omega.{arith}
 use lib.ListN.{length, length-map}
@@ -11,17 +10,12 @@ use lib.IntN.{pos, negℤ, _+ℤ_, _-ℤ_, +ℤ-idr, +ℤ-assoc, negℤ-+ℤ}
 use Rattle.sets.proofs.Lists.{_∈_}
 use Rattle.expression.specs.Expression.{ordered}
 use Rattle.network.specs.Net.{Net, nodes, variables, cubeCount, literalCount}
-use Rattle.network.specs.Evaluation.{evaluate}
-use Rattle.network.specs.Held.{mostVariables, mostCubes}
-use Rattle.extract_laws.specs.Divisor.{Divisor}
-use Rattle.extract_laws.specs.Extract.{weight, step}
+use Rattle.network.specs.{Evaluation.evaluate, Held.mostVariables, Held.mostCubes}
+use Rattle.extract_laws.specs.{Divisor.Divisor, Extract.weight, Extract.step, Meaning.Leads.stay, Meaning.Leads.onward}
 use Rattle.extract_laws.specs.Run.{Made, making, prepare, inOrder, startOf, run}
 use Rattle.extract_laws.specs.Meaning.{Good, Within, Fit, Worth, Leads, StepOf, fall}
-use Rattle.extract_laws.specs.Meaning.Leads.{stay, onward}
-use Rattle.extract_laws.proofs.Weighing.{step-literals, step-smaller}
-use Rattle.extract_laws.proofs.Offering.{candidate-fit}
-use Rattle.extract_laws.proofs.Making.{step-variables}
-use Rattle.extract_laws.proofs.Stepping.{step-good, step-evaluate}
+use Rattle.extract_laws.proofs.{Weighing.step-literals, Weighing.step-smaller, Offering.candidate-fit}
+use Rattle.extract_laws.proofs.{Making.step-variables, Stepping.step-good, Stepping.step-evaluate}
 use Rattle.extract_laws.proofs.Arranging.{in-order-literals, in-order-cubes, in-order-inputs, in-order-outputs, in-order-variables}
 use Rattle.extract_laws.proofs.Arranging.{in-order-evaluate, in-order-good, in-order-ordered}
 use Rattle.extract_laws.proofs.Preparing.{prepare-same, prepare-keeps}

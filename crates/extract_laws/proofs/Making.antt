@@ -8,9 +8,7 @@ use lib.ListN.{length, length-append, length-map}
 use Rattle.sets.specs.Lists.{total}
 use Rattle.sets.proofs.Lists.{_∈_, total-append, total-map, map-out}
 use Rattle.network.specs.Net.{Node, Net, nodes, variables}
-use Rattle.network.specs.Meaning.{Reads}
-use Rattle.network.specs.Held.{numbered}
-use Rattle.network.specs.Rules.{InTurn}
+use Rattle.network.specs.{Meaning.Reads, Held.numbered, Rules.InTurn}
 use Rattle.network.proofs.Mapping.{cubes-map, numbered-map, mapped-nodes}
 use Rattle.extract_laws.specs.Divisor.{Divisor, own, rewrite}
 use Rattle.extract_laws.specs.Extract.{redo, nextFree, step}

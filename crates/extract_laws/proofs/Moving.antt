@@ -7,8 +7,7 @@ use lib.Dec.{ltb}
 use lib.IntN.{pos}
 use lib.Signed.{ltZ}
 use borrow.Author.Tests.{ltb-true, ltb-false, lt-ltb, le-ltb}
-use Rattle.sets.proofs.Truth.{clash}
-use Rattle.sets.proofs.Orders.{not-after}
+use Rattle.sets.proofs.{Truth.clash, Orders.not-after}
 use Rattle.network.specs.Net.{Net, variables, cubeCount}
 use Rattle.network.specs.Held.{mostVariables, mostCubes}
 use Rattle.extract_laws.specs.Divisor.{Divisor}

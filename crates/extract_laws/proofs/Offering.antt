@@ -9,12 +9,10 @@ use native.Mathlib.Omega.{arith}
 use lib.Dec.{ltb}
 use borrow.Author.Tests.{ltb-true, lt-ltb}
 use Rattle.sets.specs.Sets.{sub, apart, asc, without, before}
-use Rattle.sets.proofs.Truth.{both, decided}
+use Rattle.sets.proofs.{Truth.both, Truth.decided, Orders.before-order, Orders.asym}
 use Rattle.sets.proofs.Lists.{_∈_, map-in, map-out, ahead, all-out}
-use Rattle.sets.proofs.Orders.{before-order, asym}
 use Rattle.sets.proofs.Sets.{mem-of, union-right, without-asc, proper-sub}
-use Rattle.expression.specs.Expression.{expression}
-use Rattle.expression.proofs.Absorbing.{loose-in}
+use Rattle.expression.{specs.Expression.expression, proofs.Absorbing.loose-in}
 use Rattle.network.specs.Net.{Net, nodes}
 use Rattle.extract_laws.specs.Divisor.{Divisor, pair, sum, own, small, sound}
 use Rattle.extract_laws.specs.Extract.{gather, pairsIn, smallerFirst, sumOf, sumsIn, candidates}

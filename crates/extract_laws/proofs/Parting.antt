@@ -1,9 +1,8 @@
 -- Two cubes without their common literals: they are a use of the sum that they make, and the two cubes of a use make its sum. Assumes nothing.
 use Prim.Native.Nat.{ℕ}
 use mathlib.Core.Path.{_≡_, refl, sym, _∙_, subst}
-use mathlib.Core.Logic.{inl, inr}
+use mathlib.Core.{Logic.inl, Logic.inr, List.List}
 use mathlib.Core.Bool.{Bool, true, false, not, _&&_, _||_, and-comm}
-use mathlib.Core.List.{List}
 use borrow.Author.Tests.{not-true}
 use Rattle.sets.specs.Sets.{mem, sub, apart, asc, without, meet}
 use Rattle.sets.proofs.Truth.{both, decided, clash}

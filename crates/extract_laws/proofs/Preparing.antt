@@ -2,8 +2,7 @@
 use mathlib.Core.Path.{_≡_, refl}
 use native.Mathlib.Omega.{arith}
 use Rattle.network.specs.Net.{Net}
-use Rattle.extract_laws.specs.Run.{prepare}
-use Rattle.extract_laws.specs.Meaning.{Prepares}
+use Rattle.extract_laws.specs.{Run.prepare, Meaning.Prepares}
 
 pub prepare-same : (n : Net) → prepare n ≡ n
 unfolding prepare

@@ -3,18 +3,14 @@
 use Prim.Native.Nat.{ℕ, _*_, _<_}
 use mathlib.Core.Path.{_≡_, refl, sym, ap, subst}
 use mathlib.Core.Logic.{_⊎_, inl, inr}
-use mathlib.Core.Bool.{true}
-use mathlib.Core.List.{List, map}
+use mathlib.Core.{Bool.true, List.List, List.map}
 use native.Mathlib.Omega.{arith}
 use lib.ListN.{length-map}
 use Rattle.sets.proofs.Lists.{_∈_}
-use Rattle.network.specs.Net.{Node, Net}
-use Rattle.network.specs.Meaning.{Reads, Through}
-use Rattle.network.specs.Meaning.Through.{itself, others}
+use Rattle.network.specs.{Net.Node, Net.Net, Meaning.Reads, Meaning.Through, Meaning.Through.itself, Meaning.Through.others}
 use Rattle.network.proofs.Numbering.{in-divisor, numbered-range}
 use Rattle.extract_laws.specs.Divisor.{Divisor, own, hit}
-use Rattle.extract_laws.specs.Extract.{nextFree, step}
-use Rattle.extract_laws.specs.Meaning.{Good, Fit}
+use Rattle.extract_laws.specs.{Extract.nextFree, Extract.step, Meaning.Good, Meaning.Fit}
 use Rattle.extract_laws.proofs.Replacing.{rewrite-reads, own-reads}
 use Rattle.extract_laws.proofs.Making.{next-free, below-free, step-divisor}
 

@@ -10,17 +10,15 @@ use native.Mathlib.Omega.{arith}
 use lib.Dec.{eqb}
 use borrow.Author.Tests.{not-true, eqb-true, eq-eqb}
 use Rattle.sets.specs.Lists.{all, keep, pairwise}
-use Rattle.sets.specs.Literal.{oppositeOf}
+use Rattle.sets.{specs.Literal.oppositeOf, proofs.Lists.pairwise-append, proofs.Lists.pairwise-map}
 use Rattle.sets.specs.Sets.{mem, sub, insert, without, same}
 use Rattle.sets.proofs.Truth.{iff, both, together, either, decided, clash, refuted}
 use Rattle.sets.proofs.Lists.{_∈_, any-in, any-out, all-in, keep-in, keep-out, map-in, map-out, pairwise-keep, pairwise-out, pairwise-imp}
-use Rattle.sets.proofs.Lists.{pairwise-append, pairwise-map}
 use Rattle.sets.proofs.Sets.{mem-of, of-mem, sub-in, sub-out, insert-mem, union-mem, without-mem, insert-asc, without-asc, insert-all, union-all}
 use Rattle.sets.proofs.Sets.{all-rejoin, proper-in, proper-out}
 use Rattle.expression.specs.Expression.{isCube, loose, expression, ordered}
-use Rattle.expression.specs.Value.{value}
+use Rattle.expression.{specs.Value.value, proofs.Absorbing.loose-in, proofs.Absorbing.loose-out}
 use Rattle.expression.proofs.Sorting.{sort-in, sort-out, pairwise-sort, sort-ordered, loose-flip, loose-differ}
-use Rattle.expression.proofs.Absorbing.{loose-in, loose-out}
 use Rattle.network.specs.Meaning.{Reads}
 use Rattle.extract_laws.specs.Divisor.{Divisor, pair, sum, own, sound, useOf, part, hit, gone, found, bases, swap, rewrite}
 use Rattle.extract_laws.specs.Meaning.{other, InUse}

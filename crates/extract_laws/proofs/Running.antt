@@ -7,16 +7,13 @@ use native.Mathlib.Omega.{arith}
 use native.Mathlib.Nat.{zero-add, suc-add, add-zero}
 use lib.ListN.{length}
 use Rattle.network.specs.Net.{Net}
-use Rattle.extract_laws.specs.Divisor.{Divisor}
-use Rattle.extract_laws.specs.Extract.{step}
+use Rattle.extract_laws.specs.{Divisor.Divisor, Extract.step, Meaning.Leads.stay, Meaning.Leads.onward}
 use Rattle.extract_laws.specs.Run.{Stop, done, numbers, rows, Made, Result, Move, finished, stuck, makes, moveOf, ended, making, prepare, runFrom}
 use Rattle.extract_laws.specs.Run.{inOrder, startOf, run}
 use Rattle.extract_laws.specs.Meaning.{Allows, Leads, Ends}
 use Rattle.extract_laws.specs.Meaning.Allows.{nothing, noNumber, noRows, next}
-use Rattle.extract_laws.specs.Meaning.Leads.{stay, onward}
 use Rattle.extract_laws.specs.Meaning.Ends.{isDone, isAsked, isNumbers, isRows}
-use Rattle.extract_laws.proofs.Arranging.{in-order-once, step-arranged}
-use Rattle.extract_laws.proofs.Moving.{worth-done, move-iff}
+use Rattle.extract_laws.proofs.{Arranging.in-order-once, Arranging.step-arranged, Moving.worth-done, Moving.move-iff}
 use Rattle.extract_laws.proofs.Preparing.{prepare-keeps}
 
 -- ---- a run from a network that is prepared, step by step

@@ -1,29 +1,21 @@
 -- A step from a good network leads to a good one, with its cubes in order, and keeps what the network evaluates to. Assumes nothing.
 use Prim.Native.Nat.{ℕ, _*_}
 use mathlib.Core.Path.{_≡_, refl, sym, ap, _∙_, subst}
-use mathlib.Core.Logic.{inl, inr}
-use mathlib.Core.Bool.{Bool, true}
+use mathlib.Core.{Logic.inl, Logic.inr, Bool.Bool, Bool.true}
 use mathlib.Core.List.{List, map, List·Memᴰ·head as here, Memᴰ·append-left, Memᴰ·append-right}
 use native.Mathlib.Omega.{arith}
-use Rattle.sets.specs.Masks.{bit, packed}
-use Rattle.sets.proofs.Lists.{_∈_}
-use Rattle.expression.specs.Expression.{ordered}
-use Rattle.expression.specs.Value.{lit, value}
-use Rattle.expression.proofs.Values.{lit-plain}
-use Rattle.network.specs.Net.{Net, nodes}
-use Rattle.network.specs.Listing.{listing}
-use Rattle.network.specs.Evaluation.{settle, evaluate}
+use Rattle.sets.{specs.Masks.bit, specs.Masks.packed, proofs.Lists._∈_}
+use Rattle.expression.{specs.Expression.ordered, specs.Value.lit, specs.Value.value, proofs.Values.lit-plain}
+use Rattle.network.specs.{Net.Net, Net.nodes, Listing.listing, Evaluation.settle, Evaluation.evaluate}
 use Rattle.network.specs.Meaning.{Reads, Consistent}
 use Rattle.network.proofs.Evaluating.{evaluate-settled, evaluate-read}
-use Rattle.network.proofs.Listings.{good-sound}
-use Rattle.network.proofs.Mapping.{mapped-consistent, mapped-answers}
+use Rattle.network.proofs.{Listings.good-sound, Mapping.mapped-consistent, Mapping.mapped-answers}
 use Rattle.extract_laws.specs.Divisor.{Divisor, pair, sum, own, sound, rewrite}
 use Rattle.extract_laws.specs.Extract.{redo, nextFree, step}
 use Rattle.extract_laws.specs.Meaning.{Good, Fit}
-use Rattle.extract_laws.proofs.Using.{sum-parts}
+use Rattle.extract_laws.proofs.{Using.sum-parts, Reading.step-acyclic}
 use Rattle.extract_laws.proofs.Replacing.{rewrite-value, rewrite-expression, rewrite-ordered, rewrite-reads}
 use Rattle.extract_laws.proofs.Making.{next-free, below-free, step-node, step-variables, step-turn}
-use Rattle.extract_laws.proofs.Reading.{step-acyclic}
 
 own-ordered : (d : Divisor) → sound d ≡ true → ordered (own d) ≡ true
 own-ordered (pair p q) s = refl

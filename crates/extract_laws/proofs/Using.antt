@@ -12,8 +12,7 @@ use Rattle.sets.proofs.Lists.{_∈_, all-out, keep-in, keep-out, map-in, map-ou
 use Rattle.sets.proofs.Sets.{mem-of, sub-out, apart-in, apart-out, union-mem, union-right, without-mem, without-asc, without-apart, rejoin, unjoin}
 use Rattle.sets.proofs.Sets.{same-eq, eq-same}
 use Rattle.expression.specs.Expression.{isCube, loose, expression, has}
-use Rattle.expression.proofs.Members.{has-in, has-out}
-use Rattle.expression.proofs.Sorting.{loose-differ}
+use Rattle.expression.proofs.{Members.has-in, Members.has-out, Sorting.loose-differ}
 use Rattle.extract_laws.specs.Divisor.{Divisor, pair, sum, small, sound, useOf, part, hit, gone, found, bases}
 use Rattle.extract_laws.specs.Meaning.{Parts, other, Use, Partner, Base, InUse}
 

@@ -16,16 +16,14 @@ use Rattle.sets.proofs.Truth.{both, clash}
 use Rattle.sets.proofs.Lists.{_∈_, keep-in, keep-out, map-in, map-out, total-append, total-map, total-const, total-sum, total-times, total-split}
 use Rattle.sets.proofs.Lists.{total-or, total-same, pairwise-keep, pairwise-map}
 use Rattle.sets.proofs.Sets.{without-mem, without-asc, insert-length, union-length, length-rejoin, same-self}
-use Rattle.expression.specs.Expression.{expression, literalsOf}
-use Rattle.expression.proofs.Sorting.{total-sort}
+use Rattle.expression.{specs.Expression.expression, specs.Expression.literalsOf, proofs.Sorting.total-sort}
 use Rattle.network.specs.Net.{Net, nodes, literalCount}
 use Rattle.network.specs.Meaning.{Reads}
 use Rattle.extract_laws.specs.Divisor.{Divisor, pair, sum, own, small, sound, useOf, part, hit, gone, found, bases, uses, swap, rewrite}
 use Rattle.extract_laws.specs.Extract.{nextFree, step, allUses, basesLiterals, weight}
 use Rattle.extract_laws.specs.Meaning.{Good, Parts, other, Partner}
 use Rattle.extract_laws.proofs.Using.{cube-asc, cubes-differ, differ-in, differ-out, sum-parts, part-asc, use-out, use-partner, hit-inside, use-one-way}
-use Rattle.extract_laws.proofs.Replacing.{new-absent}
-use Rattle.extract_laws.proofs.Making.{below-free, step-total}
+use Rattle.extract_laws.proofs.{Replacing.new-absent, Making.below-free, Making.step-total}
 
 -- ---- sums over the cubes of a rewriting
 

@@ -1,8 +1,6 @@
 -- What the laws of extraction speak of: uses and bases, the best divisor, what a network allows, and how a run goes.
 use Prim.Native.Nat.{ℕ, _<_, _≤_}
-use mathlib.Core.Path.{_≡_}
-use mathlib.Core.Logic.{_⊎_}
-use mathlib.Core.Bool.{true, false}
+use mathlib.Core.{Path._≡_, Logic._⊎_, Bool.true, Bool.false}
 use mathlib.Core.List.{List, [], _∷_, _++_, List·Memᴰ}
 use lib.IntN.{ℤ, pos, _+ℤ_, _-ℤ_}
 use lib.Signed.{ltZ}
@@ -10,9 +8,7 @@ use lib.ListN.{length}
 use Rattle.sets.specs.Sets.{mem, sub, apart, asc, union, without, meet, before}
 use Rattle.expression.specs.Expression.{expression}
 use Rattle.network.specs.Net.{Net, nodes, variables, cubeCount, literalCount}
-use Rattle.network.specs.Evaluation.{evaluate}
-use Rattle.network.specs.Meaning.{Reads}
-use Rattle.network.specs.Held.{mostVariables, mostCubes}
+use Rattle.network.specs.{Evaluation.evaluate, Meaning.Reads, Held.mostVariables, Held.mostCubes}
 pub use Rattle.network.specs.Rules.{Good, Within}
 use Rattle.extract_laws.specs.Divisor.{Divisor, pair, sum, own, small, sound, useOf, hit}
 use Rattle.extract_laws.specs.Extract.{weight, candidates, sooner, step}

@@ -8,8 +8,7 @@ use lib.IntN.{ℤ, pos}
 use lib.Signed.{ltZ}
 use Rattle.expression.specs.Expression.{sort}
 use Rattle.network.specs.Net.{Net, variables, cubeCount, literalCount}
-use Rattle.network.specs.Map.{mapNodes}
-use Rattle.network.specs.Held.{mostVariables, mostCubes}
+use Rattle.network.specs.{Map.mapNodes, Held.mostVariables, Held.mostCubes}
 use Rattle.extract_laws.specs.Divisor.{Divisor}
 use Rattle.extract_laws.specs.Extract.{allUses, weight, best, nextFree, step}
 

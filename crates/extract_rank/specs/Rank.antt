@@ -4,8 +4,7 @@ use lib.IntN.{ℤ, pos}
 use lib.Signed.{ltZ}
 use Rattle.sets.specs.Sets.{lex}
 use Rattle.extract_laws.specs.Extract.{sooner}
-use Rattle.extract_divisor.specs.Divisor.{divisorOf}
-use Rattle.extract_divisor.specs.declared.Step.{Step}
+use Rattle.extract_divisor.specs.{Divisor.divisorOf, declared.Step.Step}
 
 -- the weight w is above 0, and greater than x, or the same and b
 unfoldable pub outweighs : ℤ → ℤ → Bool → Bool

@@ -10,33 +10,26 @@ use lib.ListN.{length, take as front, drop, set, replicate, length-append, lengt
 use borrow.Author.Tests.{ltb-false, lt-ltb, le-ltb}
 use Rattle.sets.specs.Lists.{all, total}
 use Rattle.sets.proofs.Lists.{total-append, total-map}
-use Rattle.expression.specs.Expression.{ordered, literalsOf}
-use Rattle.expression.specs.Words.{cubesOf, Appends}
-use Rattle.expression.specs.Answers.{capped}
+use Rattle.expression.specs.{Expression.ordered, Expression.literalsOf, Words.cubesOf, Words.Appends, Answers.capped}
 use Rattle.network.specs.Net.{Net, nodes, variables, cubeCount, literalCount}
 use Rattle.network.specs.Held.{netOf, mostVariables, mostCubes, mostLiterals}
 use Rattle.network.specs.Handed.{flat, cubeSlots, Shaped, LaidNodes, Holds}
 use Rattle.network.specs.Parts.{nodesOf, heldIn, netAt, Limited}
-use Rattle.network.specs.declared.Network.{Network}
+use Rattle.network.{specs.declared.Network.Network, proofs.Laying.laid-next, proofs.Laying.laid-holds, proofs.Parts.nodes-length}
 use Rattle.network.proofs.Holding.{nodes-held, outputs-held, divisors-held}
 use Rattle.network_nodes.proofs.Cutting.{cut-total}
 use Rattle.network.proofs.Handing.{Typed, cut-flat, holds-one, blank-one}
-use Rattle.network.proofs.Laying.{laid-next, laid-holds}
-use Rattle.network.proofs.Parts.{nodes-length}
 use Rattle.extract_laws.specs.Divisor.{own, rewrite}
 use Rattle.extract_laws.specs.Divisor as divisor
 use Rattle.extract_laws.specs.Extract.{redo, nextFree, step}
 use Rattle.extract_laws.specs.Run.{Move, finished, stuck, makes, roomFor, done, asked, numbers, rows}
 use Rattle.extract_laws.proofs.Making.{next-free, step-nodes}
-use Rattle.extract_tidy.specs.Tidy.{arranged}
-use Rattle.extract_tidy.proofs.Arranged.{arranged-parts, arranged-sized}
+use Rattle.extract_tidy.{specs.Tidy.arranged, proofs.Arranged.arranged-parts, proofs.Arranged.arranged-sized}
 use Rattle.extract_tidy.proofs.Laid.{limited-room, nodes-few}
-use Rattle.extract_divisor.specs.Divisor.{divisorOf}
-use Rattle.extract_divisor.specs.declared.Divisor.{Divisor}
+use Rattle.extract_divisor.specs.{Divisor.divisorOf, declared.Divisor.Divisor}
 use Rattle.extract_step.specs.Replace.{allowed, outcomeOf, Zeros, Stepped}
-use Rattle.extract_step.specs.Parts.{SourceNodes, Ready}
+use Rattle.extract_step.specs.{Parts.SourceNodes, Parts.Ready, declared.Next.Next}
 use Rattle.extract_step.proofs.Becoming.{rewrite-length}
-use Rattle.extract_step.specs.declared.Next.{Next}
 
 -- ---- the network of a step, from the nodes laid
 

@@ -8,8 +8,7 @@ use native.Mathlib.Numerals.{add-one}
 use native.Mathlib.Omega.{arith}
 use lib.ListN.{length, getD, take, length-take}
 use lib.Seq.{take-suc}
-use Rattle.sets.specs.Lists.{keep}
-use Rattle.sets.proofs.Truth.{clash}
+use Rattle.sets.{specs.Lists.keep, proofs.Truth.clash}
 use Rattle.expression.specs.Expression.{place, sort}
 use Rattle.expression.proofs.Sorting.{sort-length, sort-middle}
 use Rattle.extract_laws.specs.Divisor.{Divisor, part, hit, gone, swap, rewrite}

@@ -7,31 +7,20 @@ use native.Mathlib.Omega.{arith}
 use lib.Dec.{ltb}
 use lib.ListN.{length-map}
 use borrow.Author.Tests.{ltb-true, ltb-false}
-use Rattle.sets.proofs.Truth.{both}
-use Rattle.sets.proofs.Lists.{_∈_}
+use Rattle.sets.proofs.{Truth.both, Lists._∈_}
 use Rattle.network.specs.Net.{Net, nodes, variables, cubeCount, literalCount}
 use Rattle.network.specs.Held.{netOf, rules, mostVariables, mostCubes, mostLiterals}
-use Rattle.network.specs.Handed.{Shaped}
-use Rattle.network.specs.declared.Network.{Network}
-use Rattle.network.proofs.Ruling.{rules-lawful}
-use Rattle.network.proofs.Handing.{holds-net}
+use Rattle.network.{specs.Handed.Shaped, specs.declared.Network.Network, proofs.Ruling.rules-lawful, proofs.Handing.holds-net}
 use Rattle.extract_laws.specs.Divisor as divisor
-use Rattle.extract_laws.specs.Divisor.{rewrite}
-use Rattle.extract_laws.specs.Extract.{nextFree, step}
+use Rattle.extract_laws.specs.{Divisor.rewrite, Extract.nextFree, Extract.step, Meaning.Good, Meaning.Fit}
 use Rattle.extract_laws.specs.Run.{roomFor, stuck, makes, numbers, rows}
-use Rattle.extract_laws.specs.Meaning.{Good, Fit}
-use Rattle.extract_laws.proofs.Making.{step-variables}
-use Rattle.extract_laws.proofs.Stepping.{step-good, step-ordered}
+use Rattle.extract_laws.proofs.{Making.step-variables, Stepping.step-good, Stepping.step-ordered}
 use Rattle.extract_laws.proofs.Following.{rules-good, holds-rules}
-use Rattle.extract_tidy.specs.Tidy.{arranged}
-use Rattle.extract_tidy.proofs.Arranged.{arranged-in}
-use Rattle.extract_divisor.specs.Divisor.{divisorOf}
-use Rattle.extract_divisor.specs.declared.Divisor.{Divisor}
-use Rattle.extract_fit.specs.Fitness.{fitting}
+use Rattle.extract_tidy.{specs.Tidy.arranged, proofs.Arranged.arranged-in}
+use Rattle.extract_divisor.specs.{Divisor.divisorOf, declared.Divisor.Divisor}
+use Rattle.extract_fit.{specs.Fitness.fitting, proofs.Fitting.fitting-iff}
 use Rattle.extract_step.specs.Replace.{allowed, outcomeOf, After, Stepped}
-use Rattle.extract_step.specs.declared.Outcome.the-variants.{Made}
-use Rattle.extract_step.specs.declared.Next.{Next}
-use Rattle.extract_fit.proofs.Fitting.{fitting-iff}
+use Rattle.extract_step.specs.declared.{Outcome.the-variants.Made, Next.Next}
 
 -- ---- what was made
 

@@ -1,23 +1,18 @@
 -- What the parts of a step promise each other.
 use Prim.Native.Nat.{ℕ, _+_, _*_, _<_}
-use mathlib.Core.Path.{_≡_}
-use mathlib.Core.Bool.{true, cond}
+use mathlib.Core.{Path._≡_, Bool.true, Bool.cond}
 use mathlib.Core.List.{List, [], _∷_}
 use mathlib.Core.Option.{Option, none, some}
 use Rattle.sets.specs.Lists.{all}
-use Rattle.cube.specs.Cube.{width, lits}
-use Rattle.cube.specs.declared.Literal.{Literal}
+use Rattle.cube.specs.{Cube.width, Cube.lits, declared.Literal.Literal}
 use Rattle.expression.specs.Expression.{ordered}
-use Rattle.network.specs.Held.{mostVariables}
-use Rattle.network.specs.Handed.{nodeSlots}
-use Rattle.network.specs.Parts.{nodesOf}
+use Rattle.network.specs.{Held.mostVariables, Handed.nodeSlots, Parts.nodesOf}
 use Rattle.extract_laws.specs.Divisor.{Divisor, part, hit, gone, swap}
 use Rattle.extract_tidy.specs.Parts.{Room}
 use Rattle.extract_divisor.specs.Divisor.{divisorOf}
 use Rattle.extract_divisor.specs.declared.Divisor as declared
 use Rattle.extract_fit.specs.Fitness.{fitting}
-use Rattle.extract_step.specs.declared.Remade.{Remade}
-use Rattle.extract_step.specs.declared.Remade.the-variants.{Becomes, Goes}
+use Rattle.extract_step.specs.declared.{Remade.Remade, Remade.the-variants.Becomes, Remade.the-variants.Goes}
 
 -- ---- the cubes of a node
 

@@ -1,18 +1,14 @@
 -- What a step answers.
-use mathlib.Core.Path.{_≡_}
-use mathlib.Core.Bool.{cond, _&&_}
+use mathlib.Core.{Path._≡_, Bool.cond, Bool._&&_}
 use mathlib.Core.Option.{Option, none, some}
 use lib.Dec.{ltb}
 use Rattle.network.specs.Net.{Net, variables, literalCount}
-use Rattle.network.specs.Held.{netOf, mostLiterals}
-use Rattle.network.specs.Handed.{Holds, AllZero}
-use Rattle.network.specs.declared.Network.{Network}
+use Rattle.network.specs.{Held.netOf, Held.mostLiterals, Handed.Holds, Handed.AllZero, declared.Network.Network}
 use Rattle.extract_laws.specs.Divisor as divisor
 use Rattle.extract_laws.specs.Extract.{nextFree, step}
 use Rattle.extract_laws.specs.Run.{Move, finished, stuck, makes, roomFor, done, asked, numbers, rows}
 use Rattle.extract_tidy.specs.Tidy.{arranged}
-use Rattle.extract_divisor.specs.Divisor.{divisorOf}
-use Rattle.extract_divisor.specs.declared.Divisor.{Divisor}
+use Rattle.extract_divisor.specs.{Divisor.divisorOf, declared.Divisor.Divisor}
 use Rattle.extract_fit.specs.Fitness.{fitting}
 use Rattle.extract_step.specs.declared.Outcome.the-variants.{Made, Numbers, Rows, Unfit}
 use Rattle.extract_step.specs.declared.Next.{Next}

@@ -3,17 +3,11 @@ use Prim.Native.Nat.{ℕ, _+_, _-_}
 use mathlib.Core.Path.{_≡_, sym, ap₂}
 use mathlib.Core.Bool.{Bool, true, _&&_}
 use mathlib.Core.List.{List}
-use Rattle.sets.specs.Lists.{all}
-use Rattle.sets.proofs.Truth.{both}
-use Rattle.sets.proofs.Lists.{_∈_, all-in}
+use Rattle.sets.{specs.Lists.all, proofs.Truth.both, proofs.Lists._∈_, proofs.Lists.all-in}
 use Rattle.expression.specs.Expression.{ordered}
-use Rattle.network.specs.Net.{nodes}
+use Rattle.network.specs.{Net.nodes, Handed.Shaped, Parts.nodesOf, Parts.Limited, declared.Network.Network}
 use Rattle.network.specs.Held.{netOf, sized, ruled, rules}
-use Rattle.network.specs.Handed.{Shaped}
-use Rattle.network.specs.Parts.{nodesOf, Limited}
-use Rattle.network.specs.declared.Network.{Network}
-use Rattle.network.proofs.Holding.{nodes-held}
-use Rattle.network.proofs.Limits.{sized-out}
+use Rattle.network.proofs.{Holding.nodes-held, Limits.sized-out}
 use Rattle.extract_tidy.specs.Tidy.{arranged}
 
 module _ (n : Network) where

@@ -6,22 +6,18 @@ use mathlib.Core.List.{List, [], _∷_, map}
 use native.Mathlib.Omega.{arith}
 use lib.ListN.{length, getD, take, drop, set, replicate, length-map, length-append, length-replicate}
 use lib.Seq.{take-all}
-use Rattle.sets.specs.Lists.{total}
+use Rattle.sets.{specs.Lists.total, proofs.Rows.take-next, proofs.Rows.getD-map}
 use Rattle.sets.proofs.Lists.{total-append, total-map, total-le, total-take-le}
-use Rattle.sets.proofs.Rows.{take-next, getD-map}
 use Rattle.expression.specs.Words.{cubesOf, Placed, fitting}
 use Rattle.expression.specs.Expression.{sort}
 use Rattle.expression.proofs.Placing.{placed-as, placed-fitting, placed-sort}
-use Rattle.network_nodes.specs.Nodes.{cut}
-use Rattle.network_nodes.proofs.Cutting.{cut-lengths}
+use Rattle.network_nodes.{specs.Nodes.cut, proofs.Cutting.cut-lengths}
 use Rattle.network.specs.Held.{used, netOf, rules}
 use Rattle.network.specs.Handed.{flat, cubeSlots, Shaped, LaidNodes, Holds}
 use Rattle.network.specs.Parts.{nodesOf, heldIn, Limited}
-use Rattle.network.specs.declared.Network.{Network}
+use Rattle.network.{specs.declared.Network.Network, proofs.Handing.flat-length, proofs.Parts.nodes-length, proofs.Parts.nodes-at}
 use Rattle.network.proofs.Holding.{nodes-held, rules-outputs, rules-divisors}
-use Rattle.network.proofs.Handing.{flat-length}
 use Rattle.network.proofs.Laying.{laid-more, laid-all, laid-holds}
-use Rattle.network.proofs.Parts.{nodes-length, nodes-at}
 use Rattle.extract_laws.specs.Run.{inOrder}
 use Rattle.extract_laws.proofs.Arranging.{in-order-nodes, in-order-inputs, in-order-outputs, in-order-divisors}
 use Rattle.extract_tidy.specs.Parts.{Room, Laid}

@@ -2,9 +2,7 @@
 use mathlib.Core.Bool.{Bool, _&&_}
 use Rattle.sets.specs.Lists.{all}
 use Rattle.expression.specs.Expression.{ordered}
-use Rattle.network.specs.Net.{nodes}
-use Rattle.network.specs.Held.{netOf, sized}
-use Rattle.network.specs.declared.Network.{Network}
+use Rattle.network.specs.{Net.nodes, Held.netOf, Held.sized, declared.Network.Network}
 
 -- within the limits, and each node in cube order
 unfoldable pub arranged : Network → Bool

@@ -7,11 +7,8 @@ use lib.ListN.{length, take, drop}
 use lib.Seq.{take-all}
 use Rattle.expression.specs.Words.{cubesOf, Placed, fitting}
 use Rattle.expression.proofs.Placing.{placed-as, placed-span, placed-sort, placed-fitting}
-use Rattle.expression.specs.Expression.{sort}
-use Rattle.expression.proofs.Sorting.{sort-length, total-sort}
-use Rattle.factor.specs.Form.{formBy}
-use Rattle.factor.specs.Text.{formText, textOf}
-use Rattle.factor.specs.Parts.{cubesFrom, writtenSum}
+use Rattle.expression.{specs.Expression.sort, proofs.Sorting.sort-length, proofs.Sorting.total-sort}
+use Rattle.factor.specs.{Form.formBy, Text.formText, Text.textOf, Parts.cubesFrom, Parts.writtenSum}
 
 -- ---- the cubes copied and sorted
 

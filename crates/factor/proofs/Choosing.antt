@@ -2,14 +2,12 @@
 use Prim.Native.Nat.{ℕ, zero, suc, _+_, _-_, _*_, _<_, _≤_}
 use mathlib.Core.Path.{_≡_, refl, _∙_, ap, ap₂, subst}
 use mathlib.Core.Bool.{Bool, true, false, cond}
-use mathlib.Core.List.{List, _∷_}
-use mathlib.Core.Logic.{inl, inr}
+use mathlib.Core.{List.List, List._∷_, Logic.inl, Logic.inr}
 use native.Mathlib.Omega.{arith}
 use native.Mathlib.Nat.{eq-or-lt-of-le}
 use lib.Dec.{ltb}
 use borrow.Author.Tests.{lt-ltb, le-ltb, ltb-true, ltb-false}
-use Rattle.sets.specs.Sets.{mem}
-use Rattle.sets.proofs.Truth.{decided}
+use Rattle.sets.{specs.Sets.mem, proofs.Truth.decided}
 use Rattle.cube.specs.Cube.{width}
 use Rattle.factor.specs.Form.{usedIn, most, mostUsed}
 use Rattle.expression.specs.Expression.{Cubes}

@@ -9,17 +9,14 @@ use lib.Dec.{ltb}
 use lib.ListN.{length}
 use borrow.Author.Tests.{ne-eqb, ltb-true, ltb-false}
 use Rattle.sets.specs.Lists.{all, keep, pairwise, isNil}
-use Rattle.sets.specs.Literal.{oppositeOf}
+use Rattle.sets.{specs.Literal.oppositeOf, proofs.Orders.before-order, proofs.Removal.before-removed}
 use Rattle.sets.specs.Sets.{mem, sub, proper, without, before}
 use Rattle.sets.proofs.Truth.{both, clash, decided}
 use Rattle.sets.proofs.Lists.{_∈_, keep-out, pairwise-keep, pairwise-out, pairwise-map}
-use Rattle.sets.proofs.Orders.{before-order}
-use Rattle.sets.proofs.Removal.{before-removed}
 use Rattle.expression.specs.Expression.{Cubes, isCube, loose, expression, sort, ordered, literalsOf}
 use Rattle.expression.proofs.Absorbing.{loose-out}
 use Rattle.expression.proofs.Sorting.{loose-flip, ordered-sort, expression-sort, total-sort}
-use Rattle.division.specs.Division.{quotient, remainder}
-use Rattle.division.proofs.Quotients.{cube-asc}
+use Rattle.division.{specs.Division.quotient, specs.Division.remainder, proofs.Quotients.cube-asc}
 use Rattle.division.proofs.Dividing.{quotient-expression, remainder-expression, quotient-cube, remainder-cube}
 use Rattle.factor.specs.Form.{usedIn, mostUsed, dividedBy, rest, Form, formBy, formOf}
 use Rattle.factor.specs.Meaning.{alone, Divisible, Picked, Divided}

@@ -8,11 +8,8 @@ use native.Mathlib.Omega.{arith}
 use lib.Dec.{ltb}
 use lib.ListN.{length}
 use borrow.Author.Tests.{lt-ltb, le-ltb, ltb-true, ltb-false}
-use Rattle.sets.specs.Lists.{keep, isNil}
-use Rattle.sets.specs.Sets.{mem, without}
-use Rattle.sets.proofs.Truth.{decided}
+use Rattle.sets.{specs.Lists.keep, specs.Lists.isNil, specs.Sets.mem, specs.Sets.without, proofs.Truth.decided, proofs.Sets.of-mem, proofs.Sets.mem-head}
 use Rattle.sets.proofs.Lists.{all-in, keep-all, keep-fewer}
-use Rattle.sets.proofs.Sets.{of-mem, mem-head}
 use Rattle.expression.specs.Expression.{Cubes, literalsOf}
 use Rattle.factor.specs.Form.{usedIn, mostUsed, dividedBy, rest, Form, sum, times, plus, formBy}
 

@@ -9,12 +9,10 @@ use native.Mathlib.Omega.{arith}
 use lib.ListN.{length, getD, take, drop, set}
 use lib.Seq.{slice, slice-empty, slice-cons, take-suc, drop-append-le, length-take-le, drop-set-lt, drop-drop, getD-drop, take-take}
 use lib.Seq.{take-at, drop-at, take-nil}
-use Rattle.sets.specs.Lists.{keep, isNil}
+use Rattle.sets.{specs.Lists.keep, specs.Lists.isNil, proofs.Lists.keep-append, proofs.Rows.take-store}
 use borrow.Author.Tests.{lt-ltb}
 use Rattle.sets.specs.Sets.{mem, without, insert}
 use Rattle.cube.specs.Cube.{joined, width}
-use Rattle.sets.proofs.Lists.{keep-append}
-use Rattle.sets.proofs.Rows.{take-store}
 use Rattle.expression.specs.Words.{cubesOf, Placed, fitting}
 use Rattle.expression.proofs.Placing.{placed-as, placed-before, placed-after, placed-span, placed-fitting}
 use Rattle.factor.specs.Form.{dividedBy, rest}

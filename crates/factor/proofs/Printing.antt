@@ -2,8 +2,7 @@
 use Prim.Native.Nat.{ℕ}
 use mathlib.Core.Path.{_≡_, refl, ap}
 use mathlib.Core.List.{List, [], _∷_, _++_, map}
-use Rattle.letters_products.specs.Products.{literalText, cubeText}
-use Rattle.letters_products.specs.Spelled.{spelled, between}
+use Rattle.letters_products.specs.{Products.literalText, Products.cubeText, Spelled.spelled, Spelled.between}
 use Rattle.factor.specs.Form.{Form, sum, times, plus}
 use Rattle.factor.specs.Text.{sumText, formText}
 

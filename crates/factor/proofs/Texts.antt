@@ -4,8 +4,7 @@ use mathlib.Core.Path.{_≡_, refl, sym, _∙_, ap}
 use mathlib.Core.List.{List, [], _∷_, _++_, append-nil}
 use Rattle.letters_products.specs.Products.{cubeText}
 use Rattle.expression.specs.Expression.{place, sort}
-use Rattle.factor.specs.Form.{formBy, formOf}
-use Rattle.factor.specs.Text.{sumText, formText}
+use Rattle.factor.specs.{Form.formBy, Form.formOf, Text.sumText, Text.formText}
 
 module _ {A : Type 0} (text : A → List ℕ) (b : ℕ) where
   -- a byte and a text, for each

@@ -5,13 +5,11 @@ use mathlib.Core.Bool.{true, false, true≢false, false≢true}
 use mathlib.Core.List.{List, [], _∷_, _++_, append-assoc, append-nil}
 use mathlib.Core.Logic.{inl, inr}
 use native.Mathlib.Omega.{arith}
-use Rattle.sets.specs.Lists.{isNil}
-use Rattle.sets.proofs.Truth.{decided}
+use Rattle.sets.{specs.Lists.isNil, proofs.Truth.decided}
 use Rattle.letters_products.specs.Products.{literalText}
 use Rattle.expression.specs.Expression.{Cubes, literalsOf}
 use Rattle.factor.specs.Form.{usedIn, mostUsed, dividedBy, rest, formBy}
-use Rattle.factor.specs.Text.{sumText, formText}
-use Rattle.factor.specs.Parts.{writtenSum, productOf}
+use Rattle.factor.specs.{Text.sumText, Text.formText, Parts.writtenSum, Parts.productOf}
 use Rattle.factor.proofs.Falling.{literals-fall, dividedBy-less, rest-less, form-plain, form-times, form-plus, form-enough}
 
 -- ---- the text of a sum, case by case

@@ -1,7 +1,6 @@
 -- What the laws of the form speak of: each level of it is a weak division.
 use Prim.Native.Nat.{ℕ, _<_, _≤_}
-use mathlib.Core.Path.{_≡_}
-use mathlib.Core.Bool.{true, false}
+use mathlib.Core.{Path._≡_, Bool.true, Bool.false}
 use mathlib.Core.List.{List, [], _∷_}
 use Rattle.sets.specs.Lists.{isNil}
 use Rattle.expression.specs.Expression.{expression, ordered}

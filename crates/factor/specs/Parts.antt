@@ -6,8 +6,7 @@ use lib.ListN.{length, take, drop}
 use lib.Seq.{slice}
 use Rattle.letters_products.specs.Products.{literalText}
 use Rattle.letters.specs.Laid.{Laid}
-use Rattle.expression.specs.Words.{cubesOf}
-use Rattle.expression.specs.Expression.{literalsOf}
+use Rattle.expression.specs.{Words.cubesOf, Expression.literalsOf}
 use Rattle.factor.specs.Form.{dividedBy, rest, formBy}
 use Rattle.factor.specs.Text.{formText}
 

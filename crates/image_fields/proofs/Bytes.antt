@@ -11,10 +11,7 @@ use lib.Dec.{ltb}
 use lib.ListN.{length, getD, take, drop, set, replicate, length-append, length-take, length-drop, length-replicate, take-append-drop}
 use lib.ListN.{drop-of-length-le, replicate-append-replicate, List·getD-append}
 use lib.Seq.{take-append-le, drop-append-le, take-at, drop-at, take-all, getD-append-add, getD-drop, getD-at, set-at}
-use Rattle.sets.specs.Masks.{bit}
-use Rattle.sets.proofs.Truth.{decided}
-use Rattle.sets.proofs.Lists.{_∈_}
-use Rattle.sets.proofs.Digits.{bit-none}
+use Rattle.sets.{specs.Masks.bit, proofs.Truth.decided, proofs.Lists._∈_, proofs.Digits.bit-none}
 use Rattle.image_fields.specs.Fields.{bitsOf, valueOf, bytesFor, bytesFrom, bytesOf, bitsIn}
 use Rattle.image_fields.proofs.Bits.{bits-length, value-lt, value-bits, bits-value, value-append, value-take, value-none, value-zeros, bits-at}
 

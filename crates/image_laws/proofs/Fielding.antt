@@ -5,8 +5,7 @@ use mathlib.Core.Bool.{Bool}
 use mathlib.Core.List.{List, [], _∷_, _++_, map, append-assoc}
 use native.Mathlib.Omega.{arith}
 use lib.ListN.{length, length-append}
-use Rattle.sets.specs.Lists.{total}
-use Rattle.sets.proofs.Lists.{total-append, map-map}
+use Rattle.sets.{specs.Lists.total, proofs.Lists.total-append, proofs.Lists.map-map}
 use Rattle.image_fields.specs.Fields.{Field, bitsOf, fieldBits}
 use Rattle.image_fields.proofs.Bits.{bits-length}
 use Rattle.expression.specs.Expression.{literalsOf}

@@ -17,14 +17,12 @@ use Rattle.sets.proofs.Lists.{_∈_, all-in, all-out, ahead, total-append, tota
 use Rattle.sets.proofs.Sets.{mem-of, of-mem, sub-in, proper-out, proper-sub}
 use Rattle.expression.specs.Expression.{isCube, loose, ordered, literalsOf}
 use Rattle.network.specs.Net.{Node, Net, nodes}
-use Rattle.network.specs.Meaning.{Reads}
+use Rattle.network.specs.{Meaning.Reads, Rules.Lawful}
 use Rattle.network.specs.Held.{numbered, reach, mostCubes, mostLiterals}
-use Rattle.network.specs.Rules.{Lawful}
 use Rattle.network.proofs.Numbering.{numbered-length, numbered-cubes, reach-in, reach-out}
 use Rattle.image_laws.specs.Reading.{Raw, rawNodes, rawNet, summed, inTheOrder, readsEarlier, allInOrder}
 use Rattle.image_laws.specs.Meaning.{OneOrder, FitCube, FitRaw}
-use Rattle.image_laws.proofs.Fielding.{divisorCubes}
-use Rattle.image_laws.proofs.Renumbering.{through-less}
+use Rattle.image_laws.proofs.{Fielding.divisorCubes, Renumbering.through-less}
 
 module _ {A : Type 0} where
   swap-in : {x : A} (a b : List A) → x ∈ (a ++ b) → x ∈ (b ++ a)

@@ -10,16 +10,13 @@ use borrow.Author.Tests.{ltb-true, ltb-false, leb-true, eqb-true, eqb-false, not
 use lib.Dec.{ltb, leb, eqb}
 use lib.ListN.{length, take, drop, length-append, take-append-drop}
 use lib.Seq.{take-at, drop-at, length-take-le}
-use Rattle.sets.specs.Literal.{oppositeOf}
-use Rattle.sets.specs.Sets.{mem, proper}
+use Rattle.sets.{specs.Literal.oppositeOf, specs.Sets.mem, specs.Sets.proper, proofs.Lists._∈_}
 use Rattle.sets.proofs.Truth.{both, refuted, clash, neither}
-use Rattle.sets.proofs.Lists.{_∈_}
 use Rattle.sets.proofs.Sets.{mem-of, of-mem, proper-in, proper-out}
 use Rattle.image_fields.specs.Fields.{Field, bitsOf, valueOf, fieldBits}
 use Rattle.image_fields.proofs.Bits.{bits-length, value-lt, value-bits, bits-value}
 use Rattle.network.specs.Held.{mostInputs, mostOutputs, mostVariables, mostCubes}
-use Rattle.network.specs.Handed.{flat}
-use Rattle.network.proofs.Numbering.{numbered-length, numbered-cubes}
+use Rattle.network.{specs.Handed.flat, proofs.Numbering.numbered-length, proofs.Numbering.numbered-cubes}
 use Rattle.image_laws.specs.Widths.{editionField, edition1}
 use Rattle.image_laws.specs.Image.{cubeFields, nodeFields, headFields}
 use Rattle.image_laws.specs.Reading.{Parsed, got, bad, andThen, getField, getMany, allowed, getLiterals, getCube, getNode, Raw, getNodes}

@@ -11,26 +11,19 @@ use lib.Dec.{leb, ltb}
 use lib.ListN.{length, length-map}
 use borrow.Author.Tests.{eq-eqb, ltb-true, ltb-false, le-leb, lt-ltb}
 use Rattle.sets.specs.Lists.{all, total, from}
-use Rattle.sets.specs.Sets.{mem}
-use Rattle.sets.specs.Masks.{bit, packed}
+use Rattle.sets.{specs.Sets.mem, specs.Masks.bit, specs.Masks.packed, proofs.Sets.from-mem, proofs.Rows.from-snoc}
 use Rattle.sets.proofs.Truth.{both, together, decided, clash, refuted}
 use Rattle.sets.proofs.Lists.{_∈_, all-in, map-in, map-out, map-cong, map-map, total-append, total-cong, total-map, total-same, pairwise-imp}
-use Rattle.sets.proofs.Sets.{from-mem}
-use Rattle.sets.proofs.Rows.{from-snoc}
 use Rattle.expression.specs.Expression.{expression, ordered, literalsOf}
 use Rattle.expression.specs.Value.{lit, value}
 use Rattle.network.specs.Net.{Node, Net, nodes, variables, cubeCount, literalCount, cubesAt}
-use Rattle.network.specs.Listing.{ready, listing}
+use Rattle.network.specs.{Listing.ready, Listing.listing, Meaning.Through.itself, Meaning.Through.others, Held.numbered}
 use Rattle.network.specs.Evaluation.{settle, answers, evaluate}
 use Rattle.network.specs.Meaning.{Reads, Through, Consistent, Sound, differ}
-use Rattle.network.specs.Meaning.Through.{itself, others}
-use Rattle.network.specs.Held.{numbered}
-use Rattle.network.specs.Rules.{Lawful}
-use Rattle.network.proofs.Places.{differ-in, differ-out}
+use Rattle.network.{specs.Rules.Lawful, proofs.Places.differ-in, proofs.Places.differ-out, proofs.Evaluating.evaluate-settled, proofs.Evaluating.evaluate-read}
 use Rattle.network.proofs.Numbering.{in-output, in-divisor, numbered-length, numbered-numbers, numbered-cubes, cubes-at, known-below, below-known}
 use Rattle.network.proofs.Listings.{ready-out, listing-once, listing-number, listing-in, listing-step, good-sound}
 use Rattle.network.proofs.Mapping.{numbered-map, mapped-node, mapped-outputs, mapped-total, mapped-fixed}
-use Rattle.network.proofs.Evaluating.{evaluate-settled, evaluate-read}
 use Rattle.image_laws.specs.Renumber.{indexOf, newNumber, newNode, relisted, renumbered}
 use Rattle.image_laws.specs.Meaning.{OneOrder}
 use Rattle.image_laws.proofs.NewNumbers.{index-before, index-new, index-from, Named, Reaches, oldNumber, new-input, new-listed, old-new}

@@ -9,17 +9,12 @@ use borrow.Author.Tests.{ltb-true, lt-ltb, le-ltb, not-true}
 use lib.Dec.{ltb}
 use lib.ListN.{length, take, drop, replicate, length-append, length-drop, length-replicate, take-append-drop}
 use lib.Seq.{take-at, take-append-le, length-take-le}
-use Rattle.sets.specs.Lists.{all}
-use Rattle.sets.proofs.Truth.{both, together}
-use Rattle.sets.proofs.Lists.{_∈_}
+use Rattle.sets.{specs.Lists.all, proofs.Truth.both, proofs.Truth.together, proofs.Lists._∈_}
 use Rattle.image_fields.specs.Fields.{fieldBits, bitsIn, bytesFor, bytesOf}
 use Rattle.image_fields.proofs.Bytes.{bytes-length, bytes-bits, bits-bytes, bits-in-length, bits-in-append, bytes-pad}
-use Rattle.network.specs.Net.{Net}
-use Rattle.network.specs.Rules.{Lawful}
-use Rattle.image_laws.specs.Renumber.{renumbered}
+use Rattle.network.specs.{Net.Net, Rules.Lawful, Handed.gives, Handed.refuses}
+use Rattle.image_laws.specs.{Renumber.renumbered, Reading.padding, Reading.readImage}
 use Rattle.image_laws.specs.Image.{netFields, netBytes, imageOf}
-use Rattle.network.specs.Handed.{gives, refuses}
-use Rattle.image_laws.specs.Reading.{padding, readImage}
 use Rattle.image_laws.specs.Meaning.{OneOrder, rawBits, ImageAnswer, early, over, taken}
 use Rattle.image_laws.proofs.Refusing.{begins-early, judged-iff, judged-read}
 use Rattle.image_laws.proofs.Renumbering.{renumbered-same, renumbered-lawful, renumbered-order}

@@ -3,10 +3,8 @@ use Prim.Native.Nat.{ℕ, _-_}
 use mathlib.Core.List.{List, [], _∷_, _++_, map}
 use lib.ListN.{length}
 use Rattle.image_fields.specs.Fields.{Field, fieldBits, bytesOf}
-use Rattle.network.specs.Net.{Node, Net}
-use Rattle.network.specs.Handed.{flat}
-use Rattle.image_laws.specs.Widths.{editionField, edition1}
-use Rattle.image_laws.specs.Renumber.{renumbered}
+use Rattle.network.specs.{Net.Node, Net.Net, Handed.flat}
+use Rattle.image_laws.specs.{Widths.editionField, Widths.edition1, Renumber.renumbered}
 
 abbrev pub field : ℕ → ℕ → Field
 field w v = record { width = w; value = v }

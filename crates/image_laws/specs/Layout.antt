@@ -7,8 +7,7 @@ use lib.Dec.{leb, eqb}
 use lib.ListN.{length}
 use Rattle.image_fields.specs.Fields.{valueOf}
 use Rattle.network.specs.Held.{mostVariables, mostCubes}
-use Rattle.image_laws.specs.Widths.{editionField, edition1}
-use Rattle.image_laws.specs.Reading.{allowed, Raw}
+use Rattle.image_laws.specs.{Widths.editionField, Widths.edition1, Reading.allowed, Reading.Raw}
 
 pub data Layout : Type 0 where
   -- no field more

@@ -5,8 +5,7 @@ use mathlib.Core.List.{List, [], _∷_, _++_}
 use lib.Dec.{leb, ltb, eqb}
 use lib.ListN.{length, take, drop}
 use Rattle.sets.specs.Lists.{all, total, pairwise}
-use Rattle.sets.specs.Literal.{oppositeOf}
-use Rattle.sets.specs.Sets.{mem, asc}
+use Rattle.sets.specs.{Literal.oppositeOf, Sets.mem, Sets.asc}
 use Rattle.image_fields.specs.Fields.{valueOf, bitsIn}
 use Rattle.expression.specs.Expression.{loose, ordered, literalsOf}
 use Rattle.network.specs.Net.{Net}

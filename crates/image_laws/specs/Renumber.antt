@@ -5,10 +5,7 @@ use mathlib.Core.List.{List, [], _∷_, map}
 use lib.Dec.{ltb, eqb}
 use Rattle.sets.specs.Sets.{insert}
 use Rattle.expression.specs.Expression.{sort}
-use Rattle.network.specs.Net.{Net, cubesAt}
-use Rattle.network.specs.Listing.{listing}
-use Rattle.network.specs.Held.{numbered}
-use Rattle.network.specs.Map.{mapNodes}
+use Rattle.network.specs.{Net.Net, Net.cubesAt, Listing.listing, Held.numbered, Map.mapNodes}
 
 -- the place of v in a list; its length where v is not there
 unfoldable pub indexOf : ℕ → List ℕ → ℕ

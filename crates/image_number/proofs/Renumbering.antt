@@ -1,45 +1,30 @@
 -- The nodes of the network renumbered, as the code finds them: by the places of the new numbers and the order of the divisors. Assumes nothing.
 use Prim.Native.Nat.{ℕ, _+_, _-_, _*_, _/_, _%_, _<_, _≤_}
 use mathlib.Core.Path.{_≡_, refl, sym, ap, ap₂, _∙_, subst}
-use mathlib.Core.Logic.{inl, inr}
-use mathlib.Core.Bool.{true}
+use mathlib.Core.{Logic.inl, Logic.inr, Bool.true}
 use mathlib.Core.List.{List, [], _∷_, map, List·Memᴰ·tail as there, Memᴰ·cast}
 use native.Mathlib.Omega.{arith}
 use lib.Dec.{ltb}
 use lib.ListN.{length, getD, take, length-append, length-map, List·getD-append}
 use lib.Seq.{getD-append-add, getD-take, take-all}
 use borrow.Author.Tests.{ltb-true, ltb-false}
-use Rattle.sets.specs.Lists.{all, total}
-use Rattle.sets.specs.Sets.{insert}
-use Rattle.sets.proofs.Truth.{both, decided}
+use Rattle.sets.{specs.Lists.all, specs.Lists.total, specs.Sets.insert, proofs.Truth.both, proofs.Truth.decided, proofs.Rows.getD-map}
 use Rattle.sets.proofs.Lists.{_∈_, all-out, map-cong, total-take-le}
 use Rattle.sets.proofs.Places.{at-in, pairwise-at, total-next}
-use Rattle.sets.proofs.Rows.{getD-map}
-use Rattle.expression.specs.Words.{cubesOf}
-use Rattle.expression.specs.Expression.{sort}
+use Rattle.expression.specs.{Words.cubesOf, Expression.sort}
 use Rattle.network.specs.Net.{Net, nodes, variables, cubesAt}
-use Rattle.network.specs.Listing.{listing}
-use Rattle.network.specs.Held.{reach}
-use Rattle.network_nodes.specs.Nodes.{cut}
+use Rattle.network.specs.{Listing.listing, Held.reach, Answers.padded, Answers.listedOf, declared.Network.Network}
+use Rattle.network_nodes.{specs.Nodes.cut, proofs.Cutting.cut-node-length}
 use Rattle.network.specs.Held.{placeAt, netOf, rules}
 use Rattle.network.specs.Handed.{Holds, LaidNodes, nodeSlots, cubeSlots}
-use Rattle.network.specs.Answers.{padded, listedOf}
-use Rattle.network.specs.declared.Network.{Network}
-use Rattle.network.specs.declared.Listed.{Listed}
-use Rattle.network.specs.Meaning.{differ}
-use Rattle.network.specs.Rules.{Lawful}
+use Rattle.network.{specs.declared.Listed.Listed, specs.Meaning.differ, specs.Rules.Lawful, proofs.Places.differ-out}
 use Rattle.network.specs.Parts.{heldIn, netAt, divisorsOf, InLimits}
 use Rattle.network_listing.specs.Parts.{Ordered}
-use Rattle.network.proofs.Places.{differ-out}
 use Rattle.network.proofs.Numbering.{numbered-length, numbered-in, reach-in}
-use Rattle.network.proofs.Listings.{listing-once, listing-in}
+use Rattle.network.proofs.{Listings.listing-once, Listings.listing-in, Parts.nodes-at, Parts.nodes-length}
 use Rattle.network.proofs.Holding.{nodes-held, output-held, divisor-held, rules-sound, rules-outputs, rules-divisors}
-use Rattle.network_nodes.proofs.Cutting.{cut-node-length}
-use Rattle.network.proofs.Parts.{nodes-at, nodes-length}
-use Rattle.network.proofs.Limits.{rules-sized}
-use Rattle.network.proofs.Ruling.{rules-lawful}
+use Rattle.network.proofs.{Limits.rules-sized, Ruling.rules-lawful, Laying.laid-holds}
 use Rattle.network_listing.proofs.Answering.{ordered-listing, listed-out, rules-listable}
-use Rattle.network.proofs.Laying.{laid-holds}
 use Rattle.image_laws.specs.Renumber.{indexOf, newNumber, newLiteral, newCube, newNode, renumbered}
 use Rattle.image_laws.proofs.NewNumbers.{index-lt, index-at}
 use Rattle.image_laws.proofs.Renumbering.{renumbered-nodes, renumbered-divisors, renumbered-cubes}

@@ -10,15 +10,11 @@ use lib.ListN.{length, getD, length-map}
 use Rattle.expression.proofs.Sorting.{sort-length}
 use borrow.Author.Tests.{eqb-true, eqb-false, le-leb, lt-ltb}
 use Rattle.sets.specs.Sets.{mem, asc, insert, union, without, firstFrom}
-use Rattle.sets.proofs.First.{some-not-none}
-use Rattle.sets.proofs.Removal.{without-here, without-absent}
+use Rattle.sets.proofs.{First.some-not-none, Removal.without-here, Removal.without-absent}
 use Rattle.sets.proofs.Sets.{head-once, insert-mem, insert-asc, union-mem, union-asc, union-comm, ext}
 use Rattle.cube.specs.Cube.{lits, answer, joined, width}
-use Rattle.cube.specs.declared.Cube.{Cube}
-use Rattle.cube.specs.declared.Found.{Found}
-use Rattle.cube.specs.declared.Found.the-variants.{At, Nothing}
-use Rattle.cube.specs.declared.Literal.{Literal}
-use Rattle.cube.proofs.Lits.{lits-asc, first-inside}
+use Rattle.cube.specs.declared.{Cube.Cube, Found.Found, Found.the-variants.At, Found.the-variants.Nothing}
+use Rattle.cube.{specs.declared.Literal.Literal, proofs.Lits.lits-asc, proofs.Lits.first-inside}
 use Rattle.image_number.specs.Parts.{Wide, literalBy, cubeBy, nodeBy}
 
 -- ---- the smallest literal and the others

@@ -1,17 +1,13 @@
 -- Words for the contracts of the private functions: the new numbers as places give them, cubes and nodes by them.
 use Prim.Native.Nat.{ℕ, _+_, _-_, _*_, _/_, _%_, _<_, _≤_}
-use mathlib.Core.Path.{_≡_}
-use mathlib.Core.Bool.{true, cond}
+use mathlib.Core.{Path._≡_, Bool.true, Bool.cond}
 use mathlib.Core.List.{List, [], _∷_, map}
 use lib.Dec.{ltb}
 use lib.ListN.{length, getD}
 use Rattle.sets.specs.Sets.{insert}
 use Rattle.expression.specs.Expression.{sort}
-use Rattle.network.specs.Listing.{listing}
+use Rattle.network.specs.{Listing.listing, Answers.padded, Handed.Shaped, Parts.heldIn, Parts.netAt}
 use Rattle.network.specs.Held.{mostOutputs, mostVariables, numberAt, placeAt, rules}
-use Rattle.network.specs.Answers.{padded}
-use Rattle.network.specs.Handed.{Shaped}
-use Rattle.network.specs.Parts.{heldIn, netAt}
 
 -- ---- the new numbers
 

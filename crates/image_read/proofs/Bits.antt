@@ -9,8 +9,7 @@ use lib.Dec.{eqb, lit<}
 use lib.ListN.{length, take, length-take}
 use borrow.Author.Tests.{ne-eqb}
 use Rattle.sets.specs.Lists.{all}
-use Rattle.image_fields.specs.Fields.{valueOf}
-use Rattle.image_fields.proofs.Bits.{value-lt}
+use Rattle.image_fields.{specs.Fields.valueOf, proofs.Bits.value-lt}
 use Rattle.image_read.specs.Parts.{widest}
 
 -- so many bits hold a number below the power

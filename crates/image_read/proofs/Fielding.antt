@@ -7,8 +7,7 @@ use lib.ListN.{length, drop}
 use lib.Seq.{drop-drop}
 use borrow.Author.Tests.{lt-ltb, le-ltb}
 use Rattle.image_laws.specs.Reading.{got, bad, getField}
-use Rattle.image_read.specs.Parts.{FieldIs}
-use Rattle.image_read.specs.declared.fields.Field.the-variants.{Value, Cut}
+use Rattle.image_read.specs.{Parts.FieldIs, declared.fields.Field.the-variants.Value, declared.fields.Field.the-variants.Cut}
 
 module _ (w : ℕ) (ok : ℕ → Bool) (l : List Bool) where
   pub field-cut : FieldIs w l Cut → getField w ok l ≡ bad 11

@@ -9,23 +9,16 @@ use lib.ListN.{length, drop, set, length-append, length-map, length-set}
 use lib.Seq.{sets}
 use borrow.Author.Needs.{needs}
 use borrow.Author.Tests.{le-leb, lt-leb}
-use Rattle.sets.specs.Lists.{all}
-use Rattle.sets.specs.Sets.{asc, proper}
-use Rattle.sets.proofs.Lists.{all-append, total-append}
-use Rattle.sets.proofs.Rows.{sets-append}
+use Rattle.sets.{specs.Lists.all, specs.Sets.asc, specs.Sets.proper, proofs.Lists.all-append, proofs.Lists.total-append, proofs.Rows.sets-append}
 use Rattle.cube.specs.Cube.{lits}
 use Rattle.expression.specs.Words.{Put, Placed}
 use Rattle.expression.proofs.Placing.{placed-none, placed-as, put-placed, placed-then}
-use Rattle.network.specs.Handed.{flat}
-use Rattle.network.proofs.Handing.{flat-last}
-use Rattle.network.specs.Held.{mostVariables, mostCubes}
+use Rattle.network.{specs.Handed.flat, proofs.Handing.flat-last, specs.Held.mostVariables, specs.Held.mostCubes}
 use Rattle.image_laws.specs.Widths.{edition1, mostCubeBits, mostCubesBits, mostNodeBits}
 use Rattle.image_laws.specs.Reading.{Parsed, bad, getMany, getCube, getNode}
 use Rattle.image_read.specs.Parts.{FieldIs, setOf, CubeGot, added, GrowsBy, Gathered, CubesGot, CubesAre, NodesGot}
 use Rattle.image_read.specs.declared.fields.Field.the-variants.{Value, Cut}
-use Rattle.image_read.specs.declared.fields.Taken.{Taken}
-use Rattle.image_read.specs.declared.nodes.State.{State}
-use Rattle.image_read.specs.declared.nodes.Step.{Step}
+use Rattle.image_read.specs.declared.{fields.Taken.Taken, nodes.State.State, nodes.Step.Step}
 use Rattle.image_read.specs.declared.nodes.Step.the-variants.{On, Bad}
 use Rattle.image_read.proofs.Fielding.{field-cut, field-bad, field-got}
 use Rattle.image_read.proofs.Going.{Begun, going-none, going-next, going-end}

@@ -7,19 +7,15 @@ use native.Mathlib.Omega.{arith}
 use lib.Dec.{leb, ltb, eqb}
 use lib.ListN.{length, drop, length-append}
 use borrow.Author.Tests.{lt-ltb, ltb-true, not-true, le-leb, lt-leb}
-use Rattle.sets.specs.Lists.{all}
-use Rattle.sets.specs.Literal.{oppositeOf}
+use Rattle.sets.{specs.Lists.all, specs.Literal.oppositeOf, proofs.Truth.both, proofs.Lists.all-append}
 use Rattle.sets.specs.Sets.{mem, asc, proper, union, insert}
-use Rattle.sets.proofs.Truth.{both}
-use Rattle.sets.proofs.Lists.{all-append}
 use Rattle.sets.proofs.Sets.{ext, insert-mem, insert-asc, mem-append, union-asc, union-all, proper-in, proper-out}
 use Rattle.cube.specs.Cube.{width, lits, joined}
 use Rattle.cube.specs.declared.Cube.{Cube}
 use Rattle.network.specs.Held.{mostVariables}
 use Rattle.image_laws.specs.Widths.{edition1, mostLiteralBits, mostCubeBits}
 use Rattle.image_laws.specs.Reading.{got, bad, allowed, getLiterals, getCube}
-use Rattle.image_laws.proofs.NewNumbers.{set-mem}
-use Rattle.image_laws.proofs.Reading.{proper-more}
+use Rattle.image_laws.proofs.{NewNumbers.set-mem, Reading.proper-more}
 use Rattle.image_read.specs.Parts.{FieldIs, setOf, CubeGot, CubeIs}
 use Rattle.image_read.specs.declared.fields.Field.the-variants.{Value, Cut}
 use Rattle.image_read.specs.declared.fields.Turn.{Turn}

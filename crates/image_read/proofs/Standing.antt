@@ -6,18 +6,12 @@ use mathlib.Core.List.{List, [], _∷_, _++_, map, append-assoc}
 use native.Mathlib.Omega.{arith}
 use lib.ListN.{length, take, drop, replicate, length-append, length-replicate}
 use lib.Seq.{sets, sets-eq, drop-at, length-take-le}
-use Rattle.sets.specs.Lists.{all, total}
-use Rattle.sets.specs.Sets.{asc}
-use Rattle.sets.proofs.Lists.{total-append}
-use Rattle.sets.proofs.Truth.{both}
-use Rattle.sets.proofs.Rows.{drop-replicate}
+use Rattle.sets.{specs.Lists.all, specs.Lists.total, specs.Sets.asc, proofs.Lists.total-append, proofs.Truth.both, proofs.Rows.drop-replicate}
 use Rattle.expression.specs.Words.{cubesOf, Placed, Front}
 use Rattle.expression.specs.Expression.{literalsOf}
 use Rattle.expression.proofs.Placing.{placed-as, front-none, front-places, front-then}
-use Rattle.network.specs.Handed.{flat, nodeSlots}
-use Rattle.network.specs.Held.{mostCubes}
+use Rattle.network.{specs.Handed.flat, specs.Handed.nodeSlots, specs.Held.mostCubes, proofs.Handing.cut-flat}
 use Rattle.network_nodes.specs.Nodes.{cut}
-use Rattle.network.proofs.Handing.{cut-flat}
 use Rattle.image_read.specs.Parts.{setOf, Gathered, blankWords, blankCounts}
 use Rattle.image_read.specs.declared.nodes.State.{State}
 use Rattle.image_read.proofs.Gathering.{set-asc}

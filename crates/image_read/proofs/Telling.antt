@@ -14,25 +14,18 @@ use Rattle.sets.specs.Sets.{asc, proper}
 use Rattle.sets.proofs.Lists.{all-append, total-append}
 use Rattle.sets.proofs.Truth.{both, together, decided, clash, refuted}
 use Rattle.expression.specs.Words.{cubesOf, Placed, Front, fitting}
-use Rattle.expression.specs.Expression.{literalsOf}
-use Rattle.network.specs.Net.{Net, nodes}
+use Rattle.expression.specs.{Expression.literalsOf, declared.Verdict.Verdict, declared.Verdict.the-variants.Accepted, declared.Verdict.the-variants.Refused}
+use Rattle.network.{specs.Net.Net, specs.Net.nodes, specs.Held.mostCubes, specs.Held.mostLiterals, proofs.Handing.flat-length, proofs.Handing.flat-append}
 use Rattle.network.specs.Handed.{flat, nodeSlots, cubeSlots, LaidNodes, Holds, Return, gives, refuses, Told, Carries}
-use Rattle.network.specs.Held.{mostCubes, mostLiterals}
-use Rattle.network.proofs.Handing.{flat-length, flat-append}
 use Rattle.image_fields.specs.Fields.{bitsIn}
-use Rattle.network.proofs.Numbering.{numbered-cubes, numbered-length}
+use Rattle.network.{proofs.Numbering.numbered-cubes, proofs.Numbering.numbered-length, specs.declared.Network.Network}
 use Rattle.image_laws.specs.Widths.{headSize}
 use Rattle.image_laws.specs.Reading.{got, bad, Raw, rawNodes, rawNet, padding, summed, allInOrder, inTheOrder, readsEarlier, judgeRaw, getMany}
 use Rattle.image_laws.specs.Reading.{getNode, getNodes, getRaw, readImage}
 use Rattle.image_read.specs.Parts.{nodesAt, nodesIn, orderedIn, outputCounts, divisorCounts, fewIn, Judging, verdict, judgedOf, blankCounts}
-use Rattle.image_read.specs.Parts.{DivisorsRead, AllRead}
-use Rattle.expression.specs.declared.Verdict.{Verdict}
-use Rattle.expression.specs.declared.Verdict.the-variants.{Accepted, Refused}
-use Rattle.network.specs.declared.Network.{Network}
-use Rattle.network.specs.declared.Handed.{Handed}
-use Rattle.network.proofs.Laying.{laid-holds}
+use Rattle.image_read.specs.{Parts.DivisorsRead, Parts.AllRead, declared.Sizes.Sizes}
+use Rattle.network.{specs.declared.Handed.Handed, proofs.Laying.laid-holds}
 use Rattle.expression.proofs.Placing.{placed-as, placed-fitting, front-places, front-own, front-then}
-use Rattle.image_read.specs.declared.Sizes.{Sizes}
 use Rattle.image_read.specs.declared.nodes.State.{State}
 use Rattle.image_read.proofs.Testing.{all-tidy, order-asc}
 use Rattle.image_read.proofs.Standing.{cubes-stand, counts-stand, nodes-stand, total-flat}

@@ -14,8 +14,7 @@ use Rattle.sets.proofs.Truth.{decided, both, together}
 use Rattle.sets.proofs.Lists.{all-in, all-out, all-append}
 use Rattle.sets.proofs.Places.{drop-next}
 use Rattle.expression.specs.Expression.{isCube, loose, ordered}
-use Rattle.network.specs.Held.{reach}
-use Rattle.network.specs.Handed.{flat}
+use Rattle.network.specs.{Held.reach, Handed.flat}
 use Rattle.image_laws.specs.Reading.{inTheOrder, readsEarlier}
 use Rattle.image_read.specs.Parts.{tidy}
 

@@ -10,25 +10,18 @@ use Rattle.sets.specs.Lists.{all, total}
 use Rattle.sets.specs.Sets.{asc, proper, union}
 use Rattle.cube.specs.Cube.{lits}
 use Rattle.image_fields.specs.Fields.{valueOf}
-use Rattle.expression.specs.Words.{cubesOf, Placed}
-use Rattle.expression.specs.Expression.{expression, ordered}
-use Rattle.expression.specs.declared.Verdict.{Verdict}
-use Rattle.expression.specs.declared.Verdict.the-variants.{Accepted, Refused}
+use Rattle.expression.specs.{Words.cubesOf, Words.Placed, Expression.expression, Expression.ordered}
+use Rattle.expression.specs.declared.{Verdict.Verdict, Verdict.the-variants.Accepted, Verdict.the-variants.Refused}
 use Rattle.network.specs.Handed.{flat, nodeSlots, wordSlots}
 use Rattle.network.specs.Held.{mostOutputs, mostVariables, mostCubes, mostLiterals}
 use Rattle.network_nodes.specs.Nodes.{cut}
 use Rattle.image_laws.specs.Widths.{edition1, headSize, mostNodeBits, mostBits}
 use Rattle.image_laws.specs.Reading.{Parsed, got, bad, Raw, getMany, getNode, getNodes, getRaw, padding, readsEarlier}
-use Rattle.image_read.specs.declared.fields.Field.{Field}
-use Rattle.image_read.specs.declared.fields.Field.the-variants.{Value, Cut}
-use Rattle.image_read.specs.declared.fields.Taken.{Taken}
-use Rattle.image_read.specs.declared.fields.Turn.{Turn}
+use Rattle.image_read.specs.declared.fields.{Field.Field, Field.the-variants.Value, Field.the-variants.Cut}
+use Rattle.image_read.specs.declared.{fields.Taken.Taken, fields.Turn.Turn, nodes.State.State}
 use Rattle.image_read.specs.declared.fields.Turn.the-variants as Turn
-use Rattle.image_read.specs.declared.nodes.State.{State}
-use Rattle.image_read.specs.declared.nodes.Step.{Step}
+use Rattle.image_read.specs.declared.{nodes.Step.Step, Sizes.Sizes, Head.Head}
 use Rattle.image_read.specs.declared.nodes.Step.the-variants as Step
-use Rattle.image_read.specs.declared.Sizes.{Sizes}
-use Rattle.image_read.specs.declared.Head.{Head}
 use Rattle.image_read.specs.declared.Head.the-variants as Head
 
 -- each part begins below one of these bounds, and leaves the next to the parts in it

@@ -2,8 +2,7 @@
 use Prim.Native.Nat.{ℕ, _<_, _≤_}
 use mathlib.Core.Path.{_≡_, refl, sym, ap, subst, _∙_}
 use mathlib.Core.Bool.{Bool, true, false, cond}
-use mathlib.Core.List.{List, _++_}
-use mathlib.Core.Option.{none, some}
+use mathlib.Core.{List.List, List._++_, Option.none, Option.some}
 use borrow.Author.Tests.{le-ltb}
 use native.Mathlib.Omega.{arith}
 use lib.Dec.{ltb}
@@ -11,18 +10,11 @@ use lib.ListN.{length, take, drop}
 use lib.Seq.{take-at}
 use Rattle.expression.specs.declared.Verdict.the-variants.{Accepted}
 use Rattle.sets.proofs.Lists.{_∈_}
-use Rattle.network.specs.Net.{Net}
-use Rattle.network.specs.Held.{netOf, rules}
+use Rattle.network.specs.{Net.Net, Held.netOf, Held.rules, Evaluation.evaluate, declared.Handed.Handed}
 use Rattle.network.specs.Handed.{Shaped, Holds, gives}
 use Rattle.network.specs.Handed as handed
-use Rattle.network.specs.Evaluation.{evaluate}
-use Rattle.network.specs.declared.Handed.{Handed}
-use Rattle.network.specs.declared.Network.{Network}
-use Rattle.network.proofs.Handing.{holds-net}
-use Rattle.network.proofs.Ruling.{holds-lawful, rules-lawful}
-use Rattle.image_laws.specs.Image.{imageOf}
-use Rattle.image_laws.specs.Reading.{readImage}
-use Rattle.image_laws.specs.Renumber.{renumbered}
+use Rattle.network.{specs.declared.Network.Network, proofs.Handing.holds-net, proofs.Ruling.holds-lawful, proofs.Ruling.rules-lawful}
+use Rattle.image_laws.specs.{Image.imageOf, Reading.readImage, Renumber.renumbered}
 use Rattle.image_laws.proofs.Renumbering.{renumbered-lawful, renumbered-evaluate}
 use Rattle.image_laws.proofs.Trips.{read-lawful, image-of-read, read-of-image}
 use Rattle.letters.specs.Told.{orLong, Answered, Told}

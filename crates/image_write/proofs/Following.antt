@@ -5,13 +5,11 @@ use mathlib.Core.Bool.{Bool}
 use mathlib.Core.List.{List, [], _∷_, _++_, map, append-nil}
 use native.Mathlib.Omega.{arith}
 use lib.ListN.{length, getD, take, drop, length-take, length-drop, drop-of-length-le}
-use Rattle.sets.specs.Masks.{bit}
-use Rattle.sets.proofs.Places.{drop-next}
+use Rattle.sets.{specs.Masks.bit, proofs.Places.drop-next}
 use Rattle.expression.specs.Words.{cubesOf}
 use Rattle.image_fields.specs.Fields.{bitsOf, fieldBits}
-use Rattle.network_nodes.specs.Nodes.{cut}
+use Rattle.network_nodes.{specs.Nodes.cut, proofs.Cutting.cut-node, proofs.Cutting.cut-length}
 use Rattle.network.specs.Handed.{flat}
-use Rattle.network_nodes.proofs.Cutting.{cut-node, cut-length}
 use Rattle.image_laws.specs.Widths.{editionField, edition1}
 use Rattle.image_laws.specs.Image.{cubeFields, nodeFields, headFields}
 use Rattle.image_laws.proofs.Fielding.{inputsBits, outputsBits, divisorsBits, literalBits, literalsBits, cubesBits, literalFields, fields-append}

@@ -7,21 +7,14 @@ use native.Mathlib.Omega.{arith}
 use lib.ListN.{length, take, drop}
 use lib.Seq.{take-at, drop-at, take-take}
 use Rattle.sets.proofs.Rows.{drop-take}
-use Rattle.expression.specs.Words.{cubesOf}
+use Rattle.expression.specs.{Words.cubesOf, declared.Verdict.the-variants.Refused}
 use Rattle.image_fields.specs.Fields.{bytesFor, bytesFrom, fieldBits}
 use Rattle.image_fields.proofs.Bytes.{bytes-length}
-use Rattle.network.specs.Net.{Net, nodes}
-use Rattle.network.specs.Held.{netOf, rules}
-use Rattle.network_nodes.specs.Nodes.{cut}
+use Rattle.network.specs.{Net.Net, Net.nodes, Held.netOf, Held.rules, declared.Network.Network}
+use Rattle.network_nodes.{specs.Nodes.cut, proofs.Cutting.cut-take}
 use Rattle.network.specs.Handed.{nodeSlots, Shaped, Holds}
-use Rattle.network.specs.declared.Network.{Network}
-use Rattle.expression.specs.declared.Verdict.the-variants.{Refused}
-use Rattle.network.proofs.Handing.{cut-flat, used-held}
-use Rattle.network.proofs.Ruling.{rules-lawful}
-use Rattle.network_nodes.proofs.Cutting.{cut-take}
-use Rattle.image_laws.specs.Renumber.{renumbered}
-use Rattle.image_laws.proofs.Renumbering.{renumbered-lawful}
-use Rattle.image_laws.specs.Widths.{headSize}
+use Rattle.network.proofs.{Handing.cut-flat, Handing.used-held, Ruling.rules-lawful}
+use Rattle.image_laws.{specs.Renumber.renumbered, proofs.Renumbering.renumbered-lawful, specs.Widths.headSize}
 use Rattle.image_laws.specs.Image.{netFields, netBytes, imageOf}
 use Rattle.image_laws.proofs.Fielding.{divisorCubes, nodeBits, net-bits, net-bits-length, nodes-bits-length}
 use Rattle.letters.specs.Told.{Told}

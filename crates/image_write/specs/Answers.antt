@@ -2,8 +2,7 @@
 use Prim.Native.Nat.{ℕ}
 use mathlib.Core.Bool.{cond}
 use mathlib.Core.Option.{Option, none, some}
-use Rattle.network.specs.Held.{rules}
-use Rattle.network.specs.declared.Network.{Network}
+use Rattle.network.specs.{Held.rules, declared.Network.Network}
 
 -- 10 where the network breaks a rule
 abbrev pub refusedBy : Network → Option ℕ

@@ -1,17 +1,14 @@
 -- Words for the contracts of the private functions: bits written so far, room for more, bits laid after them.
 use Prim.Native.Nat.{ℕ, _+_, _-_, _*_, _^_, _<_, _≤_}
-use mathlib.Core.Path.{_≡_}
-use mathlib.Core.Bool.{Bool}
+use mathlib.Core.{Path._≡_, Bool.Bool}
 use mathlib.Core.List.{List, _++_, map}
 use lib.ListN.{length, take, drop}
 use Rattle.image_fields.specs.Fields.{bytesFor, bytesOf, fieldBits}
 use Rattle.cube.specs.Cube.{width}
 use Rattle.expression.specs.Words.{cubesOf}
 use Rattle.network_nodes.specs.Nodes.{cut}
-use Rattle.network.specs.Held.{mostCubes}
-use Rattle.network.specs.Handed.{flat, nodeSlots}
-use Rattle.image_laws.specs.Widths.{edition1}
-use Rattle.image_laws.specs.Image.{nodeFields, headFields}
+use Rattle.network.specs.{Held.mostCubes, Handed.flat, Handed.nodeSlots}
+use Rattle.image_laws.specs.{Widths.edition1, Image.nodeFields, Image.headFields}
 
 -- the widest field of an image: a cube count
 abbrev pub widest : ℕ

@@ -8,9 +8,7 @@ use lib.Dec.{ltb}
 use lib.ListN.{length, drop, length-append}
 use lib.Seq.{sets, sets-eq, length-sets, set-out}
 use borrow.Author.Tests.{ltb-true, ltb-false}
-use Rattle.sets.proofs.Truth.{decided}
-use Rattle.sets.specs.Word.{largest}
-use Rattle.sets.proofs.Rows.{sets-append}
+use Rattle.sets.{proofs.Truth.decided, specs.Word.largest, proofs.Rows.sets-append}
 use Rattle.letters.specs.Laid.{counted, Laid}
 
 -- ---- bytes at a place

@@ -1,18 +1,14 @@
 -- Numbers in decimal: case by case as they are written, and what they mean. Assumes nothing.
 use Prim.Native.Nat.{ℕ, zero, suc, _+_, _-_, _*_, _/_, _%_, _<_, _≤_}
 use mathlib.Core.Path.{_≡_, refl, sym, _∙_, ap}
-use mathlib.Core.Bool.{true}
+use mathlib.Core.{Bool.true, Logic.inl, Logic.inr}
 use mathlib.Core.List.{List, [], _∷_, _++_, List·Memᴰ·append-cases}
-use mathlib.Core.Logic.{inl, inr}
 use native.Mathlib.Omega.{arith}
 use lib.Dec.{ltb}
 use lib.ListN.{length, getD, length-append, List·getD-append}
 use borrow.Author.Tests.{lt-ltb, le-ltb, ltb-true, ltb-false, le-leb}
-use Rattle.sets.specs.Lists.{all}
-use Rattle.sets.proofs.Truth.{decided}
-use Rattle.sets.proofs.Lists.{all-in, all-out}
-use Rattle.letters.specs.Letters.{digits, decimal}
-use Rattle.letters.specs.Meaning.{readBack, isDigit}
+use Rattle.sets.{specs.Lists.all, proofs.Truth.decided, proofs.Lists.all-in, proofs.Lists.all-out}
+use Rattle.letters.specs.{Letters.digits, Letters.decimal, Meaning.readBack, Meaning.isDigit}
 
 -- ---- case by case
 

@@ -6,8 +6,7 @@ use mathlib.Core.Option.{Option, none, some}
 use lib.ListN.{length, drop}
 use borrow.Author.Tests.{lt-ltb, le-ltb}
 use Rattle.letters.specs.Told.{orLong, Answered, Told}
-use Rattle.letters.specs.declared.Wrote.{Wrote}
-use Rattle.letters.specs.declared.Wrote.the-variants.{Bytes, Refused}
+use Rattle.letters.specs.declared.{Wrote.Wrote, Wrote.the-variants.Bytes, Wrote.the-variants.Refused}
 
 pub told-before : (t o : List ℕ) (k : ℕ) → Told (some k) t o o (Refused k)
 unfolding orLong

@@ -1,7 +1,6 @@
 -- A text written as far as there is room.
 use Prim.Native.Nat.{ℕ, _+_, min}
-use mathlib.Core.Path.{_≡_}
-use mathlib.Core.List.{List}
+use mathlib.Core.{Path._≡_, List.List}
 use lib.ListN.{length}
 use lib.Seq.{sets}
 use Rattle.sets.specs.Word.{largest}

@@ -1,13 +1,10 @@
 -- What a writer of bytes answers, for every room.
 use Prim.Native.Nat.{ℕ}
-use mathlib.Core.Path.{_≡_}
-use mathlib.Core.Bool.{cond}
-use mathlib.Core.List.{List, _++_}
+use mathlib.Core.{Path._≡_, Bool.cond, List.List, List._++_}
 use mathlib.Core.Option.{Option, none, some}
 use lib.Dec.{ltb}
 use lib.ListN.{length, drop}
-use Rattle.letters.specs.declared.Wrote.{Wrote}
-use Rattle.letters.specs.declared.Wrote.the-variants.{Bytes, Refused}
+use Rattle.letters.specs.declared.{Wrote.Wrote, Wrote.the-variants.Bytes, Wrote.the-variants.Refused}
 
 -- 9 comes last: where nothing was refused before, and the text is longer than the room
 unfoldable pub orLong : Option ℕ → List ℕ → List ℕ → Option ℕ

@@ -4,8 +4,7 @@ use mathlib.Core.Path.{_≡_, refl, ap}
 use mathlib.Core.List.{List, [], _∷_, _++_, map, append-nil}
 use native.Mathlib.Omega.{arith}
 use Rattle.letters.specs.Letters.{decimal}
-use Rattle.letters_products.specs.Products.{literalText, cubeText}
-use Rattle.letters_products.specs.Spelled.{spelled, between}
+use Rattle.letters_products.specs.{Products.literalText, Products.cubeText, Spelled.spelled, Spelled.between}
 
 -- literal 2v is plain
 pub literal-plain : (v : ℕ) → literalText (2 * v) ≡ spelled "x" ++ decimal v

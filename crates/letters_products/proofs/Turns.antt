@@ -8,9 +8,7 @@ use native.Mathlib.Omega.{arith}
 use lib.Dec.{ltb, leb}
 use borrow.Author.Tests.{lt-ltb, le-ltb, lt-leb}
 use Rattle.sets.specs.Sets.{firstFrom}
-use Rattle.cube.specs.Cube.{width, lits}
-use Rattle.cube.specs.declared.Cube.{Cube}
-use Rattle.cube.proofs.Lits.{lits-asc, first-inside}
+use Rattle.cube.{specs.Cube.width, specs.Cube.lits, specs.declared.Cube.Cube, proofs.Lits.lits-asc, proofs.Lits.first-inside}
 use Rattle.letters_products.specs.Products.{literalText, cubeText, numberOf}
 use Rattle.letters_products.proofs.Texts.{cube-none, cube-one, cube-more}
 use Rattle.letters_products.proofs.Walking.{above, above-all, above-none, above-some, at-least}

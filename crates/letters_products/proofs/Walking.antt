@@ -1,19 +1,13 @@
 -- The literals of a cube from one on: none is left, or the first and those after it. Assumes nothing.
 use Prim.Native.Nat.{ℕ, suc, _+_, _≤_, _<_}
 use mathlib.Core.Path.{_≡_, refl, sym, _∙_, ap}
-use mathlib.Core.Bool.{true, cond}
+use mathlib.Core.{Bool.true, Bool.cond, Logic.inl, Logic.inr, Option.none, Option.some}
 use mathlib.Core.List.{List, [], _∷_}
-use mathlib.Core.Logic.{inl, inr}
-use mathlib.Core.Option.{none, some}
 use native.Mathlib.Omega.{arith}
 use lib.Dec.{leb, ltb}
 use borrow.Author.Tests.{leb-true, leb-false, le-leb, lt-leb, ltb-true}
-use Rattle.sets.specs.Lists.{keep}
-use Rattle.sets.specs.Sets.{asc, firstFrom}
-use Rattle.sets.proofs.Truth.{decided}
+use Rattle.sets.{specs.Lists.keep, specs.Sets.asc, specs.Sets.firstFrom, proofs.Truth.decided, proofs.First.some-not-none, proofs.Sets.tail-asc}
 use Rattle.sets.proofs.Lists.{all-in, all-out, keep-all, ahead}
-use Rattle.sets.proofs.First.{some-not-none}
-use Rattle.sets.proofs.Sets.{tail-asc}
 
 abbrev pub above : ℕ → List ℕ → List ℕ
 above l c = keep (leb l) c

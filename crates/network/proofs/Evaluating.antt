@@ -11,21 +11,16 @@ use native.Mathlib.Omega.{arith}
 use lib.Dec.{eqb, ltb}
 use lib.ListN.{length, getD, length-map, List·getD-map}
 use borrow.Author.Tests.{eq-eqb, ne-eqb}
-use Rattle.sets.specs.Lists.{all, pairwise}
-use Rattle.sets.specs.Sets.{mem}
-use Rattle.sets.specs.Masks.{bit, packed}
-use Rattle.sets.proofs.Truth.{iff}
+use Rattle.sets.{specs.Lists.all, specs.Lists.pairwise, specs.Sets.mem, specs.Masks.bit, specs.Masks.packed, proofs.Truth.iff}
 use Rattle.sets.proofs.Lists.{_∈_, any-in, any-out, all-in, all-out, all-cong, any-cong, map-cong}
-use Rattle.sets.proofs.Digits.{bit-high}
-use Rattle.sets.proofs.Packing.{packed-bit, packed-lt}
+use Rattle.sets.proofs.{Digits.bit-high, Packing.packed-bit, Packing.packed-lt}
 use Rattle.expression.specs.Value.{lit, value}
 use Rattle.network.specs.Net.{Node, Net, cubesAt}
 use Rattle.network.specs.Listing.{ready, nextReady, listMore, listing}
 use Rattle.network.specs.Evaluation.{assign, settle, answers, evaluate}
 use Rattle.network.specs.Meaning.{differ, Reads, Consistent, IsVariable, Closed, Distinct, Sound, SameCubes, Along, SameNode, Reordered}
 use Rattle.network.specs.Meaning.Along.{end, on}
-use Rattle.network.proofs.Places.{split-in, once-apart}
-use Rattle.network.proofs.Numbering.{cubes-at}
+use Rattle.network.proofs.{Places.split-in, Places.once-apart, Numbering.cubes-at}
 use Rattle.network.proofs.Listings.{more-none, more-some, ready-out, next-some, listing-next, listing-once, listing-number, listing-in, listing-reads}
 
 -- an expression's value hangs on the variables that it reads

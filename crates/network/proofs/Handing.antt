@@ -5,8 +5,7 @@ use mathlib.Core.List.{List, [], _∷_, _++_, map, append-assoc, append-nil}
 use native.Mathlib.Omega.{arith}
 use lib.ListN.{length, take, drop, length-append, length-map}
 use lib.Seq.{take-append-seam, drop-append-seam, take-at}
-use Rattle.sets.specs.Lists.{total}
-use Rattle.sets.proofs.Rows.{nil-of}
+use Rattle.sets.{specs.Lists.total, proofs.Rows.nil-of}
 use Rattle.expression.specs.Words.{cubesOf, spareOf}
 use Rattle.expression.proofs.Words.{words-ext, cubes-length, spare-length}
 use Rattle.network.specs.Net.{Node, Net, nodes}

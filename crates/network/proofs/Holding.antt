@@ -15,21 +15,15 @@ use Rattle.sets.specs.Masks.{bit, packed}
 use Rattle.sets.proofs.Truth.{both, together}
 use Rattle.sets.proofs.Lists.{all-in, all-out, all-append}
 use Rattle.sets.proofs.Rows.{drop-take}
-use Rattle.expression.specs.Words.{cubesOf}
-use Rattle.expression.specs.Expression.{expression}
+use Rattle.expression.specs.{Words.cubesOf, Expression.expression}
 use Rattle.network.specs.Net.{Net, cubesAt, nodes, over, cubeCount, literalCount}
-use Rattle.network.specs.Listing.{listing}
+use Rattle.network.specs.{Listing.listing, Held.mostCubes, Held.mostLiterals, Handed.Shaped}
 use Rattle.network.specs.Evaluation.{settle, answers, evaluate}
 use Rattle.network.specs.Meaning.{Consistent, Distinct, Closed, Sound}
 use Rattle.network.specs.Held.{numbered, numberAt, placeAt, used, netOf, sized, upTo, ruled, rules, mostInputs, mostOutputs, mostVariables}
-use Rattle.network.specs.Held.{mostCubes, mostLiterals}
-use Rattle.network_nodes.specs.Nodes.{cut}
-use Rattle.network_nodes.proofs.Cutting.{cut-length, cut-lengths}
+use Rattle.network_nodes.{specs.Nodes.cut, proofs.Cutting.cut-length, proofs.Cutting.cut-lengths}
 use Rattle.network.specs.Rules.{Alike, InTurn, Follows}
-use Rattle.network.specs.Handed.{Shaped}
-use Rattle.network.specs.Answers.{evaluated}
-use Rattle.network.specs.declared.Network.{Network}
-use Rattle.network.specs.declared.Number.the-variants.{Is, No}
+use Rattle.network.specs.{Answers.evaluated, declared.Network.Network, declared.Number.the-variants.Is, declared.Number.the-variants.No}
 use Rattle.network.proofs.Numbering.{numbered-length, numbered-cubes, numbered-at, numbered-distinct, known-below, below-known, over-in}
 use Rattle.network.proofs.Numbering.{over-out, nodes-closed, number-place}
 use Rattle.network.proofs.Listings.{listing-acyclic, good-sound}

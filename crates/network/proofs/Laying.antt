@@ -5,11 +5,8 @@ use mathlib.Core.List.{List, [], _∷_, _++_, map, map-append, append-assoc}
 use native.Mathlib.Omega.{arith}
 use lib.ListN.{length, take, drop, set, getD, replicate, length-append, length-map}
 use lib.Seq.{take-all, length-take-le, set-at, take-at, drop-at}
-use Rattle.sets.specs.Lists.{total}
-use Rattle.sets.proofs.Lists.{total-append}
-use Rattle.sets.proofs.Rows.{take-next, drop-replicate}
-use Rattle.expression.specs.Words.{cubesOf, Placed}
-use Rattle.expression.proofs.Words.{zeros}
+use Rattle.sets.{specs.Lists.total, proofs.Lists.total-append, proofs.Rows.take-next, proofs.Rows.drop-replicate}
+use Rattle.expression.{specs.Words.cubesOf, specs.Words.Placed, proofs.Words.zeros}
 use Rattle.network.specs.Net.{Net, nodes}
 use Rattle.network.specs.Handed.{flat, nodeSlots, cubeSlots, wordSlots, LaidNodes, Holds}
 use Rattle.network.proofs.Handing.{flat-length, flat-last}

@@ -1,20 +1,15 @@
 -- The limits: which test decides them, and what follows where they are kept. Assumes nothing.
 use Prim.Native.Nat.{ℕ, suc, _+_, _<_, _≤_, min}
 use mathlib.Core.Path.{_≡_, sym, _∙_}
-use mathlib.Core.Logic.{inl, inr}
-use mathlib.Core.Bool.{true, false}
+use mathlib.Core.{Logic.inl, Logic.inr, Bool.true, Bool.false}
 use native.Mathlib.Omega.{arith}
 use lib.Dec.{leb}
 use borrow.Author.Tests.{leb-true, leb-false, le-leb, lt-leb, lt-ltb}
-use Rattle.sets.specs.Lists.{total}
-use Rattle.sets.proofs.Truth.{both, decided}
+use Rattle.sets.{specs.Lists.total, proofs.Truth.both, proofs.Truth.decided}
 use Rattle.expression.specs.Answers.{capped}
 use Rattle.network_nodes.specs.Nodes.{countBefore}
-use Rattle.network.specs.Net.{literalCount}
+use Rattle.network.specs.{Net.literalCount, Handed.Shaped, Parts.Limited, declared.Network.Network}
 use Rattle.network.specs.Held.{used, netOf, rules, upTo, sized, ruled, mostInputs, mostOutputs, mostVariables, mostCubes}
-use Rattle.network.specs.Handed.{Shaped}
-use Rattle.network.specs.Parts.{Limited}
-use Rattle.network.specs.declared.Network.{Network}
 use Rattle.network.proofs.Holding.{sized-measured, rules-iff}
 
 -- the number of cubes as far as it was counted

@@ -19,8 +19,7 @@ use Rattle.sets.proofs.Sets.{mem-of, of-mem}
 use Rattle.network.specs.Net.{Node, Net, nodes, HasVariable}
 use Rattle.network.specs.Listing.{ready, nextReady, listMore, listing}
 use Rattle.network.specs.Meaning.{Reads, Through, ListedNext, IsDivisor, Closed, Distinct, Sound, differ}
-use Rattle.network.specs.Meaning.Through.{itself, others}
-use Rattle.network.specs.Rules.{InTurn, Good}
+use Rattle.network.specs.{Meaning.Through.itself, Meaning.Through.others, Rules.InTurn, Rules.Good}
 use Rattle.network.proofs.Places.{split-in, differ-in, once-le, once-cons, once-all, once-in}
 use Rattle.network.proofs.Numbering.{read-passes, numbers-ahead, cubes-at, numbered-distinct, nodes-closed, below-known}
 

@@ -5,21 +5,15 @@ use mathlib.Core.Bool.{Bool, true}
 use mathlib.Core.List.{List, [], _∷_, _++_, map, map-append}
 use native.Mathlib.Omega.{arith}
 use lib.ListN.{length, length-map}
-use Rattle.sets.specs.Lists.{total}
-use Rattle.sets.specs.Masks.{bit, packed}
+use Rattle.sets.specs.{Lists.total, Masks.bit, Masks.packed}
 use Rattle.sets.proofs.Lists.{_∈_, map-in, map-out, map-cong, map-map, map-fixed, total-map, total-const}
-use Rattle.expression.specs.Expression.{expression}
-use Rattle.expression.specs.Value.{lit, value}
+use Rattle.expression.specs.{Expression.expression, Value.lit, Value.value}
 use Rattle.network.specs.Net.{Node, Net, nodes, variables}
-use Rattle.network.specs.Listing.{listing}
+use Rattle.network.specs.{Listing.listing, Meaning.Through.itself, Meaning.Through.others, Held.numbered}
 use Rattle.network.specs.Evaluation.{settle, answers, evaluate}
 use Rattle.network.specs.Meaning.{Reads, Through, Consistent}
-use Rattle.network.specs.Meaning.Through.{itself, others}
-use Rattle.network.specs.Held.{numbered}
-use Rattle.network.specs.Rules.{InTurn, Good}
-use Rattle.network.specs.Map.{onNode, mapNodes}
-use Rattle.network.proofs.Numbering.{in-output, in-divisor}
-use Rattle.network.proofs.Listings.{good-sound}
+use Rattle.network.specs.{Rules.InTurn, Rules.Good, Map.onNode, Map.mapNodes}
+use Rattle.network.proofs.{Numbering.in-output, Numbering.in-divisor, Listings.good-sound}
 use Rattle.network.proofs.Evaluating.{evaluate-settled, evaluate-read}
 
 module _ (g : List (List ℕ) → List (List ℕ)) where

@@ -9,11 +9,9 @@ use native.Mathlib.Omega.{arith}
 use lib.Dec.{leb, ltb, eqb}
 use lib.ListN.{length, getD}
 use borrow.Author.Tests.{eqb-true, eq-eqb, ne-eqb, leb-true, ltb-true, ltb-false, lt-ltb}
-use Rattle.sets.specs.Lists.{all, from}
-use Rattle.sets.specs.Sets.{asc, mem}
+use Rattle.sets.{specs.Lists.all, specs.Lists.from, specs.Sets.asc, specs.Sets.mem, proofs.Places.at-in}
 use Rattle.sets.proofs.Truth.{both, either, decided, clash, iff}
 use Rattle.sets.proofs.Lists.{_∈_, all-in, all-out, all-cong, map-in, map-out, ahead}
-use Rattle.sets.proofs.Places.{at-in}
 use Rattle.sets.proofs.Sets.{from-asc, from-mem, mem-of, of-mem}
 use Rattle.network.specs.Net.{Node, Net, nodes, variables, HasVariable, known, over, cubesAt}
 use Rattle.network.specs.Meaning.{Reads, IsVariable, Closed, Distinct}

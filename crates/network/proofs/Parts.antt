@@ -6,12 +6,9 @@ use native.Mathlib.Omega.{arith}
 use lib.ListN.{length, getD, take, drop, length-drop, drop-of-length-le}
 use lib.Seq.{getD-take, getD-drop, length-take-le, take-take}
 use Rattle.expression.specs.Words.{cubesOf}
-use Rattle.network_nodes.specs.Nodes.{cut}
-use Rattle.network_nodes.proofs.Cutting.{cut-length, cut-take}
+use Rattle.network_nodes.{specs.Nodes.cut, proofs.Cutting.cut-length, proofs.Cutting.cut-take}
 use Rattle.sets.proofs.Places.{drop-next}
-use Rattle.network.specs.Net.{Node, cubesAt}
-use Rattle.network.specs.Meaning.{IsDivisor}
-use Rattle.network.specs.Held.{numberAt, placeAt}
+use Rattle.network.specs.{Net.Node, Net.cubesAt, Meaning.IsDivisor, Held.numberAt, Held.placeAt}
 use Rattle.network.specs.Parts.{nodesOf, heldIn, netAt}
 use Rattle.network.proofs.Numbering.{numbered-range, numbered-get, place-number}
 use Rattle.network.proofs.Holding.{place-held, divisors-held}

@@ -8,12 +8,10 @@ use native.Mathlib.Omega.{arith}
 use lib.Dec.{eqb}
 use lib.ListN.{length}
 use borrow.Author.Tests.{eqb-false, eq-eqb, ne-eqb, not-true}
-use Rattle.sets.specs.Lists.{keep, pairwise}
-use Rattle.sets.specs.Sets.{mem}
+use Rattle.sets.{specs.Lists.keep, specs.Lists.pairwise, specs.Sets.mem, proofs.Sets.mem-of, proofs.Sets.of-mem}
 use Rattle.sets.proofs.Truth.{neither, decided, clash}
 pub use Rattle.sets.proofs.Lists.{all-append}
 use Rattle.sets.proofs.Lists.{_∈_, all-in, all-out, keep-in, keep-all, keep-fewer, ahead}
-use Rattle.sets.proofs.Sets.{mem-of, of-mem}
 use Rattle.network.specs.Meaning.{differ}
 
 module _ {A : Type 0} where

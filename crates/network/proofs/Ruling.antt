@@ -1,22 +1,14 @@
 -- A struct by the rules means a lawful network, one that holds a lawful network is by the rules, and the judgement says which. Assumes nothing.
 use Prim.Native.Nat.{ℕ}
 use mathlib.Core.Path.{_≡_, sym, ap, _∙_, subst}
-use mathlib.Core.Logic.{inl, inr}
-use mathlib.Core.Bool.{true, false}
+use mathlib.Core.{Logic.inl, Logic.inr, Bool.true, Bool.false}
 use native.Mathlib.Omega.{arith}
 use lib.ListN.{length}
-use Rattle.sets.specs.Lists.{total}
-use Rattle.sets.proofs.Truth.{decided}
-use Rattle.sets.proofs.Lists.{total-map}
+use Rattle.sets.{specs.Lists.total, proofs.Truth.decided, proofs.Lists.total-map}
 use Rattle.expression.specs.declared.Verdict.the-variants.{Accepted, Refused}
-use Rattle.network.specs.Net.{Net, nodes}
-use Rattle.network.specs.Held.{netOf, rules}
-use Rattle.network.specs.Rules.{Lawful}
-use Rattle.network.specs.Handed.{Shaped, Holds}
-use Rattle.network.specs.Answers.{judged}
-use Rattle.network.specs.declared.Network.{Network}
-use Rattle.network.proofs.Holding.{lawful-rules, rules-iff}
-use Rattle.network.proofs.Handing.{used-held, holds-net}
+use Rattle.network.specs.{Net.Net, Net.nodes, Held.netOf, Held.rules, Rules.Lawful}
+use Rattle.network.specs.{Handed.Shaped, Handed.Holds, Answers.judged, declared.Network.Network}
+use Rattle.network.proofs.{Holding.lawful-rules, Holding.rules-iff, Handing.used-held, Handing.holds-net}
 
 pub rules-lawful : (n : Network) → Shaped n → rules n ≡ true → Lawful (netOf n)
 rules-lawful n s h = (rules-iff n s .0 h) .lawful

@@ -1,16 +1,12 @@
 -- What is told of an answer: by the rules or refused by 10, and no two answers differ. Assumes nothing.
 use Prim.Native.Nat.{ℕ}
 use mathlib.Core.Path.{_≡_, sym, _∙_}
-use mathlib.Core.Logic.{inl, inr}
-use mathlib.Core.Bool.{true, false}
+use mathlib.Core.{Logic.inl, Logic.inr, Bool.true, Bool.false}
 use Rattle.sets.proofs.Truth.{decided}
 use native.Mathlib.Omega.{arith}
 use Rattle.expression.specs.declared.Verdict.the-variants.{Accepted, Refused}
-use Rattle.network.specs.Net.{Net}
-use Rattle.network.specs.Held.{rules}
+use Rattle.network.specs.{Net.Net, Held.rules, declared.Network.Network, declared.Handed.Handed}
 use Rattle.network.specs.Handed.{Typed, Holds, AllZero, Return, gives, refuses, Told, byRules}
-use Rattle.network.specs.declared.Network.{Network}
-use Rattle.network.specs.declared.Handed.{Handed}
 use Rattle.network.proofs.Handing.{holds-one, blank-one}
 
 -- no two answers differ

@@ -4,16 +4,11 @@ use mathlib.Core.Bool.{Bool, cond, _&&_}
 use mathlib.Core.List.{List, [], _++_}
 use lib.ListN.{length, replicate}
 use Rattle.sets.specs.Lists.{all}
-use Rattle.expression.specs.declared.Verdict.{Verdict}
-use Rattle.expression.specs.declared.Verdict.the-variants.{Accepted, Refused}
+use Rattle.expression.specs.declared.{Verdict.Verdict, Verdict.the-variants.Accepted, Verdict.the-variants.Refused}
 use Rattle.network.specs.Net.{nodes, over, literalCount}
-use Rattle.network.specs.Listing.{listing}
-use Rattle.network.specs.Evaluation.{evaluate}
+use Rattle.network.specs.{Listing.listing, Evaluation.evaluate, declared.Network.Network, declared.Listed.Listed}
 use Rattle.network.specs.Held.{netOf, sized, rules, mostVariables}
-use Rattle.network.specs.declared.Network.{Network}
-use Rattle.network.specs.declared.Listed.{Listed}
-use Rattle.network.specs.declared.Number.{Number}
-use Rattle.network.specs.declared.Number.the-variants.{Is, No}
+use Rattle.network.specs.declared.{Number.Number, Number.the-variants.Is, Number.the-variants.No}
 
 unfoldable pub judged : Network → Verdict
 judged n = cond (rules n) Accepted (Refused 10)

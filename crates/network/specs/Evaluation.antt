@@ -5,8 +5,7 @@ use mathlib.Core.List.{List, [], _∷_, map}
 use lib.Dec.{eqb}
 use Rattle.sets.specs.Masks.{bit, packed}
 use Rattle.expression.specs.Value.{lit, value}
-use Rattle.network.specs.Net.{Net, cubesAt}
-use Rattle.network.specs.Listing.{listing}
+use Rattle.network.specs.{Net.Net, Net.cubesAt, Listing.listing}
 
 -- the assignment a with the value b for the variable v
 abbrev pub assign : (ℕ → Bool) → ℕ → Bool → ℕ → Bool

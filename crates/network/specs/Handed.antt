@@ -1,7 +1,6 @@
 -- A network handed back: nodes laid one after the other, the slots past those in use zero; or a refusal.
 use Prim.Native.Nat.{ℕ, _+_, _*_, _-_}
-use mathlib.Core.Path.{_≡_}
-use mathlib.Core.Bool.{true, cond}
+use mathlib.Core.{Path._≡_, Bool.true, Bool.cond}
 use mathlib.Core.List.{List, [], _∷_, _++_, map}
 use lib.ListN.{length, replicate}
 use Rattle.sets.specs.Lists.{total}
@@ -10,8 +9,7 @@ use Rattle.expression.proofs.Words.{fit}
 use Rattle.expression.specs.declared.Verdict.the-variants.{Accepted, Refused}
 use Rattle.network.specs.Net.{Net, nodes, cubeCount}
 use Rattle.network.specs.Held.{mostOutputs, mostVariables, mostCubes, rules}
-use Rattle.network.specs.declared.Network.{Network}
-use Rattle.network.specs.declared.Handed.{Handed}
+use Rattle.network.specs.declared.{Network.Network, Handed.Handed}
 
 module _ {A : Type 0} where
   -- the lists, one after the other

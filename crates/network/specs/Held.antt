@@ -5,13 +5,11 @@ use mathlib.Core.List.{List, [], _∷_}
 use lib.Dec.{leb, eqb}
 use lib.ListN.{length, take, drop}
 use Rattle.sets.specs.Lists.{all, total}
-use Rattle.expression.specs.Words.{cubesOf}
-use Rattle.expression.specs.Expression.{expression}
+use Rattle.expression.specs.{Words.cubesOf, Expression.expression}
 pub use Rattle.expression.specs.Expression.{reach}
 use Rattle.network_nodes.specs.Nodes.{cut}
 use Rattle.network.specs.Net.{Node, Net, nodes, over, literalCount}
-use Rattle.network.specs.Listing.{listing}
-use Rattle.network.specs.declared.Network.{Network}
+use Rattle.network.specs.{Listing.listing, declared.Network.Network}
 
 -- divisors, numbered from v on
 unfoldable pub numbered : ℕ → List (List (List ℕ)) → List Node

@@ -5,8 +5,7 @@ use mathlib.Core.List.{List, [], _∷_, _++_}
 use mathlib.Core.Option.{Option, none, some}
 use lib.Dec.{ltb}
 use lib.ListN.{length}
-use Rattle.sets.specs.Lists.{all}
-use Rattle.sets.specs.Sets.{mem}
+use Rattle.sets.specs.{Lists.all, Sets.mem}
 use Rattle.network.specs.Net.{Node, Net}
 
 -- every variable that an expression reads is one of n inputs or listed

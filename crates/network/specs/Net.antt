@@ -4,8 +4,7 @@ use mathlib.Core.List.{List, [], _∷_, _++_, map}
 use mathlib.Core.Bool.{Bool, cond, _||_}
 use lib.Dec.{ltb, eqb}
 use lib.ListN.{length}
-use Rattle.sets.specs.Lists.{all, total}
-use Rattle.sets.specs.Sets.{mem}
+use Rattle.sets.specs.{Lists.all, Lists.total, Sets.mem}
 use Rattle.expression.specs.Expression.{literalsOf}
 
 pub record Node : Type 0 where

@@ -5,10 +5,8 @@ use lib.ListN.{length, take, drop}
 use Rattle.sets.specs.Lists.{total}
 use Rattle.expression.specs.Words.{cubesOf}
 use Rattle.network_nodes.specs.Nodes.{cut}
-use Rattle.network.specs.Net.{Net}
+use Rattle.network.specs.{Net.Net, Handed.Shaped, declared.Network.Network}
 use Rattle.network.specs.Held.{netOf, mostOutputs, mostVariables, mostCubes}
-use Rattle.network.specs.Handed.{Shaped}
-use Rattle.network.specs.declared.Network.{Network}
 
 -- the expressions of the first e counts
 abbrev pub nodesOf : ℕ → List ℕ → List ℕ → List (List (List ℕ))

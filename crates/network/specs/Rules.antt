@@ -1,16 +1,13 @@
 -- What the rules on networks say, in the paper's words, against which the test `rules` is held; which networks mean the same.
 use Prim.Native.Nat.{ℕ, _≤_}
-use mathlib.Core.Path.{_≡_}
-use mathlib.Core.Bool.{true}
+use mathlib.Core.{Path._≡_, Bool.true}
 use mathlib.Core.List.{List, map, List·Memᴰ}
 use lib.ListN.{length, take}
 use Rattle.sets.specs.Lists.{total}
-use Rattle.expression.specs.Words.{cubesOf}
-use Rattle.expression.specs.Expression.{expression}
+use Rattle.expression.specs.{Words.cubesOf, Expression.expression}
 use Rattle.network.specs.Net.{Node, Net, nodes, variables, HasVariable, cubeCount, literalCount}
-use Rattle.network.specs.Meaning.{Reads, Through}
+use Rattle.network.specs.{Meaning.Reads, Meaning.Through, declared.Network.Network}
 use Rattle.network.specs.Held.{numbered, used, netOf, mostInputs, mostOutputs, mostVariables, mostCubes, mostLiterals}
-use Rattle.network.specs.declared.Network.{Network}
 
 -- two networks with the same slots in use
 pub record Alike (n m : Network) : Type 0 where

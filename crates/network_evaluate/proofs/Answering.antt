@@ -7,13 +7,9 @@ use lib.ListN.{length, take, replicate}
 use lib.Seq.{take-append-seam}
 use Rattle.sets.specs.Masks.{bit, packed}
 use Rattle.network_known.specs.Known.{Truths, someWithin}
-use Rattle.network.specs.Net.{Net}
-use Rattle.network.specs.Listing.{listing}
-use Rattle.network.specs.Evaluation.{evaluate}
+use Rattle.network.specs.{Net.Net, Listing.listing, Evaluation.evaluate, Answers.evaluated, declared.Network.Network}
 use Rattle.network.specs.Held.{netOf, rules, mostVariables}
-use Rattle.network.specs.Answers.{evaluated}
 use Rattle.network.specs.Parts.{nodesOf, heldIn, netAt}
-use Rattle.network.specs.declared.Network.{Network}
 use Rattle.network.specs.declared.Number.the-variants.{Is, No}
 use Rattle.network.proofs.Holding.{rules-sound}
 use Rattle.network.proofs.Parts.{outputs-are}

@@ -9,25 +9,18 @@ use native.Mathlib.Omega.{arith}
 use lib.ListN.{length, getD, drop, drop-of-length-le, length-drop, length-map}
 use lib.Dec.{ltb}
 use borrow.Author.Tests.{lt-ltb, le-ltb, eq-eqb, ne-eqb}
-use Rattle.sets.specs.Lists.{all}
-use Rattle.sets.specs.Masks.{bit, packed}
-use Rattle.sets.proofs.Truth.{or-left, or-right}
+use Rattle.sets.{specs.Lists.all, specs.Masks.bit, specs.Masks.packed, proofs.Truth.or-left, proofs.Truth.or-right, proofs.Sets.mem-of}
 use Rattle.sets.proofs.Lists.{_∈_, all-out, all-cong, any-cong, map-cong}
-use Rattle.sets.proofs.Sets.{mem-of}
-use Rattle.sets.proofs.Packing.{packed-lt}
+use Rattle.sets.proofs.{Packing.packed-lt, Places.drop-next}
 use Rattle.expression.specs.Value.{lit, value}
 use Rattle.sets.specs.Sets.{mem, sub, insert}
-use Rattle.sets.proofs.Places.{drop-next}
-use Rattle.network.specs.Net.{Net, cubesAt}
-use Rattle.network.specs.Listing.{ready, listing}
+use Rattle.network.specs.{Net.Net, Net.cubesAt, Listing.ready, Listing.listing, Held.mostOutputs}
 use Rattle.network.specs.Meaning.{ListedNext, IsVariable, Sound}
-use Rattle.network.specs.Held.{mostOutputs}
 use Rattle.network.specs.Evaluation.{assign, settle, evaluate}
 use Rattle.network_known.specs.Known.{known, Truths, signed, someWithin}
 use Rattle.network_known.proofs.Knowing.{known-listed, signed-more}
 use Rattle.network_evaluate.specs.Parts.{settledIn}
-use Rattle.network.proofs.Numbering.{passes-read}
-use Rattle.network.proofs.Listings.{listing-step, listing-in}
+use Rattle.network.proofs.{Numbering.passes-read, Listings.listing-step, Listings.listing-in}
 
 -- ---- values
 

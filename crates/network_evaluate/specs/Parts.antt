@@ -1,15 +1,10 @@
 -- Words for the contracts of the private functions: divisors that settle by true literals, and a network with its listing.
 use Prim.Native.Nat.{ℕ}
-use mathlib.Core.Path.{_≡_}
-use mathlib.Core.Bool.{true}
+use mathlib.Core.{Path._≡_, Bool.true}
 use mathlib.Core.List.{List, [], _∷_}
 use Rattle.sets.specs.Sets.{insert}
 use Rattle.network_known.specs.Known.{signed, someWithin}
-use Rattle.network.specs.Net.{Net, cubesAt}
-use Rattle.network.specs.Listing.{listing}
-use Rattle.network.specs.Held.{rules}
-use Rattle.network.specs.Handed.{Shaped}
-use Rattle.network.specs.Parts.{heldIn, netAt}
+use Rattle.network.specs.{Net.Net, Net.cubesAt, Listing.listing, Held.rules, Handed.Shaped, Parts.heldIn, Parts.netAt}
 use Rattle.network_listing.specs.Parts.{PaddedList}
 
 -- the listed divisors take their values one after the other

@@ -3,16 +3,12 @@
 use Prim.Native.Nat.{ℕ, _<_}
 use mathlib.Core.Path.{_≡_, sym, ap, _∙_, subst}
 use mathlib.Core.Logic.{_↔_, inl, inr}
-use mathlib.Core.Bool.{true}
-use mathlib.Core.List.{[], List·Memᴰ·append-cases}
+use mathlib.Core.{Bool.true, List.[], List.List·Memᴰ·append-cases}
 use lib.ListN.{getD}
-use Rattle.sets.specs.Masks.{bit}
-use Rattle.sets.proofs.Lists.{_∈_, map-out}
+use Rattle.sets.{specs.Masks.bit, proofs.Lists._∈_, proofs.Lists.map-out}
 use Rattle.network.specs.Net.{Node, Net, nodes}
 use Rattle.network.specs.Meaning.{Reads, IsDivisor, IsVariable, Sound}
-use Rattle.network.specs.Held.{netOf, rules}
-use Rattle.network.specs.Evaluation.{evaluate}
-use Rattle.network.specs.declared.Network.{Network}
+use Rattle.network.specs.{Held.netOf, Held.rules, Evaluation.evaluate, declared.Network.Network}
 use Rattle.network.proofs.Holding.{nodes-held, output-held, rules-sound}
 use Rattle.network_hangs.specs.Hangs.{hangsOn, hangsAt, Leans, KeepsAlone}
 use Rattle.network_hangs.proofs.Hanging.{known-at, hangs-iff, hangs-output}

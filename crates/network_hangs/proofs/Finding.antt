@@ -1,23 +1,17 @@
 -- What is found from the variables that a node reads, and what is answered of it. Assumes nothing.
 use Prim.Native.Nat.{ℕ, _+_, _<_, _≤_}
-use mathlib.Core.Path.{_≡_, _∙_}
-use mathlib.Core.Bool.{true, false}
-use mathlib.Core.List.{List, []}
+use mathlib.Core.{Path._≡_, Path._∙_, Bool.true, Bool.false, List.List, List.[]}
 use native.Mathlib.Omega.{arith}
 use lib.Dec.{leb}
 use lib.ListN.{length, getD, length-take, List·getD-eq-default}
 use Rattle.sets.specs.Lists.{keep}
 use Rattle.expression.specs.Words.{cubesOf}
 use Rattle.network.specs.Held.{used, netOf, rules}
-use Rattle.network_nodes.specs.Nodes.{cut}
+use Rattle.network_nodes.{specs.Nodes.cut, proofs.Cutting.cut-length}
 use Rattle.network.specs.Parts.{nodesOf, divisorsOf, netAt, InLimits}
-use Rattle.network.specs.declared.Network.{Network}
-use Rattle.network.proofs.Numbering.{numbered-length}
-use Rattle.network.proofs.Parts.{divisors-length, nodes-at}
+use Rattle.network.{specs.declared.Network.Network, proofs.Numbering.numbered-length, proofs.Parts.divisors-length, proofs.Parts.nodes-at}
 use Rattle.network.proofs.Holding.{nodes-held}
-use Rattle.network_nodes.proofs.Cutting.{cut-length}
-use Rattle.network_reads.specs.Reading.{readsOf, Marks}
-use Rattle.network_reads.proofs.Marking.{marks-none}
+use Rattle.network_reads.{specs.Reading.readsOf, specs.Reading.Marks, proofs.Marking.marks-none}
 use Rattle.network_hangs.specs.Hangs.{reached, hangsOn, hangsAt}
 use Rattle.network_hangs.specs.Parts.{Makes}
 use Rattle.network_hangs.proofs.Reading.{reached-none}

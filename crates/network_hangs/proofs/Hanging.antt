@@ -8,25 +8,19 @@ use native.Mathlib.Omega.{arith}
 use lib.Dec.{leb}
 use lib.ListN.{length, getD, length-append, List·getD-eq-default}
 use borrow.Author.Tests.{leb-true, leb-false, le-leb}
-use Rattle.sets.specs.Sets.{mem, union}
-use Rattle.sets.specs.Masks.{bit}
+use Rattle.sets.{specs.Sets.mem, specs.Sets.union, specs.Masks.bit, proofs.Places.at-in}
 use Rattle.sets.proofs.Truth.{either, or-left, or-right, decided}
 use Rattle.sets.proofs.Lists.{_∈_, keep-in, keep-out}
 use Rattle.sets.proofs.Sets.{mem-of, of-mem, union-mem}
-use Rattle.sets.proofs.Places.{at-in}
 use Rattle.expression.specs.Value.{lit, value}
 use Rattle.network.specs.Net.{Node, Net, cubesAt}
-use Rattle.network.specs.Listing.{listing}
-use Rattle.network.specs.Evaluation.{settle, evaluate}
+use Rattle.network.specs.{Listing.listing, Evaluation.settle, Evaluation.evaluate, Meaning.Through.itself, Meaning.Through.others}
 use Rattle.network.specs.Meaning.{Reads, Through, IsDivisor, IsVariable, Consistent, Sound}
-use Rattle.network.specs.Meaning.Through.{itself, others}
-use Rattle.network.proofs.Places.{split-in}
-use Rattle.network.proofs.Numbering.{cubes-at}
+use Rattle.network.proofs.{Places.split-in, Numbering.cubes-at}
 use Rattle.network.proofs.Listings.{listing-in, listing-earlier, through-from, through-then}
 use Rattle.network.proofs.Evaluating.{value-agree, divisors-agree, evaluate-settled, evaluate-bit}
-use Rattle.network_reads.specs.Reading.{readsOf}
+use Rattle.network_reads.{specs.Reading.readsOf, proofs.Reading.reads-in, proofs.Reading.reads-out}
 use Rattle.network_hangs.specs.Hangs.{readBy, reached, hangsOn, Leans, KeepsAlone, Fits}
-use Rattle.network_reads.proofs.Reading.{reads-in, reads-out}
 use Rattle.network_hangs.proofs.Reading.{by-in, by-out, reads-divisor}
 
 -- ---- what is reached

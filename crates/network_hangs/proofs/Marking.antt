@@ -6,13 +6,9 @@ use mathlib.Core.List.{List, [], _∷_}
 use native.Mathlib.Omega.{arith}
 use lib.Dec.{leb, eqb}
 use borrow.Author.Tests.{eq-eqb, ne-eqb, le-leb, lt-leb}
-use Rattle.sets.specs.Lists.{keep}
-use Rattle.sets.specs.Literal.{plainOf}
-use Rattle.sets.specs.Sets.{mem, without}
+use Rattle.sets.{specs.Lists.keep, specs.Literal.plainOf, specs.Sets.mem, specs.Sets.without, proofs.Sets.keep-mem, proofs.Sets.without-mem}
 use Rattle.sets.proofs.Truth.{compared, below, equal, beyond}
-use Rattle.sets.proofs.Sets.{keep-mem, without-mem}
-use Rattle.network_reads.specs.Reading.{Marks}
-use Rattle.network_reads.proofs.Marking.{marks-none, marks-plain}
+use Rattle.network_reads.{specs.Reading.Marks, proofs.Marking.marks-none, proofs.Marking.marks-plain}
 use Rattle.network_hangs.specs.Parts.{Makes}
 
 -- ---- a list where the set has a variable, and nothing where it does not

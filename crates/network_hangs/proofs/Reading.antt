@@ -7,19 +7,14 @@ use mathlib.Core.List.{List, [], _∷_, List·Memᴰ·head as here, List·Memᴰ
 use native.Mathlib.Numerals.{add-one}
 use lib.Dec.{eqb}
 use borrow.Author.Tests.{eqb-true}
-use Rattle.sets.specs.Lists.{any}
-use Rattle.sets.specs.Sets.{mem, union}
+use Rattle.sets.specs.{Lists.any, Sets.mem, Sets.union}
 use Rattle.sets.proofs.Truth.{iff, both, together, either, or-left, or-right, clash, decided}
 use Rattle.sets.proofs.Lists.{_∈_, any-in, any-out}
 use Rattle.sets.proofs.Sets.{mem-of, of-mem, union-mem, nil-mem}
 use Rattle.network.specs.Net.{Node, Net, cubesAt}
-use Rattle.network.specs.Meaning.{Reads, Distinct}
-use Rattle.network.proofs.Numbering.{cubes-at}
-use Rattle.network_reads.specs.Reading.{readsOf, Marks}
-use Rattle.network_reads.proofs.Marking.{Gathers}
-use Rattle.network_reads.proofs.Reading.{reads-in, reads-out}
-use Rattle.network_hangs.specs.Hangs.{readBy, reached}
-use Rattle.network_hangs.specs.Parts.{readIf, Makes}
+use Rattle.network.{specs.Meaning.Reads, specs.Meaning.Distinct, proofs.Numbering.cubes-at}
+use Rattle.network_reads.{specs.Reading.readsOf, specs.Reading.Marks, proofs.Marking.Gathers, proofs.Reading.reads-in, proofs.Reading.reads-out}
+use Rattle.network_hangs.specs.{Hangs.readBy, Hangs.reached, Parts.readIf, Parts.Makes}
 
 -- ---- what the divisors among a list's variables read
 

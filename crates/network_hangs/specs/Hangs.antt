@@ -1,18 +1,13 @@
 -- The divisors that an expression of a network hangs on, directly and through others.
 use Prim.Native.Nat.{ℕ, zero, suc, _<_}
-use mathlib.Core.Path.{_≡_}
-use mathlib.Core.Logic.{_⊎_}
-use mathlib.Core.Bool.{Bool, cond}
+use mathlib.Core.{Path._≡_, Logic._⊎_, Bool.Bool, Bool.cond}
 use mathlib.Core.List.{List, [], _∷_, List·Memᴰ}
 use lib.Dec.{leb}
 use lib.ListN.{length, getD}
-use Rattle.sets.specs.Lists.{keep}
-use Rattle.sets.specs.Sets.{union}
+use Rattle.sets.specs.{Lists.keep, Sets.union}
 use Rattle.expression.specs.Value.{lit, value}
 use Rattle.network.specs.Net.{Node, Net, nodes, cubesAt}
-use Rattle.network.specs.Meaning.{Reads, Through}
-use Rattle.network.specs.Held.{netOf, rules}
-use Rattle.network.specs.declared.Network.{Network}
+use Rattle.network.specs.{Meaning.Reads, Meaning.Through, Held.netOf, Held.rules, declared.Network.Network}
 use Rattle.network_reads.specs.Reading.{readsOf}
 
 -- what the divisors among the variables read

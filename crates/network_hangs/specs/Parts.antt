@@ -1,7 +1,6 @@
 -- Words for the contracts of the private functions: what a set becomes.
 use Prim.Native.Nat.{ℕ, _+_}
-use mathlib.Core.Bool.{cond}
-use mathlib.Core.List.{List, []}
+use mathlib.Core.{Bool.cond, List.List, List.[]}
 use lib.ListN.{getD}
 use Rattle.sets.specs.Sets.{mem}
 use Rattle.network.specs.Parts.{nodesOf, netAt}

@@ -1,11 +1,9 @@
 -- A test that every element passes, or some element, over what is left from a place on. Assumes nothing.
 use Prim.Native.Nat.{ℕ, _+_, _<_, _≤_}
-use mathlib.Core.Path.{_≡_}
+use mathlib.Core.{Path._≡_, List.List}
 use mathlib.Core.Bool.{Bool, true, false, cond, not}
-use mathlib.Core.List.{List}
 use lib.ListN.{length, getD, drop, drop-of-length-le}
-use Rattle.sets.specs.Lists.{any, all}
-use Rattle.sets.proofs.Places.{drop-next}
+use Rattle.sets.{specs.Lists.any, specs.Lists.all, proofs.Places.drop-next}
 
 module _ {A : Type 0} (l : List A) (i : ℕ) (p : A → Bool) where
   -- by every: all of them, or any

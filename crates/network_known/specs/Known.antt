@@ -1,12 +1,9 @@
 -- Cubes of known literals, all of them or those of value 1, and what is tested by them.
 use Prim.Native.Nat.{ℕ, _/_}
-use mathlib.Core.Path.{_≡_}
+use mathlib.Core.{Path._≡_, List.List}
 use mathlib.Core.Bool.{Bool, cond, _&&_, _||_}
-use mathlib.Core.List.{List}
 use lib.Dec.{ltb}
-use Rattle.sets.specs.Lists.{any, all}
-use Rattle.sets.specs.Sets.{mem, sub}
-use Rattle.sets.specs.Literal.{plainOf, negatedOf}
+use Rattle.sets.specs.{Lists.any, Lists.all, Sets.mem, Sets.sub, Literal.plainOf, Literal.negatedOf}
 use Rattle.expression.specs.Value.{lit}
 
 -- every cube has only literals of k

@@ -5,21 +5,14 @@ use mathlib.Core.Bool.{Bool, true, false, cond}
 use mathlib.Core.List.{List, []}
 use native.Mathlib.Omega.{arith}
 use lib.ListN.{length, getD, drop, replicate, length-append, List·getD-append}
-use Rattle.sets.specs.Lists.{all}
-use Rattle.sets.proofs.Truth.{both, together}
-use Rattle.sets.proofs.Lists.{all-cong}
-use Rattle.sets.proofs.Places.{at-in}
+use Rattle.sets.{specs.Lists.all, proofs.Truth.both, proofs.Truth.together, proofs.Lists.all-cong, proofs.Places.at-in}
 use Rattle.expression.specs.Expression.{expression}
 use Rattle.network.specs.Net.{Net, nodes, variables, over}
-use Rattle.network.specs.Listing.{listing}
+use Rattle.network.{specs.Listing.listing, specs.declared.Network.Network, specs.declared.Listed.Listed, proofs.Numbering.over-turn}
 use Rattle.network.specs.Held.{netOf, sized, reach, ruled, rules, mostVariables}
 use Rattle.network.specs.Answers.{listable, numbersOf, listedOf}
 use Rattle.network.specs.Parts.{nodesOf, heldIn, netAt, InLimits, Limited}
-use Rattle.network.specs.declared.Network.{Network}
-use Rattle.network.specs.declared.Listed.{Listed}
-use Rattle.network.proofs.Numbering.{over-turn}
-use Rattle.network.proofs.Listings.{listing-length, listing-number}
-use Rattle.network.proofs.Holding.{nodes-held, divisors-held}
+use Rattle.network.proofs.{Listings.listing-length, Listings.listing-number, Holding.nodes-held, Holding.divisors-held}
 use Rattle.network.proofs.Parts.{divisor-range}
 use Rattle.network_listing.specs.Parts.{PaddedList, Ordered}
 

@@ -1,18 +1,13 @@
 -- Tests of an expression by known literals: that it is ready, and that it reaches no other variable. Assumes nothing.
 use Prim.Native.Nat.{ℕ, _/_, _≤_}
 use mathlib.Core.Path.{_≡_, ap, _∙_}
-use mathlib.Core.Bool.{_||_, or-false}
-use mathlib.Core.List.{List, []}
+use mathlib.Core.{Bool._||_, Bool.or-false, List.List, List.[]}
 use native.Mathlib.Omega.{arith}
 use lib.Dec.{ltb}
 use borrow.Author.Tests.{le-ltb}
-use Rattle.sets.specs.Lists.{all}
-use Rattle.sets.specs.Sets.{mem, sub}
-use Rattle.sets.specs.Literal.{plainOf}
-use Rattle.sets.proofs.Lists.{all-cong}
+use Rattle.sets.{specs.Lists.all, specs.Sets.mem, specs.Sets.sub, specs.Literal.plainOf, proofs.Lists.all-cong}
 use Rattle.network_known.specs.Known.{known, BothWays, everyWithin}
-use Rattle.network.specs.Listing.{ready}
-use Rattle.network.specs.Held.{reach}
+use Rattle.network.specs.{Listing.ready, Held.reach}
 
 module _ (n : ℕ) (listed k : List ℕ) (s : BothWays n listed k) where
   -- an expression is ready where its cubes have only literals of known variables

@@ -8,16 +8,12 @@ use native.Mathlib.Omega.{arith}
 use native.Mathlib.Numerals.{add-one}
 use lib.ListN.{length, take, drop, set, replicate, length-set, take-append-drop}
 use lib.Seq.{length-take-le, take-suc-set, drop-set-lt, drop-drop}
-use Rattle.sets.specs.Literal.{plainOf}
-use Rattle.sets.specs.Sets.{mem, insert}
-use Rattle.sets.proofs.Lists.{_∈_}
-use Rattle.network.specs.Net.{Node, Net}
+use Rattle.sets.{specs.Literal.plainOf, specs.Sets.mem, specs.Sets.insert, proofs.Lists._∈_}
+use Rattle.network.{specs.Net.Node, specs.Net.Net, specs.Held.mostVariables, proofs.Listings.more-none, proofs.Listings.more-some}
 use Rattle.network.specs.Listing.{nextReady, listMore, listing}
-use Rattle.network.specs.Held.{mostVariables}
 use Rattle.network_known.specs.Known.{everyWithin, BothWays, signed}
 use Rattle.network_known.proofs.Knowing.{spans-listed}
 use Rattle.network_listing.specs.Parts.{nextIn, PaddedList}
-use Rattle.network.proofs.Listings.{more-none, more-some}
 use Rattle.network_listing.proofs.Reaching.{within-ready, plain-listed}
 
 -- ---- the next number

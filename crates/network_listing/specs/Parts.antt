@@ -5,12 +5,9 @@ use mathlib.Core.Bool.{cond, not, _&&_}
 use mathlib.Core.List.{List, [], _∷_}
 use mathlib.Core.Option.{Option, none, some}
 use lib.ListN.{length, getD}
-use Rattle.sets.specs.Sets.{mem}
-use Rattle.sets.specs.Literal.{plainOf}
+use Rattle.sets.specs.{Sets.mem, Literal.plainOf}
 use Rattle.network_known.specs.Known.{everyWithin}
-use Rattle.network.specs.Net.{Node}
-use Rattle.network.specs.Held.{mostVariables}
-use Rattle.network.specs.Answers.{padded}
+use Rattle.network.specs.{Net.Node, Held.mostVariables, Answers.padded}
 
 -- the first divisor that is not known and reads known variables alone
 unfoldable pub nextIn : List ℕ → List Node → Option ℕ

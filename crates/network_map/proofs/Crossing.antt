@@ -1,14 +1,12 @@
 -- Only one table of cells says which output hangs on which variable. Assumes nothing.
 use Prim.Native.Nat.{ℕ, _+_, _*_, _/_, _%_, _<_}
 use mathlib.Core.Path.{_≡_, sym, ap, _∙_}
-use mathlib.Core.Bool.{Bool, false}
-use mathlib.Core.List.{List}
+use mathlib.Core.{Bool.Bool, Bool.false, List.List}
 use native.Mathlib.Omega.{arith}
 use lib.ListN.{length, getD}
 use lib.Seq.{ext-getD}
 use Rattle.sets.specs.Sets.{mem}
-use Rattle.network.specs.Held.{mostOutputs, mostVariables}
-use Rattle.network.specs.declared.Network.{Network}
+use Rattle.network.specs.{Held.mostOutputs, Held.mostVariables, declared.Network.Network}
 use Rattle.network_map.specs.Cells.{rowOf, Crossed}
 
 module _ (n : Network) where

@@ -1,13 +1,11 @@
 -- Which output of a network hangs on which divisor, as a table of cells.
 use Prim.Native.Nat.{ℕ, _+_, _*_, _<_}
-use mathlib.Core.Path.{_≡_}
+use mathlib.Core.{Path._≡_, List.List, List.[]}
 use mathlib.Core.Bool.{Bool, false, cond}
-use mathlib.Core.List.{List, []}
 use lib.Dec.{ltb}
 use lib.ListN.{getD}
 use Rattle.sets.specs.Sets.{mem}
-use Rattle.network.specs.Held.{mostOutputs, mostVariables}
-use Rattle.network.specs.declared.Network.{Network}
+use Rattle.network.specs.{Held.mostOutputs, Held.mostVariables, declared.Network.Network}
 use Rattle.network_hangs.specs.Hangs.{hangsAt}
 
 -- the divisors that output j hangs on; none past the last output

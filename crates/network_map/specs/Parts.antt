@@ -1,11 +1,8 @@
 -- Words for the contract of a private function.
 use Prim.Native.Nat.{ℕ, _+_, _*_, _<_}
-use mathlib.Core.Path.{_≡_}
-use mathlib.Core.Bool.{Bool, false}
-use mathlib.Core.List.{List}
+use mathlib.Core.{Path._≡_, Bool.Bool, Bool.false, List.List}
 use lib.ListN.{length, getD}
-use Rattle.sets.specs.Literal.{plainOf}
-use Rattle.sets.specs.Sets.{mem}
+use Rattle.sets.specs.{Literal.plainOf, Sets.mem}
 use Rattle.network.specs.Held.{mostOutputs, mostVariables}
 
 -- there is a row j

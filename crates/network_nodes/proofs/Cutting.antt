@@ -5,8 +5,7 @@ use mathlib.Core.List.{List, [], _∷_}
 use native.Mathlib.Omega.{arith}
 use lib.ListN.{length, getD, take, drop, length-drop}
 use lib.Seq.{length-take-le, drop-drop, take-add}
-use Rattle.sets.specs.Lists.{total}
-use Rattle.sets.proofs.Lists.{total-append}
+use Rattle.sets.{specs.Lists.total, proofs.Lists.total-append}
 use Rattle.network_nodes.specs.Nodes.{cut, countBefore}
 
 pub cut-length : (ns : List ℕ) (f : List (List ℕ)) → length (cut ns f) ≡ length ns

@@ -5,8 +5,7 @@ use mathlib.Core.List.{List, []}
 use native.Mathlib.Omega.{arith}
 use lib.ListN.{length, take, drop, getD, List·getD-eq-default}
 use lib.Seq.{take-all}
-use Rattle.sets.specs.Lists.{total}
-use Rattle.sets.proofs.Places.{total-next}
+use Rattle.sets.{specs.Lists.total, proofs.Places.total-next}
 use Rattle.expression.proofs.Words.{part-held}
 use Rattle.network_nodes.specs.Nodes.{cut, countBefore}
 use Rattle.network_nodes.proofs.Cutting.{cut-node, cut-length}

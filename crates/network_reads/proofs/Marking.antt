@@ -6,10 +6,9 @@ use mathlib.Core.List.{List, [], _∷_}
 use native.Mathlib.Omega.{arith}
 use lib.Dec.{eqb}
 use borrow.Author.Tests.{eq-eqb, eqb-true, lt-ltb}
-use Rattle.sets.specs.Literal.{plainOf}
+use Rattle.sets.{specs.Literal.plainOf, proofs.Sets.insert-mem, proofs.Sets.union-mem}
 use Rattle.sets.specs.Sets.{mem, insert, union}
 use Rattle.sets.proofs.Truth.{iff, both, together}
-use Rattle.sets.proofs.Sets.{insert-mem, union-mem}
 use Rattle.cube.specs.Cube.{width, lits, joined}
 use Rattle.cube.specs.declared.Cube.{Cube}
 use Rattle.cube.proofs.Lits.{lits-ext, fitCube, cube-one}

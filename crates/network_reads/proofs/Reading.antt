@@ -8,15 +8,10 @@ use native.Mathlib.Omega.{arith}
 use lib.Dec.{leb, eqb}
 use lib.ListN.{length, getD, drop, drop-of-length-le}
 use borrow.Author.Tests.{eq-eqb, ne-eqb, eqb-true, eqb-false, le-leb, lt-leb}
-use Rattle.sets.specs.Literal.{plainOf, negatedOf}
-use Rattle.sets.specs.Sets.{mem}
+use Rattle.sets.{specs.Literal.plainOf, specs.Literal.negatedOf, specs.Sets.mem, proofs.Lists._∈_, proofs.Places.drop-next}
 use Rattle.sets.proofs.Truth.{iff, both, either, or-left, or-right, clash, decided, compared, below, equal, beyond}
-use Rattle.sets.proofs.Lists.{_∈_}
 use Rattle.sets.proofs.Sets.{mem-of, of-mem, insert-mem, union-mem}
-use Rattle.sets.proofs.Places.{drop-next}
-use Rattle.cube.specs.Cube.{width, lits}
-use Rattle.cube.specs.declared.Cube.{Cube}
-use Rattle.cube.proofs.Lits.{lits-inside}
+use Rattle.cube.{specs.Cube.width, specs.Cube.lits, specs.declared.Cube.Cube, proofs.Lits.lits-inside}
 use Rattle.network.specs.Meaning.{Reads}
 use Rattle.network_reads.specs.Reading.{variablesOf, readsOf, Marks}
 use Rattle.network_reads.proofs.Marking.{marks-none}

@@ -1,7 +1,6 @@
 -- The variables that an expression reads, and a cube of plain literals as a set of variables.
 use Prim.Native.Nat.{ℕ, _/_, _%_}
-use mathlib.Core.Path.{_≡_}
-use mathlib.Core.Bool.{_&&_}
+use mathlib.Core.{Path._≡_, Bool._&&_}
 use mathlib.Core.List.{List, [], _∷_}
 use lib.Dec.{eqb}
 use Rattle.sets.specs.Sets.{mem, insert, union}

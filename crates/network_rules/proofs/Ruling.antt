@@ -1,27 +1,20 @@
 -- The rules, and the literal count: which tests decide them, of the nodes as they are held. Assumes nothing.
 use Prim.Native.Nat.{ℕ, _+_, _≤_}
 use mathlib.Core.Path.{_≡_, refl, sym, ap, ap₂, _∙_}
-use mathlib.Core.Logic.{inl, inr}
+use mathlib.Core.{Logic.inl, Logic.inr, List.List}
 use mathlib.Core.Bool.{Bool, true, false, _&&_}
-use mathlib.Core.List.{List}
 use native.Mathlib.Omega.{arith}
 use lib.Dec.{leb, ltb, eqb}
 use lib.ListN.{length}
 use borrow.Author.Tests.{lt-leb, ltb-false}
 use Rattle.sets.specs.Lists.{all, total}
 use Rattle.sets.proofs.Truth.{both, clash, decided}
-use Rattle.expression.specs.Expression.{expression, literalsOf}
-use Rattle.expression.specs.Answers.{capped}
-use Rattle.network.specs.Net.{nodes, over}
-use Rattle.network.specs.Listing.{listing}
+use Rattle.expression.specs.{Expression.expression, Expression.literalsOf, Answers.capped}
+use Rattle.network.specs.{Net.nodes, Net.over, Listing.listing, Handed.Shaped, Parts.nodesOf}
 use Rattle.network.specs.Held.{netOf, sized, ruled, rules, mostLiterals}
 use Rattle.network.specs.Answers.{counted, listable, numbersOf}
-use Rattle.network.specs.Handed.{Shaped}
-use Rattle.network.specs.Parts.{nodesOf}
-use Rattle.network.specs.declared.Network.{Network}
-use Rattle.network.specs.declared.Number.the-variants.{Is, No}
-use Rattle.network.proofs.Holding.{nodes-held, divisors-held}
-use Rattle.network.proofs.Limits.{sized-out, rules-literals}
+use Rattle.network.specs.declared.{Network.Network, Number.the-variants.Is, Number.the-variants.No}
+use Rattle.network.proofs.{Holding.nodes-held, Holding.divisors-held, Limits.sized-out, Limits.rules-literals}
 
 pub leb-capped : (t : ℕ) → leb (capped t) mostLiterals ≡ leb t mostLiterals
 leb-capped t = elim (decided (ltb t 18446744073709551616)) [

@@ -1,7 +1,6 @@
 -- A word for the contract of a private function.
 use Prim.Native.Nat.{ℕ}
-use mathlib.Core.Bool.{Bool, _&&_}
-use mathlib.Core.List.{List}
+use mathlib.Core.{Bool.Bool, Bool._&&_, List.List}
 use lib.Dec.{leb}
 use Rattle.sets.specs.Lists.{all, total}
 use Rattle.expression.specs.Expression.{expression, literalsOf}

@@ -10,16 +10,10 @@ use mir.Syntax.{w32}
 use mir.Val.{SFits, toZ, ofZ}
 use mir.ValLaws.{toZ-ofZ}
 use Rattle.network.specs.Net.{Net, literalCount}
-use Rattle.extract_laws.specs.Extract.{step}
+use Rattle.extract_laws.specs.{Extract.step, Meaning.Good, Meaning.Leads, Meaning.Leads.stay, Meaning.Leads.onward}
 use Rattle.extract_laws.specs.Run.{Made, inOrder, run}
-use Rattle.extract_laws.specs.Meaning.{Good, Leads}
-use Rattle.extract_laws.specs.Meaning.Leads.{stay, onward}
-use Rattle.extract_laws.proofs.Weighing.{step-falls}
-use Rattle.extract_laws.proofs.Stepping.{step-good}
-use Rattle.extract_laws.proofs.Arranging.{in-order-literals}
-use Rattle.extract_laws.proofs.Preparing.{prepare-keeps}
-use Rattle.extract_laws.proofs.Running.{run-leads}
-use Rattle.extract_laws.proofs.Keeping.{worth-fit, start-good}
+use Rattle.extract_laws.proofs.{Weighing.step-falls, Stepping.step-good, Arranging.in-order-literals}
+use Rattle.extract_laws.proofs.{Preparing.prepare-keeps, Running.run-leads, Keeping.worth-fit, Keeping.start-good}
 use Rattle.report.specs.Parts.{signBit, Sized, EachSized}
 use Rattle.report.specs.Parts.EachSized.{none, more}
 

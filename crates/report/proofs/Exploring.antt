@@ -1,26 +1,16 @@
 -- What a run on the network of a table leaves: the counts, steps and reason are those of the definitions. Assumes nothing.
 use Prim.Native.Nat.{ℕ}
 use mathlib.Core.Path.{_≡_, refl, sym, ap, _∙_, subst}
-use mathlib.Core.Bool.{true}
-use mathlib.Core.List.{List}
-use mathlib.Core.Option.{some}
+use mathlib.Core.{Bool.true, List.List, Option.some}
 use native.Mathlib.Omega.{arith}
-use Rattle.network.specs.Net.{literalCount}
-use Rattle.network.specs.Held.{netOf, rules}
-use Rattle.network.specs.Answers.{counted}
-use Rattle.network.specs.declared.Network.{Network}
-use Rattle.network.specs.declared.Number.{Number}
-use Rattle.network.specs.declared.Number.the-variants.{Is, No}
+use Rattle.network.specs.{Net.literalCount, Held.netOf, Held.rules, Answers.counted, declared.Network.Network}
+use Rattle.network.specs.declared.{Number.Number, Number.the-variants.Is, Number.the-variants.No}
 use Rattle.network.specs.Handed.{Shaped}
 use Rattle.extract_laws.specs.Run.{Made, Result, run, askedSteps}
-use Rattle.extract_laws.proofs.Running.{run-few}
-use Rattle.extract_laws.proofs.Following.{rules-good, rules-within}
+use Rattle.extract_laws.proofs.{Running.run-few, Following.rules-good, Following.rules-within}
 use Rattle.extract.specs.Answers as extract
-use Rattle.extract.specs.Answers.{stopOf, runOn}
-use Rattle.extract.specs.declared.Stop.{Stop}
-use Rattle.extract.proofs.Telling.{ran-told, ran-network}
-use Rattle.extract.specs.declared.Answer.the-variants.{Stopped, Refused}
-use Rattle.extract.specs.declared.Ran.{Ran}
+use Rattle.extract.{specs.Answers.stopOf, specs.Answers.runOn, specs.declared.Stop.Stop, proofs.Telling.ran-told, proofs.Telling.ran-network}
+use Rattle.extract.specs.declared.{Answer.the-variants.Stopped, Answer.the-variants.Refused, Ran.Ran}
 use Rattle.table.specs.declared.Answer.the-variants.{Read}
 use Rattle.report.specs.Report.{ranText, runText}
 use Rattle.report.specs.Parts.{EachSized, runOf, Explored}

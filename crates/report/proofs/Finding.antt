@@ -1,25 +1,18 @@
 -- What is found of a table text has the report's text: a refusal, or the run on its network. Assumes nothing.
 use Prim.Native.Nat.{ℕ}
 use mathlib.Core.Path.{_≡_, sym, ap, _∙_, subst}
-use mathlib.Core.Bool.{true}
-use mathlib.Core.List.{List, map}
+use mathlib.Core.{Bool.true, List.List, List.map}
 use native.Mathlib.Omega.{arith}
 use lib.ListN.{take}
-use Rattle.network.specs.Held.{rules}
-use Rattle.network.specs.Net.{Net}
+use Rattle.network.specs.{Held.rules, Net.Net}
 use Rattle.extract_laws.specs.Run.{run, askedSteps}
 use Rattle.extract.specs.Answers.{madeOf}
-use Rattle.table.specs.Table.{readText}
+use Rattle.table.specs.{Table.readText, declared.Refusal.Refusal, declared.Answer.the-variants.Read, declared.Answer.the-variants.Refused}
 use Rattle.table.specs.Answers as table
-use Rattle.table.specs.declared.Refusal.{Refusal}
-use Rattle.table.specs.declared.Answer.the-variants.{Read, Refused}
-use Rattle.table.specs.declared.Table.{Table}
-use Rattle.table.proofs.Telling.{told-refused}
-use Rattle.table.proofs.Keeping.{read-net, read-rules}
+use Rattle.table.{specs.declared.Table.Table, proofs.Telling.told-refused, proofs.Keeping.read-net, proofs.Keeping.read-rules}
 use Rattle.report.specs.Report.{ranText, outcomeText, reportOf}
 use Rattle.report.specs.Parts.{EachSized, foundText, Steady, Explored}
-use Rattle.report.specs.Parts.EachSized.{none}
-use Rattle.report.specs.declared.Findings.{Findings}
+use Rattle.report.specs.{Parts.EachSized.none, declared.Findings.Findings}
 use Rattle.report.proofs.Lines.{found-read, found-refused}
 
 -- ---- a table that was read

@@ -13,8 +13,7 @@ use Rattle.extract_laws.specs.Divisor.{Divisor, pair, sum}
 use Rattle.extract_laws.specs.Run.{Stop, Made}
 use Rattle.extract.specs.Answers.{madeOf, noMade, stopOf, madeIn}
 use Rattle.extract.specs.declared.Made as declared
-use Rattle.table.specs.declared.Refusal.{Refusal}
-use Rattle.table.specs.declared.Answer.the-variants.{Read, Refused}
+use Rattle.table.specs.declared.{Refusal.Refusal, Answer.the-variants.Read, Answer.the-variants.Refused}
 use Rattle.report.specs.Parts.{runOf, unlessRefused, foundText}
 use Rattle.report.specs.declared.Findings.{Findings}
 use Rattle.report.specs.Report.{divisorText, integer, stepLine, stepLines, stopText, runText, refusalText}

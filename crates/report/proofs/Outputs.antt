@@ -1,22 +1,14 @@
 -- The network of a run on a table gives the table's outputs for every setting: what reading gave does, and a run keeps the outputs. Assumes nothing.
 use Prim.Native.Nat.{ℕ, _<_, _≤_}
-use mathlib.Core.Path.{_≡_, _∙_}
-use mathlib.Core.Bool.{false}
-use mathlib.Core.List.{List}
+use mathlib.Core.{Path._≡_, Path._∙_, Bool.false, List.List}
 use Rattle.sets.specs.Masks.{bit}
-use Rattle.network.specs.Answers.{evaluated}
-use Rattle.network.specs.declared.Number.the-variants.{Is}
-use Rattle.network.specs.Handed.{Shaped}
-use Rattle.table.specs.Table.{readText}
+use Rattle.network.specs.{Answers.evaluated, declared.Number.the-variants.Is, Handed.Shaped}
+use Rattle.table.specs.{Table.readText, declared.Answer.the-variants.Read, declared.Table.Table}
 use Rattle.table.specs.Written.{outputsOf, cubeLinesOf, someCovers}
 use Rattle.table.specs.Answers as table
-use Rattle.table.specs.declared.Answer.the-variants.{Read}
-use Rattle.table.specs.declared.Table.{Table}
 use Rattle.table.proofs.Keeping.{read-rules, read-outputs}
 use Rattle.extract.specs.Answers as extract
-use Rattle.extract.specs.Answers.{runOn}
-use Rattle.extract.specs.declared.Ran.{Ran}
-use Rattle.extract.proofs.Telling.{ran-outputs}
+use Rattle.extract.{specs.Answers.runOn, specs.declared.Ran.Ran, proofs.Telling.ran-outputs}
 
 module _ (text : List ℕ) (t : Table) (o : table.Told (readText text) t) (e : t .answer ≡ Read)
     (shape : Shaped (t .network)) (k : ℕ) (r : Ran) (q : extract.Told (runOn k (t .network)) r) where

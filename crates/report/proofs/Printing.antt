@@ -4,8 +4,7 @@ use mathlib.Core.Path.{_≡_, refl}
 use mathlib.Core.List.{List, [], _∷_, _++_}
 use lib.IntN.{ℤ, pos, negsuc}
 use Rattle.letters.specs.Letters.{decimal}
-use Rattle.letters_products.specs.Products.{literalText, cubeText}
-use Rattle.letters_products.specs.Spelled.{spelled, between}
+use Rattle.letters_products.specs.{Products.literalText, Products.cubeText, Spelled.spelled, Spelled.between}
 use Rattle.extract_laws.specs.Divisor.{Divisor, pair, sum}
 use Rattle.extract_laws.specs.Run.{Stop, done, asked, numbers, rows, Made}
 use Rattle.table.specs.declared.Refusal.{Refusal}

@@ -3,13 +3,11 @@ use Prim.Native.Nat.{ℕ, _<_, _≤_}
 use mathlib.Core.Path.{_≡_}
 use mathlib.Core.List.{List, [], _∷_}
 use lib.IntN.{ℤ, pos}
-use Rattle.network.specs.Held.{netOf}
-use Rattle.network.specs.declared.Network.{Network}
+use Rattle.network.specs.{Held.netOf, declared.Network.Network}
 use Rattle.extract_laws.specs.Run.{Made, run, askedSteps}
 use Rattle.extract.specs.Answers.{stopOf, places, madeIn}
 use Rattle.extract.specs.declared.Steps.{Steps}
-use Rattle.table.specs.declared.Answer.{Answer}
-use Rattle.table.specs.declared.Answer.the-variants.{Read, Refused}
+use Rattle.table.specs.declared.{Answer.Answer, Answer.the-variants.Read, Answer.the-variants.Refused}
 use Rattle.report.specs.Report.{runText, refusalText, ranText}
 use Rattle.report.specs.declared.Findings.{Findings}
 

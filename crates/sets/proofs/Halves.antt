@@ -1,8 +1,7 @@
 -- Masks of w + k bits made of k high bits and w low ones, as P * 2 ^ w + p: their literals are those of the low masks, and then those of the
 -- high masks, 2w further on. Assumes nothing.
 use mathlib.Core.Path.{_≡_, refl, sym, _∙_, ap, ap₂, subst}
-use mathlib.Core.Bool.{false, _&&_}
-use mathlib.Core.List.{List}
+use mathlib.Core.{Bool.false, Bool._&&_, List.List}
 use mathlib.Core.Option.{Option, none, some}
 use Prim.Native.Nat.{ℕ, zero, suc, _+_, _-_, _*_, _/_, _%_, _^_, _<_, _≤_}
 use native.Mathlib.Nat.{not-suc-le-zero, le-of-suc-le-suc, add-comm}

@@ -19,8 +19,7 @@ use Rattle.sets.specs.Literal.{oppositeOf}
 use Rattle.sets.specs.Sets.{mem, asc, proper, insert, union, without, meet, same}
 use Rattle.sets.specs.Masks.{bit, nonzero, side, test, literals, single}
 use Rattle.sets.proofs.Truth.{iff, both, together, or-left, or-right, decided, clash, refuted}
-use Rattle.sets.proofs.Lists.{keep-length, pairwise-keep}
-use Rattle.sets.proofs.Rows.{from-length}
+use Rattle.sets.proofs.{Lists.keep-length, Lists.pairwise-keep, Rows.from-length}
 use Rattle.sets.proofs.Sets.{keep-mem, from-mem, from-asc, insert-mem, union-mem, without-mem, meet-mem, insert-asc, union-asc, without-asc}
 use Rattle.sets.proofs.Sets.{meet-asc, ext, nil-mem, mem-nil, same-eq, eq-same, proper-in, proper-out}
 use Rattle.sets.proofs.Digits.{bit-or, bit-and, bit-xor, bit-not, bit-pow, bits-ext, bit-none, no-bits, bit-mask}

@@ -11,9 +11,8 @@ use lib.Bits.{bitXor}
 use lib.Dec.{eqb, ltb, leb}
 use borrow.Author.Tests.{ltb-true, ne-eqb, lt-ltb, le-leb, lt-leb}
 use Rattle.sets.specs.Sets.{mem, asc, before, firstFrom}
-use Rattle.sets.specs.Lists.{isSome}
+use Rattle.sets.specs.{Lists.isSome, Masks.literals}
 use Rattle.sets.specs.Meaning.{Earlier, prefix, differ}
-use Rattle.sets.specs.Masks.{literals}
 use Rattle.sets.proofs.Truth.{decided, clash, Stand, below, equal, beyond, compared}
 use Rattle.sets.proofs.Orders.{ltb-order, before-order, asym, lex-true, lex-self}
 use Rattle.sets.proofs.Sets.{mem-head, head-le, tail-asc, tail-mem, ext}

@@ -7,8 +7,7 @@ use Prim.Native.Nat.{ℕ}
 use native.Mathlib.Omega.{arith}
 use lib.Dec.{ltb}
 use borrow.Author.Tests.{ltb-true, ltb-false, lt-ltb, le-ltb, not-true}
-use Rattle.sets.specs.Lists.{pairwise}
-use Rattle.sets.specs.Sets.{lex, before}
+use Rattle.sets.specs.{Lists.pairwise, Sets.lex, Sets.before}
 pub use Rattle.sets.specs.Meaning.{Strict}
 use Rattle.sets.proofs.Truth.{both, decided, clash}
 use Rattle.sets.proofs.Lists.{_∈_, all-out, ahead}

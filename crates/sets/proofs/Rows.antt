@@ -9,8 +9,7 @@ use native.Mathlib.Omega.{arith}
 use lib.ListN.{length, getD, take, drop, set, replicate}
 use lib.Seq.{sets, take-nil, take-suc, take-suc-set}
 use Rattle.sets.specs.Lists.{isNil, total, from}
-use Rattle.sets.proofs.Truth.{clash}
-use Rattle.sets.proofs.Lists.{total-append}
+use Rattle.sets.proofs.{Truth.clash, Lists.total-append}
 
 module _ {A : Type 0} where
   -- ---- empty lists

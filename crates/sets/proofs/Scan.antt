@@ -1,8 +1,7 @@
 -- The first literal of two masks from a variable on, for every width: by the lowest bit of the two masks shifted and joined. Assumes nothing.
 use mathlib.Core.Path.{_≡_, sym, _∙_, ap}
 use mathlib.Core.Bool.{Bool, true, false, _&&_, and-false}
-use mathlib.Core.Option.{none, some}
-use mathlib.Core.Logic.{inl, inr}
+use mathlib.Core.{Option.none, Option.some, Logic.inl, Logic.inr}
 use Prim.Native.Nat.{ℕ, zero, suc, _+_, _-_, _*_, _/_, _%_, _^_, _<_, _≤_}
 use native.Mathlib.Omega.{arith}
 use lib.Dec.{ltb}

@@ -9,20 +9,14 @@ use lib.Dec.{ltb}
 use lib.ListN.{length, take, set, length-append}
 use lib.Seq.{take-suc-set}
 use borrow.Author.Tests.{lt-ltb, le-ltb, le-leb, lt-leb}
-use Rattle.sets.specs.Lists.{total}
-use Rattle.sets.specs.Masks.{packed}
-use Rattle.sets.proofs.Lists.{keep-append, total-append}
+use Rattle.sets.{specs.Lists.total, specs.Masks.packed, proofs.Lists.keep-append, proofs.Lists.total-append}
 use Rattle.expression.specs.Words.{cubesOf, Put}
 use Rattle.table_rows.specs.Lines.{mostPlaces, CubeLine, cubeLineOf, cubeOf, rowsIn}
 use Rattle.table_rows.specs.Answers.{Entry, parsedOf, entryOf, parsing}
-use Rattle.table_rows.specs.declared.Parsed.{Parsed}
-use Rattle.table_rows.specs.declared.Parsed.the-variants.{Line, Nothing}
-use Rattle.cube.specs.Cube.{lits}
-use Rattle.cube.specs.declared.Cube.{Cube}
+use Rattle.table_rows.specs.declared.{Parsed.Parsed, Parsed.the-variants.Line, Parsed.the-variants.Nothing}
+use Rattle.cube.specs.{Cube.lits, declared.Cube.Cube}
 use Rattle.table.specs.Table as table
-use Rattle.table.specs.Meaning.{Bounded}
-use Rattle.table.specs.Parts.{marked, Stands}
-use Rattle.table.specs.declared.State.{State}
+use Rattle.table.specs.{Meaning.Bounded, Parts.marked, Parts.Stands, declared.State.State}
 use Rattle.table.proofs.Standing.{wide-stored, tall-stored}
 
 -- ---- one more cube line

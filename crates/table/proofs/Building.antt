@@ -9,9 +9,7 @@ use Rattle.sets.specs.Lists.{total, from}
 use Rattle.sets.proofs.Lists.{total-map, total-le}
 use Rattle.sets.proofs.Rows.{drop-replicate, from-length, map-from, total-from}
 use Rattle.expression.specs.Words.{cubesOf, Placed, Appends, blanks}
-use Rattle.expression.specs.Expression.{sort, absorbed}
-use Rattle.expression.proofs.Absorbing.{absorbed-length}
-use Rattle.expression.proofs.Sorting.{sort-length}
+use Rattle.expression.{specs.Expression.sort, specs.Expression.absorbed, proofs.Absorbing.absorbed-length, proofs.Sorting.sort-length}
 use Rattle.expression.proofs.Placing.{placed-as, placed-span, placed-over, placed-sort, placed-length, placed-then, placed-blanks}
 use Rattle.network.specs.Handed.{cubeSlots, LaidNodes, Holds}
 use Rattle.network.proofs.Laying.{laid-next, laid-rest, laid-holds}

@@ -14,18 +14,13 @@ use Rattle.sets.proofs.Sets.{sub-trans, sub-antisym}
 use Rattle.expression.specs.Expression.{isCube, loose, ordered, absorbed}
 use Rattle.expression.proofs.Absorbing.{absorbed-sub, absorbed-covers, absorbed-loose}
 use Rattle.expression.proofs.Sorting.{sort-in, sort-out, loose-flip}
-use Rattle.network.specs.Net.{Net}
-use Rattle.network.specs.Held.{netOf}
+use Rattle.network.specs.{Net.Net, Held.netOf}
 use Rattle.table_rows.specs.Lines.{CubeLine, cubeOf}
 use Rattle.table.specs.Table.{cubesFor, outputFor, tableNet, orZero, readText}
-use Rattle.table.specs.Written.{outputsOf, cubeLinesOf}
-use Rattle.table.specs.Answers.{Told}
-use Rattle.table.specs.Rows.{RowOf, NotDropped}
-use Rattle.table.specs.declared.Answer.the-variants.{Read}
-use Rattle.table.specs.declared.Table.{Table}
+use Rattle.table.specs.{Written.outputsOf, Written.cubeLinesOf, Answers.Told, Rows.RowOf, Rows.NotDropped}
+use Rattle.table.specs.declared.{Answer.the-variants.Read, Table.Table}
 use Rattle.table.proofs.Outputs.{cubes-are, output-form, net-output}
-use Rattle.table.proofs.Writing.{read-lines}
-use Rattle.table.proofs.Keeping.{read-net}
+use Rattle.table.proofs.{Writing.read-lines, Keeping.read-net}
 
 -- ---- the cubes kept of a list
 

@@ -1,18 +1,14 @@
 -- What holds after each line that goes on: the numbers are in range, the rows few enough, the cube lines of the shape that `.i` and `.o` say. Assumes nothing.
 use Prim.Native.Nat.{ℕ, _+_, _≤_}
 use mathlib.Core.Path.{_≡_, refl, sym, subst}
-use mathlib.Core.Logic.{⊎-elim}
-use mathlib.Core.Bool.{true}
+use mathlib.Core.{Logic.⊎-elim, Bool.true, Option.Option}
 use mathlib.Core.List.{List, [], _∷_, List·Memᴰ·not-nil, List·Memᴰ·append-cases, List·Memᴰ·eq-of-singleton}
-use mathlib.Core.Option.{Option}
 use native.Mathlib.Omega.{arith}
 use lib.ListN.{length, length-append}
 use borrow.Author.Tests.{le-leb}
 use Rattle.sets.proofs.Lists.{_∈_, total-append}
 use Rattle.network.specs.Held.{mostInputs, mostOutputs, upTo}
-use Rattle.table_rows.specs.Lines.{CubeLine, rowsIn}
-use Rattle.table_rows.specs.Meaning.{LineOf}
-use Rattle.table_rows.proofs.Writing.{line-shaped}
+use Rattle.table_rows.{specs.Lines.CubeLine, specs.Lines.rowsIn, specs.Meaning.LineOf, proofs.Writing.line-shaped}
 use Rattle.table.specs.Table.{State, orZero, start}
 use Rattle.table.specs.Meaning.{Bounded, Timely, Goes, blank, inputs, outputs, products, cube, Reads, nothing, line}
 

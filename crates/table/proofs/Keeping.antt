@@ -1,41 +1,26 @@
 -- A table that is accepted is a network by the rules, which every operation on networks takes. Assumes nothing.
 use Prim.Native.Nat.{ℕ, _*_, _/_, _<_, _≤_}
 use mathlib.Core.Path.{_≡_, refl, sym, ap, _∙_, subst}
-use mathlib.Core.Bool.{true, false}
-use mathlib.Core.Option.{Option, some}
+use mathlib.Core.{Bool.true, Bool.false, Option.Option, Option.some}
 use mathlib.Core.List.{List, [], map, append-nil, List·Memᴰ·not-nil}
 use native.Mathlib.Nat.{mul-le-mul-left}
 use native.Mathlib.Omega.{arith}
 use lib.ListN.{length, length-map}
-use Rattle.sets.specs.Lists.{total, from}
-use Rattle.sets.specs.Masks.{bit}
-use Rattle.sets.proofs.Rows.{from-length}
+use Rattle.sets.{specs.Lists.total, specs.Lists.from, specs.Masks.bit, proofs.Rows.from-length}
 use Rattle.sets.proofs.Lists.{_∈_, total-map, total-le, total-times}
 use Rattle.expression.specs.Expression.{literalsOf, ordered, absorbed}
-use Rattle.expression.proofs.Absorbing.{absorbed-length}
-use Rattle.expression.proofs.Sorting.{sort-length}
+use Rattle.expression.proofs.{Absorbing.absorbed-length, Sorting.sort-length}
 use Rattle.network.specs.Net.{Node, Net, nodes, cubeCount, literalCount}
-use Rattle.network.specs.Evaluation.{evaluate}
+use Rattle.network.specs.{Evaluation.evaluate, Handed.Holds, Rules.Lawful, Answers.evaluated, declared.Network.Network}
 use Rattle.network.specs.Meaning.{Through, itself, others}
 use Rattle.network.specs.Held.{mostLiterals, numbered, netOf, rules}
-use Rattle.network.specs.Handed.{Holds}
-use Rattle.network.specs.Rules.{Lawful}
-use Rattle.network.specs.Answers.{evaluated}
-use Rattle.network.specs.declared.Network.{Network}
-use Rattle.network.specs.declared.Number.the-variants.{Is}
-use Rattle.network.proofs.Evaluating.{evaluate-past}
-use Rattle.network.proofs.Handing.{holds-net}
-use Rattle.network.proofs.Ruling.{holds-lawful}
+use Rattle.network.{specs.declared.Number.the-variants.Is, proofs.Evaluating.evaluate-past, proofs.Handing.holds-net, proofs.Ruling.holds-lawful}
 use Rattle.table_rows.specs.Lines.{CubeLine}
 use Rattle.table.specs.Table.{mostRows, State, cubesFor, outputFor, tableNet, orZero, accepted, readText}
 use Rattle.table.specs.Written.{inputsOf, outputsOf, cubeLinesOf, someCovers}
-use Rattle.table.specs.Answers.{Told}
-use Rattle.table.specs.Meaning.{Complete, Says}
-use Rattle.table.specs.declared.Answer.the-variants.{Read}
+use Rattle.table.specs.{Answers.Told, Meaning.Complete, Meaning.Says, declared.Answer.the-variants.Read}
 use Rattle.table.specs.declared.Table.{Table}
-use Rattle.table.proofs.Marking.{rows-exchange}
-use Rattle.table.proofs.Refusals.{accepted-complete}
-use Rattle.table.proofs.Writing.{read-lines}
+use Rattle.table.proofs.{Marking.rows-exchange, Refusals.accepted-complete, Writing.read-lines}
 use Rattle.table.proofs.Telling.{told-accepted}
 use Rattle.table.proofs.Outputs.{output-reads, output-literals, outputs-are, outputs-ordered, outputs-rows}
 

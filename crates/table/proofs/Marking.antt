@@ -8,18 +8,14 @@ use lib.Dec.{ltb}
 use lib.ListN.{length, getD}
 use borrow.Author.Tests.{lt-ltb, ltb-true}
 use Rattle.sets.specs.Lists.{keep, total, from}
-use Rattle.sets.specs.Masks.{bit, packed}
-use Rattle.sets.proofs.Truth.{clash}
+use Rattle.sets.{specs.Masks.bit, specs.Masks.packed, proofs.Truth.clash, proofs.Packing.packed-bit}
 use Rattle.sets.proofs.Lists.{_∈_, keep-keep, total-cong, total-sum, total-times, total-map, map-cong}
-use Rattle.expression.specs.Words.{cubesOf}
-use Rattle.expression.specs.Expression.{sort, absorbed}
+use Rattle.expression.specs.{Words.cubesOf, Expression.sort, Expression.absorbed}
 use Rattle.table_rows.specs.Lines.{CubeLine, rowsIn, cubeOf}
-use Rattle.sets.proofs.Packing.{packed-bit}
 use Rattle.table.specs.Table as table
 use Rattle.table.specs.Table.{mostRows, cubesFor, outputFor, tableNet, orZero}
-use Rattle.table.specs.Meaning.{Complete}
+use Rattle.table.specs.{Meaning.Complete, declared.State.State}
 use Rattle.table.specs.Parts.{picked, pick, marked, Stands, formed, Buildable, netFrom}
-use Rattle.table.specs.declared.State.{State}
 
 -- the line has a `1` at output j
 abbrev has : ℕ → CubeLine → Bool

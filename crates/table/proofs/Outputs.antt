@@ -8,24 +8,19 @@ use native.Mathlib.Omega.{arith}
 use lib.Dec.{eqb}
 use lib.ListN.{length, getD}
 use Rattle.sets.specs.Lists.{any, all, keep, total, from}
-use Rattle.sets.specs.Sets.{asc, proper}
-use Rattle.sets.specs.Masks.{bit}
-use Rattle.sets.proofs.Truth.{together}
-use Rattle.sets.proofs.Rows.{getD-from}
+use Rattle.sets.{specs.Sets.asc, specs.Sets.proper, specs.Masks.bit, proofs.Truth.together, proofs.Rows.getD-from}
 use Rattle.sets.proofs.Lists.{_∈_, all-in, any-cong, keep-out, map-out}
 use Rattle.expression.specs.Expression.{isCube, expression, literalsOf, ordered, absorbed}
 use Rattle.expression.specs.Value.{lit, value}
 use Rattle.expression.proofs.Absorbing.{absorbed-sub, absorbed-expression, absorbed-literals, absorbed-value}
 use Rattle.expression.proofs.Sorting.{sort-out, value-sort, total-sort, expression-sort}
-use Rattle.network.specs.Listing.{listMore, listing}
-use Rattle.network.specs.Evaluation.{settle, evaluate}
+use Rattle.network.specs.{Listing.listMore, Listing.listing, Evaluation.settle, Evaluation.evaluate}
 use Rattle.network.proofs.Evaluating.{evaluate-bit}
 use Rattle.table_rows.specs.Lines.{CubeLine, cubeFrom, cubeOf, covers}
 use Rattle.table_rows.proofs.Covering.{covers-value, from-bounds, from-asc, from-proper}
 use Rattle.table.specs.Table.{State, cubesFor, outputFor, tableNet, orZero}
 use Rattle.table_rows.specs.Meaning.{LineOf}
-use Rattle.table.specs.Written.{someCovers}
-use Rattle.table.specs.Meaning.{Complete}
+use Rattle.table.specs.{Written.someCovers, Meaning.Complete}
 
 -- ---- the cubes of an output
 

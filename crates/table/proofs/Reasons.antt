@@ -9,14 +9,11 @@ use native.Mathlib.Omega.{arith}
 use lib.Dec.{leb}
 use lib.ListN.{length}
 use borrow.Author.Tests.{leb-true, leb-false, le-leb, lt-leb, eqb-false, ne-eqb}
-use Rattle.sets.specs.Lists.{total, isNil}
-use Rattle.sets.specs.Sets.{mem}
-use Rattle.sets.proofs.Truth.{both, clash}
+use Rattle.sets.{specs.Lists.total, specs.Lists.isNil, specs.Sets.mem, proofs.Truth.both, proofs.Truth.clash}
 use Rattle.network.specs.Held.{mostInputs, mostOutputs, upTo}
 use Rattle.table_lines.specs.Text.{content}
-use Rattle.table_kinds.specs.Kinds.{kindOf}
+use Rattle.table_kinds.specs.{Kinds.kindOf, declared.Kind.Kind}
 use Rattle.table_rows.specs.Lines.{CubeLine, cubeLineOf, rowsIn}
-use Rattle.table_kinds.specs.declared.Kind.{Kind}
 use Rattle.table_kinds.specs.declared.Kind.the-variants.{Empty, Inputs, Outputs, Products, End, Other}
 use Rattle.table.specs.Table.{State, Turn, next, done, refuse, inTime, missing, rightCount, numberLine, setWide, setTall, setStated}
 use Rattle.table.specs.Table.{withLine, finish, addLine, cubeLine, byKind, readLine, mostProducts, mostRows}

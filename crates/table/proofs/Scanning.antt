@@ -18,18 +18,12 @@ use Rattle.table_lines.proofs.Lining.{lines-next, lines-last, line-part, line-e
 use Rattle.table_lines.proofs.Spans.{part-front, span-inside, span-content}
 use Rattle.table.specs.Table as table
 use Rattle.table.specs.Table.{mostBytes, mostRows, start, byKind, readLine, readLines, readText}
-use Rattle.table.specs.Meaning.{Bounded}
+use Rattle.table.specs.{Meaning.Bounded, declared.State.State, declared.Turn.Turn, declared.Refusal.Refusal}
 use Rattle.table.specs.Parts.{Stands, LineTurned, Leaves, Roomy, linesFrom, stoppedAt, Scans}
-use Rattle.table.specs.declared.State.{State}
-use Rattle.table.specs.declared.Turn.{Turn}
 use Rattle.table.specs.declared.Turn.the-variants.{Next, Done, Refused}
 use Rattle.table.specs.declared.Answer.the-variants as answer
-use Rattle.table.specs.declared.Refusal.{Refusal}
-use Rattle.table.specs.declared.Scanned.{Scanned}
-use Rattle.table.specs.declared.Table.{Table}
-use Rattle.table.specs.Answers.{Told}
-use Rattle.table.proofs.Marking.{marked-few}
-use Rattle.table.proofs.Reasons.{next-iff}
+use Rattle.table.specs.{declared.Scanned.Scanned, declared.Table.Table, Answers.Told}
+use Rattle.table.proofs.{Marking.marked-few, Reasons.next-iff}
 use Rattle.table.proofs.Going.{start-bounded, goes-bounded, goes-more}
 use Rattle.table.proofs.Refusals.{lines-turn, lines-end, text-lines}
 

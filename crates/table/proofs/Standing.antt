@@ -8,15 +8,12 @@ use native.Mathlib.Omega.{arith}
 use lib.Dec.{leb, eqb}
 use lib.ListN.{length}
 use borrow.Author.Tests.{leb-true, eq-eqb, ne-eqb}
-use Rattle.sets.specs.Lists.{isNil}
-use Rattle.sets.proofs.Truth.{both}
+use Rattle.sets.{specs.Lists.isNil, proofs.Truth.both}
 use Rattle.network.specs.Held.{mostInputs, mostOutputs}
 use Rattle.table_rows.specs.Lines.{CubeLine}
 use Rattle.table.specs.Table as table
 use Rattle.table.specs.Table.{missing, rightCount, orZero}
-use Rattle.table.specs.Meaning.{within, Bounded}
-use Rattle.table.specs.Parts.{oneMore, Stands}
-use Rattle.table.specs.declared.State.{State}
+use Rattle.table.specs.{Meaning.within, Meaning.Bounded, Parts.oneMore, Parts.Stands, declared.State.State}
 use Rattle.table.proofs.Reasons.{is-none}
 
 -- ---- a number from 1 on stands for itself, 0 for a missing one

@@ -4,9 +4,7 @@ use mathlib.Core.Path.{_≡_, refl, sym, _∙_, ap}
 use native.Mathlib.Omega.{arith}
 use Rattle.network.proofs.Handing.{Typed, holds-one, blank-one}
 use Rattle.table.specs.Table.{State, Outcome, accepted, refused, tableNet}
-use Rattle.table.specs.Answers.{Told}
-use Rattle.table.specs.declared.Refusal.{Refusal}
-use Rattle.table.specs.declared.Answer.the-variants.{Read, Refused}
+use Rattle.table.specs.{Answers.Told, declared.Refusal.Refusal, declared.Answer.the-variants.Read, declared.Answer.the-variants.Refused}
 use Rattle.table.specs.declared.Table.{Table}
 
 -- two answers to one text are the same

@@ -7,13 +7,10 @@ use mathlib.Core.Option.{Option, none, some}
 use native.Mathlib.Omega.{arith}
 use lib.ListN.{getD}
 use Rattle.table_lines.specs.Text.{content}
-use Rattle.table_kinds.specs.Kinds.{kindOf}
+use Rattle.table_kinds.specs.{Kinds.kindOf, declared.Kind.Kind, declared.Kind.the-variants.End, declared.Kind.the-variants.Other}
 use Rattle.table_kinds.specs.Meaning.{Spelled, bare, dotI, dotO, dotP, dotE, dotEnd, OfKind, known, another}
-use Rattle.table_kinds.specs.declared.Kind.{Kind}
-use Rattle.table_kinds.specs.declared.Kind.the-variants.{End, Other}
 use Rattle.table_kinds.proofs.Kinding.{kind-iff}
-use Rattle.table_rows.specs.Lines.{isPlace, cubeLineOf}
-use Rattle.table_rows.proofs.Writing.{line-none}
+use Rattle.table_rows.{specs.Lines.isPlace, specs.Lines.cubeLineOf, proofs.Writing.line-none}
 use Rattle.table.specs.Table.{State, start, accepted, readText}
 use Rattle.table.specs.Written.{isEnd, beforeEnd, listed, found, inputsNumber, outputsNumber, productsNumber}
 use Rattle.table.specs.Written.{inputsIn, outputsIn, inputsOf, outputsOf}

@@ -2,8 +2,7 @@
 use mathlib.Core.Path.{_≡_}
 use Rattle.network.specs.Handed.{Holds, AllZero}
 use Rattle.table.specs.Table.{Outcome, accepted, refused, tableNet}
-use Rattle.table.specs.declared.Answer.the-variants.{Read, Refused}
-use Rattle.table.specs.declared.Table.{Table}
+use Rattle.table.specs.declared.{Answer.the-variants.Read, Answer.the-variants.Refused, Table.Table}
 
 -- the network of the table; or the refusal, and a network of zeros
 abbrev pub Told : Outcome → Table → Type 0

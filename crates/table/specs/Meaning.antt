@@ -1,13 +1,11 @@
 -- What holds of a table as its lines are read, and of one that is accepted.
 use Prim.Native.Nat.{ℕ, _+_, _<_, _≤_}
-use mathlib.Core.Path.{_≡_}
-use mathlib.Core.Logic.{_⊎_}
+use mathlib.Core.{Path._≡_, Logic._⊎_}
 use mathlib.Core.Bool.{Bool, true, false}
 use mathlib.Core.List.{List, [], _∷_, _++_, List·Memᴰ}
 use mathlib.Core.Option.{Option, none, some}
 use lib.ListN.{length}
-use Rattle.sets.specs.Lists.{total, isNil}
-use Rattle.sets.specs.Sets.{mem}
+use Rattle.sets.specs.{Lists.total, Lists.isNil, Sets.mem}
 use Rattle.network.specs.Held.{mostInputs, mostOutputs, upTo}
 use Rattle.table_lines.specs.Text.{linesOf, content}
 use Rattle.table_kinds.specs.Kinds.{kindOf}

@@ -2,26 +2,20 @@
 use Prim.Native.Nat.{ℕ, _+_, _-_, _<_, _≤_}
 use mathlib.Core.Option.{Option, none, some}
 use lib.Dec.{leb, ltb, eqb}
-use mathlib.Core.Path.{_≡_}
-use mathlib.Core.Bool.{Bool, cond}
+use mathlib.Core.{Path._≡_, Bool.Bool, Bool.cond}
 use mathlib.Core.List.{List, [], _∷_, map}
 use lib.ListN.{length, take, drop, replicate}
 use Rattle.sets.specs.Lists.{keep, total, from}
 use Rattle.sets.specs.Masks.{bit, packed}
-use Rattle.expression.specs.Words.{cubesOf}
-use Rattle.expression.specs.Expression.{sort, absorbed}
-use Rattle.network.specs.Net.{Net}
-use Rattle.network.specs.Held.{mostOutputs}
+use Rattle.expression.specs.{Words.cubesOf, Expression.sort, Expression.absorbed}
+use Rattle.network.specs.{Net.Net, Held.mostOutputs}
 use Rattle.table_lines.specs.Text.{linesOf}
 use Rattle.table_kinds.specs.Kinds.{kindOf}
 use Rattle.table_rows.specs.Lines.{CubeLine, rowsIn, cubeOf}
 use Rattle.table.specs.Table as table
-use Rattle.table.specs.Table.{mostBytes, mostRows}
-use Rattle.table.specs.Meaning.{Bounded}
+use Rattle.table.specs.{Table.mostBytes, Table.mostRows, Meaning.Bounded, declared.Scanned.Scanned}
 use Rattle.table.specs.declared.Answer.the-variants as Answer
-use Rattle.table.specs.declared.Scanned.{Scanned}
-use Rattle.table.specs.declared.State.{State}
-use Rattle.table.specs.declared.Turn.{Turn}
+use Rattle.table.specs.declared.{State.State, Turn.Turn}
 use Rattle.table.specs.declared.Turn.the-variants.{Next, Done, Refused}
 
 -- ---- reading

@@ -1,8 +1,6 @@
 -- The rows of a table in the paper's words, and which of their cubes stand.
 use Prim.Native.Nat.{ℕ}
-use mathlib.Core.Path.{_≡_}
-use mathlib.Core.Bool.{true, false}
-use mathlib.Core.List.{List, List·Memᴰ}
+use mathlib.Core.{Path._≡_, Bool.true, Bool.false, List.List, List.List·Memᴰ}
 use lib.ListN.{getD}
 use Rattle.sets.specs.Sets.{sub}
 use Rattle.table_rows.specs.Lines.{CubeLine, cubeOf}

@@ -10,10 +10,9 @@ use Rattle.expression.specs.Expression.{sort, absorbed}
 use Rattle.network.specs.Net.{Net}
 use Rattle.network.specs.Held.{mostInputs, mostOutputs, upTo}
 use Rattle.table_lines.specs.Text.{linesOf, content}
-use Rattle.table_kinds.specs.Kinds.{kindOf}
+use Rattle.table_kinds.specs.{Kinds.kindOf, declared.Kind.Kind}
 use Rattle.table_rows.specs.Lines.{CubeLine, cubeLineOf, rowsIn, cubeOf}
 use Rattle.table.specs.declared.Refusal.{Refusal}
-use Rattle.table_kinds.specs.declared.Kind.{Kind}
 use Rattle.table_kinds.specs.declared.Kind.the-variants.{Empty, Inputs, Outputs, Products, End, Other}
 
 abbrev pub mostBytes : ℕ

@@ -4,12 +4,10 @@ use mathlib.Core.Bool.{Bool, true, false, cond, _&&_}
 use mathlib.Core.List.{List, [], _∷_, _++_}
 use mathlib.Core.Option.{Option, none, some}
 use lib.ListN.{getD}
-use Rattle.sets.specs.Lists.{any}
-use Rattle.sets.specs.Masks.{bit}
+use Rattle.sets.specs.{Lists.any, Masks.bit}
 use Rattle.table_lines.specs.Text.{linesOf, content}
-use Rattle.table_kinds.specs.Kinds.{kindOf}
+use Rattle.table_kinds.specs.{Kinds.kindOf, declared.Kind.Kind}
 use Rattle.table_rows.specs.Lines.{CubeLine, cubeLineOf, covers}
-use Rattle.table_kinds.specs.declared.Kind.{Kind}
 use Rattle.table_kinds.specs.declared.Kind.the-variants.{Empty, Inputs, Outputs, Products, End, Other}
 
 abbrev pub isEnd : Kind → Bool

@@ -9,10 +9,7 @@ use native.Mathlib.Omega.{arith}
 use lib.Dec.{leb}
 use lib.ListN.{length, take, drop, take-append-drop}
 use borrow.Author.Tests.{leb-true, le-leb, ne-eqb}
-use Rattle.sets.specs.Lists.{all}
-use Rattle.sets.specs.Sets.{same}
-use Rattle.sets.proofs.Truth.{both}
-use Rattle.sets.proofs.Sets.{same-eq}
+use Rattle.sets.{specs.Lists.all, specs.Sets.same, proofs.Truth.both, proofs.Sets.same-eq}
 use Rattle.letters.specs.Meaning.{readBack, isDigit}
 use Rattle.table_lines.specs.Text.{isBlank, startsBlank, trimFront}
 use Rattle.table_lines.proofs.Blanks.{gap-out, gap-in}

@@ -10,15 +10,9 @@ use native.Mathlib.Omega.{arith}
 use lib.Dec.{eqb, leb}
 use lib.ListN.{length, getD, drop, drop-of-length-le}
 use borrow.Author.Tests.{eq-eqb, ne-eqb, le-leb, lt-leb}
-use Rattle.sets.specs.Lists.{all}
-use Rattle.sets.specs.Sets.{same}
-use Rattle.sets.proofs.Truth.{refuted}
-use Rattle.sets.proofs.Sets.{same-eq}
-use Rattle.sets.proofs.Places.{drop-next}
+use Rattle.sets.{specs.Lists.all, specs.Sets.same, proofs.Truth.refuted, proofs.Sets.same-eq, proofs.Places.drop-next}
 use Rattle.letters.specs.Meaning.{readBack, isDigit}
-use Rattle.table_lines.specs.Text.{startsBlank, trimFront}
-use Rattle.table_lines.proofs.Ends.{front-le}
-use Rattle.table_lines.proofs.Blanks.{blank-shorter, shorter-blank}
+use Rattle.table_lines.{specs.Text.startsBlank, specs.Text.trimFront, proofs.Ends.front-le, proofs.Blanks.blank-shorter, proofs.Blanks.shorter-blank}
 use Rattle.table_kinds.specs.Kinds.{numberOf, argument, named, kindOf}
 use Rattle.table_kinds.specs.Parts.{lettered, ends}
 use Rattle.table_kinds.specs.declared.Kind.the-variants.{Empty, Inputs, Outputs, Products, End, Other}

@@ -5,8 +5,7 @@ use mathlib.Core.List.{List, [], _∷_}
 use mathlib.Core.Option.{Option, none, some}
 use lib.Dec.{leb}
 use lib.ListN.{length, take, drop}
-use Rattle.sets.specs.Lists.{all}
-use Rattle.sets.specs.Sets.{same}
+use Rattle.sets.specs.{Lists.all, Sets.same}
 use Rattle.letters.specs.Meaning.{readBack, isDigit}
 use Rattle.table_lines.specs.Text.{startsBlank, trimFront}
 use Rattle.table_kinds.specs.declared.Kind.{Kind}

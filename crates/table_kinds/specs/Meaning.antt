@@ -1,14 +1,12 @@
 -- The kinds of lines in the paper's words.
 use Prim.Native.Nat.{ℕ, _≤_}
-use mathlib.Core.Path.{_≡_}
-use mathlib.Core.Bool.{true}
+use mathlib.Core.{Path._≡_, Bool.true}
 use mathlib.Core.List.{List, [], _∷_, _++_}
 use lib.ListN.{length}
 use Rattle.sets.specs.Lists.{all}
 use Rattle.letters.specs.Meaning.{readBack, isDigit}
 use Rattle.table_lines.specs.Text.{Blanks}
-use Rattle.table_kinds.specs.Kinds.{mostDigits}
-use Rattle.table_kinds.specs.declared.Kind.{Kind}
+use Rattle.table_kinds.specs.{Kinds.mostDigits, declared.Kind.Kind}
 use Rattle.table_kinds.specs.declared.Kind.the-variants.{Empty, Inputs, Outputs, Products, End, Other}
 
 -- d is one to five digits, which write n

@@ -5,10 +5,8 @@ use mathlib.Core.List.{List, [], _∷_}
 use mathlib.Core.Option.{Option, none, some}
 use lib.Dec.{eqb}
 use Rattle.sets.specs.Sets.{same}
-use Rattle.table_kinds.specs.declared.Kind.{Kind}
+use Rattle.table_kinds.specs.declared.{Kind.Kind, Number.Number, Number.the-variants.Of, Number.the-variants.Missing}
 use Rattle.table_kinds.specs.declared.Kind.the-variants.{Inputs, Outputs, Products, Other}
-use Rattle.table_kinds.specs.declared.Number.{Number}
-use Rattle.table_kinds.specs.declared.Number.the-variants.{Of, Missing}
 use Rattle.table_kinds.specs.Kinds.{withNumber}
 
 abbrev pub numberIn : Number → Option ℕ

@@ -5,8 +5,7 @@ use mathlib.Core.Bool.{Bool, true, false, cond, false≢true}
 use mathlib.Core.List.{List, [], _∷_, _++_}
 use native.Mathlib.Omega.{arith}
 use lib.ListN.{length, length-append}
-use Rattle.sets.specs.Lists.{all}
-use Rattle.sets.proofs.Truth.{both, together}
+use Rattle.sets.{specs.Lists.all, proofs.Truth.both, proofs.Truth.together}
 use Rattle.table_lines.specs.Text.{isBlank, startsBlank, Blanks, trimFront}
 use Rattle.table_lines.proofs.Ends.{front-le}
 

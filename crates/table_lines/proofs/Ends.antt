@@ -8,8 +8,7 @@ use lib.Dec.{eqb}
 use lib.ListN.{length, getD, take, drop, length-drop, drop-of-length-le}
 use lib.Seq.{take-suc, take-all}
 use borrow.Author.Tests.{eq-eqb, ne-eqb}
-use Rattle.sets.specs.Lists.{isNil}
-use Rattle.sets.proofs.Places.{drop-next}
+use Rattle.sets.{specs.Lists.isNil, proofs.Places.drop-next}
 use Rattle.table_lines.specs.Text.{isBlank, lineOf, uncommented, trimFront, trimEnd}
 use Rattle.table_lines.specs.Parts.{untilByte}
 

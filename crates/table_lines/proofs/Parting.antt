@@ -12,8 +12,7 @@ use Rattle.sets.specs.Lists.{all, isNil}
 use Rattle.sets.proofs.Truth.{both, together}
 use Rattle.table_lines.specs.Text.{isBlank, startsBlank, onto, linesOf, uncommented, trimFront, trimEnd, content}
 use Rattle.table_lines.specs.Meaning.{lacks, joined, Lines, endsBlank, isComment, Leaves}
-use Rattle.table_lines.proofs.Blanks.{trimmed, front-blanks}
-use Rattle.table_lines.proofs.Spans.{commented}
+use Rattle.table_lines.proofs.{Blanks.trimmed, Blanks.front-blanks, Spans.commented}
 
 -- the first byte of what lacks b, and the others
 lacks-first : (b x : ℕ) (l : List ℕ) → lacks b (x ∷ l) ≡ true → (eqb x b ≡ false) × (lacks b l ≡ true)

@@ -8,9 +8,8 @@ use native.Mathlib.Omega.{arith}
 use lib.Dec.{eqb, ltb}
 use lib.ListN.{length, length-append}
 use borrow.Author.Tests.{eqb-true, eq-eqb, ltb-true}
-use Rattle.sets.specs.Lists.{all, isNil}
+use Rattle.sets.{specs.Lists.all, specs.Lists.isNil, proofs.Lists._∈_}
 use Rattle.sets.proofs.Truth.{either, clash, refuted}
-use Rattle.sets.proofs.Lists.{_∈_}
 use Rattle.table_lines.specs.Text.{isBlank, startsBlank, Blanks, trimFront, trimEnd, linesOf}
 use Rattle.table_lines.specs.Meaning.{endsBlank}
 use Rattle.table_lines.proofs.Blanks.{blank-shorter, shorter-blank, trimmed, gap-out, front-blanks, starts-gap}

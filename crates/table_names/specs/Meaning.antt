@@ -1,7 +1,6 @@
 -- The names of inputs in the words of the manual.
 use Prim.Native.Nat.{ℕ, _≤_}
-use mathlib.Core.Path.{_≡_}
-use mathlib.Core.Bool.{true, false}
+use mathlib.Core.{Path._≡_, Bool.true, Bool.false}
 use mathlib.Core.List.{List, _∷_, _++_, List·Memᴰ}
 use lib.ListN.{length}
 use Rattle.sets.specs.Lists.{all}

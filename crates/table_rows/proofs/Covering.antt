@@ -9,12 +9,9 @@ use native.Mathlib.Omega.{arith}
 use lib.Dec.{eqb, ltb}
 use lib.ListN.{length}
 use borrow.Author.Tests.{lt-ltb, ltb-true, eqb-false, ne-eqb, not-true}
-use Rattle.sets.specs.Lists.{all, pairwise}
-use Rattle.sets.specs.Literal.{oppositeOf}
-use Rattle.sets.specs.Sets.{asc, proper}
+use Rattle.sets.{specs.Lists.all, specs.Lists.pairwise, specs.Literal.oppositeOf, specs.Sets.asc, specs.Sets.proper, proofs.Sets.of-mem, proofs.Sets.proper-in}
 use Rattle.sets.proofs.Truth.{both, together, refuted}
 use Rattle.sets.proofs.Lists.{_∈_, all-in, pairwise-imp, pairwise-out}
-use Rattle.sets.proofs.Sets.{of-mem, proper-in}
 use Rattle.expression.specs.Value.{lit}
 use Rattle.table_rows.specs.Lines.{isPlace, cubeFrom, covers}
 

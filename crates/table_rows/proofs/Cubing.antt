@@ -11,9 +11,7 @@ use lib.ListN.{length, getD, take, drop, length-drop, length-map}
 use lib.Pow.{pow-mono}
 use lib.Seq.{take-suc, take-all, length-take-le, drop-cons}
 use borrow.Author.Tests.{eq-eqb, ne-eqb, le-leb, lt-leb, lt-ltb, leb-true, ltb-true, eqb-true}
-use Rattle.sets.specs.Lists.{all}
-use Rattle.sets.specs.Sets.{insert}
-use Rattle.sets.specs.Masks.{packed}
+use Rattle.sets.{specs.Lists.all, specs.Sets.insert, specs.Masks.packed, proofs.Packing.packed-lt, proofs.Packing.packed-ones}
 use Rattle.sets.proofs.Truth.{both, Stand, below, equal, beyond, compared}
 use Rattle.sets.proofs.Lists.{all-in, all-out, all-cong}
 use Rattle.cube.specs.Cube.{width, joined}
@@ -23,7 +21,6 @@ use Rattle.table_rows.specs.Lines.{mostPlaces, isPlace, isMark, CubeLine
 use Rattle.table_rows.specs.Answers.{entryOf, parsing}
 use Rattle.table_rows.specs.Parts.{isSign, placed, roomy, hasMarks, entered, markedLine}
 use Rattle.table_rows.proofs.Covering.{from-bounds}
-use Rattle.sets.proofs.Packing.{packed-lt, packed-ones}
 
 -- ---- one literal more
 

@@ -1,18 +1,12 @@
 -- A setting as a word: which words write one, and that input i is character i. Assumes nothing.
 use Prim.Native.Nat.{ℕ, _<_, _≤_}
-use mathlib.Core.Path.{_≡_, _∙_}
+use mathlib.Core.{Path._≡_, Path._∙_, List.List, List.map}
 use mathlib.Core.Bool.{true, false, and-false}
-use mathlib.Core.List.{List, map}
 use lib.Dec.{eqb, leb}
 use lib.ListN.{length, getD, List·getD-map}
 use borrow.Author.Tests.{le-leb, lt-leb, eqb-true}
-use Rattle.sets.specs.Lists.{all}
-use Rattle.sets.specs.Masks.{bit, packed}
-use Rattle.sets.proofs.Truth.{both}
-use Rattle.sets.proofs.Packing.{packed-bit}
-use Rattle.table_rows.specs.Lines.{mostPlaces, isMark}
-use Rattle.table_rows.specs.Answers.{settingOf}
-use Rattle.table_rows.specs.Parts.{hasMarks}
+use Rattle.sets.{specs.Lists.all, specs.Masks.bit, specs.Masks.packed, proofs.Truth.both, proofs.Packing.packed-bit}
+use Rattle.table_rows.specs.{Lines.mostPlaces, Lines.isMark, Answers.settingOf, Parts.hasMarks}
 use Rattle.table_rows.specs.declared.Setting.the-variants.{Is, Wrong}
 
 module _ (n : ℕ) (w : List ℕ) where

@@ -10,8 +10,7 @@ use lib.Dec.{eqb}
 use lib.ListN.{length, take, drop, length-map, take-append-drop}
 use lib.Seq.{take-at, drop-at}
 use borrow.Author.Tests.{eqb-true, eq-eqb}
-use Rattle.sets.specs.Lists.{all}
-use Rattle.sets.proofs.Truth.{both, either}
+use Rattle.sets.{specs.Lists.all, proofs.Truth.both, proofs.Truth.either}
 use Rattle.table_lines.specs.Text.{isBlank, startsBlank, trimFront}
 use Rattle.table_lines.proofs.Blanks.{gap-out, gap-in}
 use Rattle.table_rows.specs.Lines.{isPlace, isMark, CubeLine, cubeLineOf}

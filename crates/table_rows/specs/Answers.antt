@@ -1,18 +1,14 @@
 -- What reading a cube line answers.
 use Prim.Native.Nat.{ℕ}
-use mathlib.Core.Bool.{cond, _&&_}
-use mathlib.Core.List.{List, map}
+use mathlib.Core.{Bool.cond, Bool._&&_, List.List, List.map}
 use mathlib.Core.Option.{Option, none, some}
 use lib.Dec.{eqb, leb}
 use lib.ListN.{length}
-use Rattle.sets.specs.Lists.{all}
-use Rattle.sets.specs.Masks.{packed}
+use Rattle.sets.specs.{Lists.all, Masks.packed}
 use Rattle.cube.specs.Cube.{lits}
 use Rattle.table_rows.specs.Lines.{mostPlaces, isMark, CubeLine, cubeLineOf, cubeOf, rowsIn}
-use Rattle.table_rows.specs.declared.Parsed.{Parsed}
-use Rattle.table_rows.specs.declared.Parsed.the-variants.{Line, Nothing}
-use Rattle.table_rows.specs.declared.Setting.{Setting}
-use Rattle.table_rows.specs.declared.Setting.the-variants.{Is, Wrong}
+use Rattle.table_rows.specs.declared.{Parsed.Parsed, Parsed.the-variants.Line, Parsed.the-variants.Nothing}
+use Rattle.table_rows.specs.declared.{Setting.Setting, Setting.the-variants.Is, Setting.the-variants.Wrong}
 
 -- a cube line's cube, the outputs with a `1` as a mask, and how many there are
 pub record Entry : Type 0 where

@@ -6,8 +6,7 @@ use mathlib.Core.Option.{Option, none, some}
 use lib.Count.{ones}
 use lib.Dec.{eqb, leb, ltb}
 use lib.ListN.{length}
-use Rattle.sets.specs.Lists.{all}
-use Rattle.sets.specs.Masks.{packed}
+use Rattle.sets.specs.{Lists.all, Masks.packed}
 use Rattle.cube.specs.Cube.{joined}
 use Rattle.table_rows.specs.Lines.{mostPlaces, isMark, cubeFrom}
 use Rattle.table_rows.specs.Answers.{Entry}

@@ -1,15 +1,13 @@
 -- `cokernel::list_beyond` meets its contract and ends: the literals that are left fall. Assumes nothing.
 use Prim.Native.Nat.{ℕ, _-_, _*_, _<_}
 use mathlib.Core.Path.{_≡_, sym, _∙_, ap}
-use mathlib.Core.List.{List}
-use mathlib.Core.Logic.{inl, inr}
+use mathlib.Core.{List.List, Logic.inl, Logic.inr}
 use native.Mathlib.Omega.{arith}
 use borrow.Author.Needs.{needs}
 use borrow.Fn.Kinds.{In, Out}
 use borrow.Fn.PlainCycle.{Measures, is, falls, and}
 use lib.ListN.{length}
-use Rattle.cube.proofs.Lits.{lits-asc}
-use Rattle.cube.specs.Cube.{width, lits}
+use Rattle.cube.{proofs.Lits.lits-asc, specs.Cube.width, specs.Cube.lits}
 use Rattle.expression.specs.Words.{cubesOf}
 use Rattle.cokernel.specs.Parts.{Walked}
 use Rattle.cokernel.proofs.Steps.{withIt, beyond-end, beyond-next, beyond-last, walks-on, walks-with, walked-still, walked-then, walked-only}
@@ -19,8 +17,7 @@ use Rattle.cokernel.proofs.+list_beyond.Lts-list_beyond as lts
 use Rattle.cokernel.proofs.branch_at.Reads as branch-at-reads
 use Rattle.cokernel.proofs.put_if.Reads as put-if-reads
 use Rattle.cube.proofs.has.Reads as has-reads
-use Rattle.cokernel.proofs.+list_beyond.{statement}
-use Rattle.cokernel.proofs.+list_beyond.Tie.{close}
+use Rattle.cokernel.proofs.{+list_beyond.statement, +list_beyond.Tie.close}
 
 abbrev μ : Measures 2 kinds.ps ℕ
 μ κs a = 2 * width - a .1 .1 .1 .0

@@ -1,12 +1,9 @@
 -- `cokernel::agrees` meets its contract: the first literal that c lacks tells. Assumes nothing.
 use borrow.Author.Needs.{needs}
 use mathlib.Core.Path.{sym, ap, _∙_}
-use Rattle.sets.specs.Sets.{firstFrom}
-use Rattle.cube.proofs.Lits.{lits-asc}
-use Rattle.sets.proofs.Sets.{without-asc}
-use Rattle.cube.specs.Cube.{answer}
-use Rattle.cokernel.proofs.Steps.{none-low, first-low}
-use Rattle.cokernel.proofs.agrees.Statement.{statement}
+use Rattle.sets.{specs.Sets.firstFrom, proofs.Sets.without-asc}
+use Rattle.cube.{proofs.Lits.lits-asc, specs.Cube.answer}
+use Rattle.cokernel.proofs.{Steps.none-low, Steps.first-low, agrees.Statement.statement}
 use Rattle.cokernel.proofs.agrees.Tie as tie
 
 returns : tie.Need-returns

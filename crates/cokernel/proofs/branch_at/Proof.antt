@@ -2,8 +2,7 @@
 use borrow.Author.Needs.{needs}
 use mathlib.Core.Path.{_∙_}
 use Rattle.cube.proofs.Lits.{lits-asc}
-use Rattle.cokernel.proofs.Exactly.{held-words}
-use Rattle.cokernel.proofs.Steps.{joined-inside, branch-found}
+use Rattle.cokernel.proofs.{Exactly.held-words, Steps.joined-inside, Steps.branch-found}
 use Rattle.cokernel.proofs.branch_at.Statement.{statement}
 use Rattle.cokernel.proofs.branch_at.Tie as tie
 

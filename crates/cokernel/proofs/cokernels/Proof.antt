@@ -1,17 +1,13 @@
 -- `cokernel::cokernels` meets its contract: it counts with no room, and writes only what has room. Assumes nothing.
 use mathlib.Core.Path.{_≡_, sym, _∙_, ap, subst}
-use mathlib.Core.List.{_++_}
-use mathlib.Core.Option.{none}
+use mathlib.Core.{List._++_, Option.none}
 use Prim.Native.Nat.{_+_, _≤_}
 use lib.ListN.{length}
-use Rattle.expression.specs.Words.{cubesOf}
-use Rattle.cokernel.specs.Cokernels.{cokernels}
+use Rattle.expression.{specs.Words.cubesOf, specs.Answers.refusal, specs.Answers.refusalOf, proofs.Words.cubes-few}
+use Rattle.cokernel.specs.{Cokernels.cokernels, Parts.Walked}
 use native.Mathlib.Omega.{arith}
 use borrow.Author.Needs.{needs}
 use Rattle.sets.proofs.Rows.{nil-of}
-use Rattle.expression.specs.Answers.{refusal, refusalOf}
-use Rattle.expression.proofs.Words.{cubes-few}
-use Rattle.cokernel.specs.Parts.{Walked}
 use Rattle.cokernel.proofs.Telling.{told-refused, told-short, told-all}
 use Rattle.cokernel.proofs.cokernels.Statement.{statement}
 use Rattle.cokernel.proofs.cokernels.Tie as tie

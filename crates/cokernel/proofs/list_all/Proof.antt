@@ -1,8 +1,7 @@
 -- `cokernel::list_all` meets its contract. Assumes nothing.
 use native.Mathlib.Omega.{arith}
 use borrow.Author.Needs.{needs}
-use Rattle.cokernel.proofs.Telling.{walks-first, whole-walked}
-use Rattle.cokernel.proofs.list_all.Statement.{statement}
+use Rattle.cokernel.proofs.{Telling.walks-first, Telling.whole-walked, list_all.Statement.statement}
 use Rattle.cokernel.proofs.list_all.Tie as tie
 
 list-beyond-requires : tie.Need-list-beyond-requires

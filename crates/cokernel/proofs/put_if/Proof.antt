@@ -3,8 +3,7 @@ use borrow.Author.Needs.{needs}
 use native.Mathlib.Omega.{arith}
 use borrow.Author.Tests.{not-true, not-false}
 use Rattle.expression.proofs.Placing.{put-placed}
-use Rattle.cokernel.proofs.Steps.{walked-still}
-use Rattle.cokernel.proofs.put_if.Statement.{statement}
+use Rattle.cokernel.proofs.{Steps.walked-still, put_if.Statement.statement}
 use Rattle.cokernel.proofs.put_if.Tie as tie
 
 returns : tie.Need-returns

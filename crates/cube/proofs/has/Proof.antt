@@ -1,7 +1,6 @@
 -- `cube::has` meets its contract: a literal is held where its bit is in the mask of its polarity. Assumes nothing.
 use Prim.Native.Nat.{ℕ}
-use mathlib.Core.Path.{_∙_, ap₂}
-use mathlib.Core.Bool.{not}
+use mathlib.Core.{Path._∙_, Path.ap₂, Bool.not}
 use lib.Bits.{bitAnd, bitOr}
 use lib.Dec.{eqb}
 use borrow.Author.Needs.{needs}

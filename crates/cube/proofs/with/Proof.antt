@@ -3,8 +3,7 @@ use Prim.Native.Nat.{ℕ}
 use mathlib.Core.Path.{_∙_, ap₂}
 use lib.Bits.{bitOr}
 use borrow.Author.Needs.{needs}
-use Rattle.sets.specs.Masks.{literals}
-use Rattle.sets.proofs.Literals.{literals-single}
+use Rattle.sets.{specs.Masks.literals, proofs.Literals.literals-single}
 use Rattle.cube.proofs.with.Statement.{statement}
 use Rattle.cube.proofs.with.Tie as tie
 

@@ -1,8 +1,6 @@
 -- `cube_order::first_from` meets its contract. Assumes nothing.
 use Rattle.cube.specs.Cube.{lits}
-use Rattle.sets.specs.Sets.{firstFrom}
-use Rattle.sets.proofs.First.{first-here, first-next}
-use Rattle.sets.proofs.Literals.{literals-asc}
+use Rattle.sets.{specs.Sets.firstFrom, proofs.First.first-here, proofs.First.first-next, proofs.Literals.literals-asc}
 use mathlib.Core.Path.{sym, _∙_, ap}
 use native.Mathlib.Omega.{arith}
 use Prim.Native.Nat.{_%_}

@@ -4,12 +4,9 @@ use mathlib.Core.Path.{_≡_, _∙_, ap}
 use mathlib.Core.Bool.{not}
 use native.Mathlib.Omega.{arith}
 use borrow.Author.Needs.{needs}
-use Rattle.sets.specs.Lists.{isSome}
-use Rattle.sets.specs.Sets.{firstFrom}
-use Rattle.cube.specs.Cube.{lits}
-use Rattle.cube.proofs.Lits.{lits-asc, lits-inside}
-use Rattle.cube_order.proofs.Below.{all-below, first-below}
-use Rattle.cube_order.proofs.is_below.Statement.{statement}
+use Rattle.sets.specs.{Lists.isSome, Sets.firstFrom}
+use Rattle.cube.{specs.Cube.lits, proofs.Lits.lits-asc, proofs.Lits.lits-inside}
+use Rattle.cube_order.proofs.{Below.all-below, Below.first-below, is_below.Statement.statement}
 use Rattle.cube_order.proofs.is_below.Tie as tie
 
 returns : tie.Need-returns

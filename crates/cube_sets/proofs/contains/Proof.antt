@@ -1,7 +1,6 @@
 -- `cube_sets::contains` meets its contract. Assumes nothing.
-use Rattle.sets.specs.Lists.{isNil}
+use Rattle.sets.{specs.Lists.isNil, proofs.Sets.without-none}
 use mathlib.Core.Path.{_∙_, ap}
-use Rattle.sets.proofs.Sets.{without-none}
 use borrow.Author.Needs.{needs}
 use Rattle.cube_sets.proofs.contains.Statement.{statement}
 use Rattle.cube_sets.proofs.contains.Tie as tie

@@ -1,8 +1,7 @@
 -- `division::accept_divisor` meets its contract: 8 where the number of cubes is 0. Assumes nothing.
 use mathlib.Core.Path.{sym, _∙_}
 use borrow.Author.Needs.{needs}
-use Rattle.division.proofs.Refusing.{no-cubes, some-cubes}
-use Rattle.division.proofs.accept_divisor.Statement.{statement}
+use Rattle.division.proofs.{Refusing.no-cubes, Refusing.some-cubes, accept_divisor.Statement.statement}
 use Rattle.division.proofs.accept_divisor.Tie as tie
 
 returns : tie.Need-returns

@@ -3,8 +3,7 @@ use mathlib.Core.Path.{_≡_, _∙_, ap₂}
 use borrow.Author.Needs.{needs}
 use Rattle.expression.specs.Answers.{refusal, refusalOf}
 use Rattle.division.specs.Answers.{either}
-use Rattle.division.proofs.Refusing.{admitted-early, admitted-late}
-use Rattle.division.proofs.admit.Statement.{statement}
+use Rattle.division.proofs.{Refusing.admitted-early, Refusing.admitted-late, admit.Statement.statement}
 use Rattle.division.proofs.admit.Tie as tie
 
 abbrev start : tie.After-lesser → tie.Start

@@ -1,10 +1,8 @@
 -- `division::copy_sorted` meets its contract: what was listed, put in order. Assumes nothing.
 use native.Mathlib.Omega.{arith}
 use borrow.Author.Needs.{needs}
-use Rattle.expression.specs.Words.{cubesOf}
-use Rattle.expression.proofs.Placing.{appends-sort}
-use Rattle.division.proofs.Listing.{copied}
-use Rattle.division.proofs.copy_sorted.Statement.{statement}
+use Rattle.expression.{specs.Words.cubesOf, proofs.Placing.appends-sort}
+use Rattle.division.proofs.{Listing.copied, copy_sorted.Statement.statement}
 use Rattle.division.proofs.copy_sorted.Tie as tie
 
 returns : tie.Need-returns

@@ -3,14 +3,11 @@ use Prim.Native.Nat.{ℕ}
 use mathlib.Core.Path.{_≡_, sym, _∙_, ap}
 use mathlib.Core.List.{List}
 use borrow.Author.Needs.{needs}
-use Rattle.expression.specs.Words.{cubesOf, Appends}
-use Rattle.expression.specs.Expression.{sort}
-use Rattle.expression.specs.Answers.{refusalOf}
+use Rattle.expression.specs.{Words.cubesOf, Words.Appends, Expression.sort, Answers.refusalOf}
 use Rattle.division.specs.Division.{quotient, remainder}
-use Rattle.division.proofs.Listing.{front-part}
+use Rattle.division.proofs.{Listing.front-part, divide.Statement.statement}
 use Rattle.division.proofs.Refusing.{Admissible, admitted-known, told-early, told-late}
 use Rattle.division.proofs.Whole.{blank, blank-room, sorted-room, sorted-ready, listed-quotient, quotient-order, listed-remainder}
-use Rattle.division.proofs.divide.Statement.{statement}
 use Rattle.division.proofs.divide.Tie as tie
 
 returns : tie.Need-returns

@@ -1,8 +1,7 @@
 -- `division::fits_all` meets its contract. The loop's invariant: the test of the cubes from i on is the test of all. Assumes nothing.
 use Prim.Native.Nat.{ℕ, _≤_, _-_}
 use mathlib.Core.Path.{_≡_, sym, _∙_, ap}
-use mathlib.Core.Bool.{Bool, _&&_}
-use mathlib.Core.List.{List, []}
+use mathlib.Core.{Bool.Bool, Bool._&&_, List.List, List.[]}
 use native.Mathlib.Omega.{arith}
 use lib.ListN.{length, drop, getD}
 use borrow.Author.Needs.{needs}
@@ -10,8 +9,7 @@ use borrow.Author.Tests.{not-true, not-false}
 use Rattle.sets.specs.Sets.{apart, union}
 use Rattle.sets.proofs.Places.{all-stop, all-on, all-done}
 use Rattle.cube.specs.Cube.{lits}
-use Rattle.expression.specs.Words.{cubesOf}
-use Rattle.expression.specs.Expression.{has}
+use Rattle.expression.specs.{Words.cubesOf, Expression.has}
 use Rattle.division.specs.Division.{inQuotient}
 use Rattle.division.proofs.fits_all.Statement.{statement}
 use Rattle.division.proofs.fits_all.Tie as tie

@@ -3,9 +3,8 @@ use mathlib.Core.Path.{ap₂}
 use native.Mathlib.Omega.{arith}
 use borrow.Author.Needs.{needs}
 use Rattle.division.specs.declared.Division.the-variants.{Done}
-use Rattle.division.proofs.Listing.{copied}
+use Rattle.division.proofs.{Listing.copied, hand_over.Statement.statement}
 use Rattle.division.proofs.Refusing.{cramped-first, cramped-second, cramped-none, handed-none, handed-all}
-use Rattle.division.proofs.hand_over.Statement.{statement}
 use Rattle.division.proofs.hand_over.Tie as tie
 
 returns : tie.Need-returns

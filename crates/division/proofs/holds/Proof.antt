@@ -4,9 +4,7 @@ use borrow.Author.Needs.{needs}
 use borrow.Author.Tests.{not-true, not-false}
 use Rattle.sets.specs.Lists.{isSome}
 use Rattle.cube.specs.Cube.{lits}
-use Rattle.expression.specs.Words.{cubesOf}
-use Rattle.expression.specs.Expression.{has}
-use Rattle.expression.specs.Answers.{placeOf}
+use Rattle.expression.specs.{Words.cubesOf, Expression.has, Answers.placeOf}
 use Rattle.expression_survey.proofs.Searching.{find-has}
 use Rattle.division.proofs.holds.Statement.{statement}
 use Rattle.division.proofs.holds.Tie as tie

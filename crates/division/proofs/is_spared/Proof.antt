@@ -9,8 +9,7 @@ use borrow.Author.Needs.{needs}
 use Rattle.sets.specs.Sets.{sub, without}
 use Rattle.sets.proofs.Places.{all-stop, all-on, all-done}
 use Rattle.cube.specs.Cube.{lits}
-use Rattle.expression.specs.Words.{cubesOf}
-use Rattle.expression.specs.Expression.{has}
+use Rattle.expression.specs.{Words.cubesOf, Expression.has}
 use Rattle.division.specs.Parts.{spared}
 use Rattle.division.proofs.is_spared.Statement.{statement}
 use Rattle.division.proofs.is_spared.Tie as tie

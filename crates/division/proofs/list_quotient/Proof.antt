@@ -8,8 +8,7 @@ use Rattle.sets.specs.Sets.{sub}
 use Rattle.cube.specs.Cube.{lits}
 use Rattle.expression.specs.Words.{cubesOf}
 use Rattle.division.proofs.Listing.{Walk, walk-first, walk-skip, walk-put, walk-end}
-use Rattle.division.proofs.Making.{given, given-length}
-use Rattle.division.proofs.list_quotient.Statement.{statement}
+use Rattle.division.proofs.{Making.given, Making.given-length, list_quotient.Statement.statement}
 use Rattle.division.proofs.list_quotient.Tie as tie
 
 abbrev Inv-loop : tie.InvT-loop

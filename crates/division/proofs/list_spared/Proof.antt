@@ -4,8 +4,7 @@ use mathlib.Core.Path.{refl, sym, _∙_}
 use native.Mathlib.Omega.{arith}
 use borrow.Author.Needs.{needs}
 use borrow.Author.Tests.{not-true, not-false}
-use Rattle.sets.specs.Lists.{keep}
-use Rattle.sets.proofs.Lists.{keep-length}
+use Rattle.sets.{specs.Lists.keep, proofs.Lists.keep-length}
 use Rattle.expression.specs.Words.{cubesOf}
 use Rattle.division.specs.Parts.{spared}
 use Rattle.division.proofs.Listing.{Walk, walk-first, walk-skip, walk-put, walk-end}

@@ -1,8 +1,7 @@
 -- `drive_request::ends_blank` meets its contract. Assumes nothing.
 use mathlib.Core.Path.{sym}
-use Rattle.drive_request.proofs.Splitting.{blank-none}
+use Rattle.drive_request.proofs.{Splitting.blank-none, ends_blank.Statement.statement}
 use borrow.Author.Needs.{needs}
-use Rattle.drive_request.proofs.ends_blank.Statement.{statement}
 use Rattle.drive_request.proofs.ends_blank.Tie as tie
 
 returns : tie.Need-returns

@@ -3,9 +3,8 @@ use native.Mathlib.Omega.{arith}
 use Prim.Native.Nat.{_-_}
 use lib.ListN.{length, drop, length-drop}
 use lib.Seq.{take-all}
-use Rattle.drive_request.proofs.Splitting.{rest-past}
+use Rattle.drive_request.proofs.{Splitting.rest-past, from.Statement.statement}
 use borrow.Author.Needs.{needs}
-use Rattle.drive_request.proofs.from.Statement.{statement}
 use Rattle.drive_request.proofs.from.Tie as tie
 
 returns : tie.Need-returns

@@ -1,8 +1,6 @@
 -- `drive_request::groups` meets its contract. The loop's invariant: no word passed is empty, and each lone `;` is counted. Assumes nothing.
 use mathlib.Core.Path.{_≡_, sym, ap, _∙_}
-use mathlib.Core.Logic.{⊎-elim}
-use mathlib.Core.Bool.{false, cond}
-use mathlib.Core.List.{List, []}
+use mathlib.Core.{Logic.⊎-elim, Bool.false, Bool.cond, List.List, List.[]}
 use Prim.Native.Nat.{ℕ, _+_, _-_, _*_, _<_, _≤_}
 use native.Mathlib.Omega.{arith}
 use lib.ListN.{length, drop}

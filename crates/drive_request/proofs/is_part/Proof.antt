@@ -1,8 +1,7 @@
 -- `drive_request::is_part` meets its contract. Assumes nothing.
 use mathlib.Core.Path.{sym}
-use Rattle.drive_request.proofs.Splitting.{part-other, part-one}
+use Rattle.drive_request.proofs.{Splitting.part-other, Splitting.part-one, is_part.Statement.statement}
 use borrow.Author.Needs.{needs}
-use Rattle.drive_request.proofs.is_part.Statement.{statement}
 use Rattle.drive_request.proofs.is_part.Tie as tie
 
 returns : tie.Need-returns

@@ -6,10 +6,9 @@ use Prim.Native.Nat.{ℕ, _+_, _-_, _≤_}
 use native.Mathlib.Omega.{arith}
 use lib.ListN.{length, drop}
 use Rattle.drive_request.specs.Numbers.{numberOf, numberIn, numbersOf}
-use Rattle.drive_request.proofs.Splitting.{words-next, words-done}
+use Rattle.drive_request.proofs.{Splitting.words-next, Splitting.words-done, numbers.Statement.statement}
 use Rattle.drive_request.proofs.Storing.{Storing, storing-all, storing-as, storing-none, storing-full, storing-next, storing-done}
 use borrow.Author.Needs.{needs}
-use Rattle.drive_request.proofs.numbers.Statement.{statement}
 use Rattle.drive_request.proofs.numbers.Tie as tie
 
 abbrev Inv-loop : tie.InvT-loop

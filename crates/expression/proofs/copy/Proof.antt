@@ -2,8 +2,7 @@
 use mathlib.Core.Path.{ap}
 use borrow.Author.Needs.{needs}
 use Rattle.expression.specs.Words.{fitting}
-use Rattle.expression.proofs.Placing.{placed-as}
-use Rattle.expression.proofs.copy.Statement.{statement}
+use Rattle.expression.proofs.{Placing.placed-as, copy.Statement.statement}
 use Rattle.expression.proofs.copy.Tie as tie
 
 returns : tie.Need-returns

@@ -5,9 +5,8 @@ use native.Mathlib.Omega.{arith}
 use lib.ListN.{length, take}
 use borrow.Author.Needs.{needs}
 use Rattle.expression.specs.Words.{cubesOf, Placed}
-use Rattle.expression.proofs.Words.{cubes-few}
+use Rattle.expression.proofs.{Words.cubes-few, copy_whole.Statement.statement}
 use Rattle.expression.proofs.Placing.{placed-none, placed-as, copied-next, copied-all}
-use Rattle.expression.proofs.copy_whole.Statement.{statement}
 use Rattle.expression.proofs.copy_whole.Tie as tie
 
 abbrev Inv-loop : tie.InvT-loop

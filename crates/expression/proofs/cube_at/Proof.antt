@@ -1,21 +1,16 @@
 -- `expression::cube_at` meets its contract: the words of a cube are its masks. Assumes nothing.
 use Prim.Native.Nat.{ℕ, _+_, _*_, _/_}
 use mathlib.Core.Path.{_≡_, sym, _∙_, ap₂}
-use mathlib.Core.Bool.{cond}
-use mathlib.Core.List.{List, []}
-use mathlib.Core.Logic.{inl, inr}
+use mathlib.Core.{Bool.cond, List.List, List.[], Logic.inl, Logic.inr}
 use native.Mathlib.Omega.{arith}
 use lib.Dec.{ltb}
 use lib.ListN.{length, getD}
 use borrow.Author.Needs.{needs}
 use borrow.Author.Tests.{ltb-true, ltb-false}
-use Rattle.sets.specs.Masks.{literals}
-use Rattle.sets.proofs.Truth.{decided}
-use Rattle.sets.proofs.Literals.{literals-none}
+use Rattle.sets.{specs.Masks.literals, proofs.Truth.decided, proofs.Literals.literals-none}
 use Rattle.cube.specs.Cube.{width}
 use Rattle.expression.specs.Words.{cubesOf}
-use Rattle.expression.proofs.Words.{cubes-at, cubes-past}
-use Rattle.expression.proofs.cube_at.Statement.{statement}
+use Rattle.expression.proofs.{Words.cubes-at, Words.cubes-past, cube_at.Statement.statement}
 use Rattle.expression.proofs.cube_at.Tie as tie
 
 -- word k of cube i, as it is read

@@ -1,7 +1,6 @@
 -- `expression::number` meets its contract: two words make a cube. Assumes nothing.
 use mathlib.Core.Path.{sym}
-use Rattle.expression.proofs.Words.{cubes-length}
-use Rattle.expression.proofs.number.Statement.{statement}
+use Rattle.expression.proofs.{Words.cubes-length, number.Statement.statement}
 use Rattle.expression.proofs.number.Tie as tie
 
 returns : tie.Need-returns

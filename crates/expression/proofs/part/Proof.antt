@@ -1,7 +1,6 @@
 -- `expression::part` meets its contract: the words from the first cube's to the last one's. Assumes nothing.
-use Rattle.expression.proofs.Words.{part-of}
+use Rattle.expression.proofs.{Words.part-of, part.Statement.statement}
 use borrow.Author.Needs.{needs}
-use Rattle.expression.proofs.part.Statement.{statement}
 use Rattle.expression.proofs.part.Tie as tie
 
 returns : tie.Need-returns

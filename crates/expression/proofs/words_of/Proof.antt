@@ -4,9 +4,8 @@ use mathlib.Core.Path.{_≡_, _∙_, ap}
 use native.Mathlib.Omega.{arith}
 use lib.ListN.{length}
 use Rattle.expression.specs.Words.{cubesOf}
-use Rattle.expression.proofs.Words.{cubes-length}
+use Rattle.expression.proofs.{Words.cubes-length, words_of.Statement.statement}
 use borrow.Author.Needs.{needs}
-use Rattle.expression.proofs.words_of.Statement.{statement}
 use Rattle.expression.proofs.words_of.Tie as tie
 
 mul-t6 : tie.Need-mul-t6

@@ -11,8 +11,7 @@ use lib.Dec.{ltb}
 use lib.ListN.{length, getD}
 use Rattle.sets.specs.Sets.{sub, same}
 use Rattle.cube.specs.Cube.{lits}
-use Rattle.expression.specs.Words.{cubesOf, spareOf}
-use Rattle.expression.proofs.Words.{cubes-asc}
+use Rattle.expression.{specs.Words.cubesOf, specs.Words.spareOf, proofs.Words.cubes-asc}
 use Rattle.expression_absorb.proofs.Compacting.{Stands, stands-first, stands-number, stands-end, turn-dropped, turn-kept}
 use Rattle.expression_absorb.proofs.absorb.Statement.{statement}
 use Rattle.expression_absorb.proofs.absorb.Tie as tie

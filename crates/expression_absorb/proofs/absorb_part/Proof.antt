@@ -1,9 +1,7 @@
 -- `expression_absorb::absorb_part` meets its contract: the part is absorbed and put back. Assumes nothing.
 use mathlib.Core.Path.{_∙_, ap}
 use lib.ListN.{length}
-use Rattle.expression.specs.Expression.{absorbed}
-use Rattle.expression.proofs.Words.{part-of, placed-by}
-use Rattle.expression.proofs.Absorbing.{absorbed-length}
+use Rattle.expression.{specs.Expression.absorbed, proofs.Words.part-of, proofs.Words.placed-by, proofs.Absorbing.absorbed-length}
 use borrow.Author.Needs.{needs}
 use Rattle.expression_absorb.proofs.absorb_part.Statement.{statement}
 use Rattle.expression_absorb.proofs.absorb_part.Tie as tie

@@ -7,8 +7,7 @@ use borrow.Author.Needs.{needs}
 use borrow.Author.Tests.{not-true, not-false}
 use lib.ListN.{length, drop}
 use Rattle.sets.specs.Lists.{pairwise}
-use Rattle.expression.specs.Words.{cubesOf}
-use Rattle.expression.specs.Expression.{loose}
+use Rattle.expression.specs.{Words.cubesOf, Expression.loose}
 use Rattle.sets.proofs.Places.{pairwise-stop, pairwise-on, pairwise-done}
 use Rattle.expression_accept.proofs.all_loose.Statement.{statement}
 use Rattle.expression_accept.proofs.all_loose.Tie as tie

@@ -6,8 +6,7 @@ use borrow.Author.Needs.{needs}
 use borrow.Author.Tests.{not-true, not-false}
 use mathlib.Core.List.{List, []}
 use lib.ListN.{length, drop, getD}
-use Rattle.sets.specs.Lists.{all}
-use Rattle.sets.specs.Sets.{proper}
+use Rattle.sets.specs.{Lists.all, Sets.proper}
 use Rattle.expression.specs.Words.{cubesOf}
 use Rattle.sets.proofs.Places.{all-stop, all-on, all-done}
 use Rattle.expression_accept.proofs.all_proper.Statement.{statement}

@@ -2,8 +2,7 @@
 use mathlib.Core.Path.{sym, _∙_}
 use borrow.Author.Needs.{needs}
 use borrow.Author.Tests.{not-true, not-false}
-use Rattle.expression_accept.proofs.Accepting.{cubes-proper}
-use Rattle.expression_accept.proofs.is_expression.Statement.{statement}
+use Rattle.expression_accept.proofs.{Accepting.cubes-proper, is_expression.Statement.statement}
 use Rattle.expression_accept.proofs.is_expression.Tie as tie
 
 returns : tie.Need-returns

@@ -9,9 +9,7 @@ use mathlib.Core.List.{List, []}
 use lib.ListN.{length, drop, getD}
 use Rattle.sets.specs.Lists.{all}
 use Rattle.cube.specs.Cube.{lits}
-use Rattle.expression.specs.Words.{cubesOf}
-use Rattle.expression.specs.Expression.{loose}
-use Rattle.expression.proofs.Words.{cubes-few}
+use Rattle.expression.{specs.Words.cubesOf, specs.Expression.loose, proofs.Words.cubes-few}
 use Rattle.sets.proofs.Places.{all-stop, all-on, all-done}
 use Rattle.expression_accept.proofs.is_loose_from.Statement.{statement}
 use Rattle.expression_accept.proofs.is_loose_from.Tie as tie

@@ -1,12 +1,10 @@
 -- `expression_survey::find` meets its contract. The loop's invariant: what is left of the search answers as the whole. Assumes nothing.
-use mathlib.Core.Path.{refl}
-use mathlib.Core.List.{List}
+use mathlib.Core.{Path.refl, List.List}
 use Prim.Native.Nat.{ℕ, _-_, _≤_}
 use native.Mathlib.Omega.{arith}
 use borrow.Author.Needs.{needs}
 use lib.ListN.{length}
-use Rattle.cube.specs.Cube.{lits}
-use Rattle.cube.proofs.Verdict.{Told, told-of}
+use Rattle.cube.{specs.Cube.lits, proofs.Verdict.Told, proofs.Verdict.told-of}
 use Rattle.expression.specs.Words.{cubesOf}
 use Rattle.expression_survey.proofs.Searching.{middle, Left, left-start, go-up, go-down, stop-at, stop-none}
 use Rattle.expression_survey.proofs.find.Statement.{statement}

@@ -1,8 +1,6 @@
 -- `expression_survey::is_ordered` meets its contract. The loop's invariant: each cube passed comes before the next. Assumes nothing.
 use Prim.Native.Nat.{ℕ, _≤_, _-_}
-use mathlib.Core.Logic.{inl, inr}
-use mathlib.Core.Path.{sym, _∙_}
-use mathlib.Core.List.{List}
+use mathlib.Core.{Logic.inl, Logic.inr, Path.sym, Path._∙_, List.List}
 use native.Mathlib.Omega.{arith}
 use borrow.Author.Needs.{needs}
 use lib.ListN.{length}

@@ -1,17 +1,13 @@
 -- `expression_survey::literals` meets its contract. The loop's invariant: the sum is that of the cubes passed, as 64 bits hold it. Assumes nothing.
 use mathlib.Core.Path.{_≡_, sym, _∙_, ap}
-use mathlib.Core.List.{[]}
-use mathlib.Core.Logic.{inl, inr}
+use mathlib.Core.{List.[], Logic.inl, Logic.inr}
 use Prim.Native.Nat.{_+_, _-_, _<_, _≤_}
 use native.Mathlib.Omega.{arith}
 use borrow.Author.Needs.{needs}
 use lib.ListN.{length, getD, take}
 use lib.Seq.{take-all}
-use Rattle.expression.specs.Words.{cubesOf}
-use Rattle.expression.specs.Expression.{literalsOf}
-use Rattle.expression.specs.Answers.{capped}
-use Rattle.sets.specs.Word.{largest}
-use Rattle.sets.proofs.Places.{total-next}
+use Rattle.expression.specs.{Words.cubesOf, Expression.literalsOf, Answers.capped}
+use Rattle.sets.{specs.Word.largest, proofs.Places.total-next}
 use Rattle.expression_survey.proofs.Counting.{capped-more, capped-full}
 use Rattle.expression_survey.proofs.literals.Statement.{statement}
 use Rattle.expression_survey.proofs.literals.Tie as tie

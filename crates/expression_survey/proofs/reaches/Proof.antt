@@ -7,8 +7,7 @@ use borrow.Author.Tests.{not-true, not-false}
 use mathlib.Core.List.{List, []}
 use lib.ListN.{length, drop, getD}
 use Rattle.sets.specs.Sets.{readsBelow}
-use Rattle.expression.specs.Words.{cubesOf}
-use Rattle.expression.specs.Expression.{reach}
+use Rattle.expression.specs.{Words.cubesOf, Expression.reach}
 use Rattle.sets.proofs.Places.{all-stop, all-on, all-done}
 use Rattle.expression_survey.proofs.reaches.Statement.{statement}
 use Rattle.expression_survey.proofs.reaches.Tie as tie

@@ -6,8 +6,7 @@ use mir.Syntax.{w32}
 use mir.Val.{toZ, ofZ}
 use mir.Facts.{toZ-ofZ}
 use borrow.Author.Needs.{needs}
-use Rattle.extract.proofs.Going.{le-not, not-le}
-use Rattle.extract.proofs.ended.Statement.{statement}
+use Rattle.extract.proofs.{Going.le-not, Going.not-le, ended.Statement.statement}
 use Rattle.extract.proofs.ended.Tie as tie
 
 -- the weight read is the one given

@@ -2,9 +2,7 @@
 -- The measure is how many variables more there may be. Assumes nothing.
 use Prim.Native.Nat.{suc, _+_, _-_}
 use mathlib.Core.Path.{_≡_, sym, ap, _∙_, subst}
-use mathlib.Core.Logic.{inl, inr}
-use mathlib.Core.Bool.{true}
-use mathlib.Core.Option.{some}
+use mathlib.Core.{Logic.inl, Logic.inr, Bool.true, Option.some}
 use native.Mathlib.Omega.{arith}
 use borrow.Author.Needs.{needs}
 use lib.IntN.{pos, _-ℤ_}
@@ -13,18 +11,13 @@ use lib.Signed.{leZ, ltZ}
 use mir.Syntax.{w32}
 use mir.Val.{toZ, ofZ}
 use mir.Facts.{toZ-ofZ}
-use Rattle.network.specs.Held.{netOf, mostVariables}
-use Rattle.network.specs.Handed.{Shaped}
-use Rattle.network.proofs.Handing.{shape-of}
+use Rattle.network.{specs.Held.netOf, specs.Held.mostVariables, specs.Handed.Shaped, proofs.Handing.shape-of}
 use Rattle.extract_laws.specs.Run.{runFrom}
 use Rattle.extract_step.specs.declared.Outcome.the-variants as Outcome
-use Rattle.extract.specs.Answers.{Told}
+use Rattle.extract.specs.{Answers.Told, declared.Stop.Stop, declared.Ran.Ran}
 use Rattle.extract.specs.Parts.{Leaves, endedAt, stoppedWith}
-use Rattle.extract.specs.declared.Stop.{Stop}
-use Rattle.extract.specs.declared.Ran.{Ran}
 use Rattle.extract.proofs.Going.{le-not, not-le, Going, going-first, going-room, going-numbers, going-done, going-ended, going-leaves}
-use Rattle.extract.proofs.Going.{going-full, going-on}
-use Rattle.extract.proofs.follow.Statement.{statement}
+use Rattle.extract.proofs.{Going.going-full, Going.going-on, follow.Statement.statement}
 use Rattle.extract.proofs.follow.Tie as tie
 
 abbrev Inv-loop : tie.InvT-loop

@@ -5,14 +5,9 @@ use native.Mathlib.Omega.{arith}
 use lib.ListN.{length, take}
 use borrow.Author.Needs.{needs}
 use Rattle.sets.specs.Lists.{total}
-use Rattle.expression.specs.Words.{cubesOf}
-use Rattle.expression.specs.Expression.{literalsOf}
-use Rattle.expression.specs.Answers.{capped}
+use Rattle.expression.specs.{Words.cubesOf, Expression.literalsOf, Answers.capped}
 use Rattle.network_nodes.proofs.Cutting.{cut-total}
-use Rattle.network.specs.Handed.{Shaped}
-use Rattle.network.proofs.Handing.{shape-of}
-use Rattle.network.proofs.Holding.{nodes-held}
-use Rattle.network.proofs.Limits.{rules-sized, rules-literals}
+use Rattle.network.{specs.Handed.Shaped, proofs.Handing.shape-of, proofs.Holding.nodes-held, proofs.Limits.rules-sized, proofs.Limits.rules-literals}
 use Rattle.extract.proofs.literals_of.Statement.{statement}
 use Rattle.extract.proofs.literals_of.Tie as tie
 

@@ -2,8 +2,7 @@
 use mathlib.Core.Path.{ap, _∙_}
 use lib.ListN.{replicate}
 use Rattle.extract_divisor.specs.declared.Step.{Step}
-use Rattle.extract.specs.Answers.{places}
-use Rattle.extract.specs.Parts.{madeBy}
+use Rattle.extract.specs.{Answers.places, Parts.madeBy}
 use borrow.Author.Needs.{needs}
 use Rattle.extract.proofs.no_list.Statement.{statement}
 use Rattle.extract.proofs.no_list.Tie as tie

@@ -1,6 +1,5 @@
 -- `extract::no_steps` meets its contract: none is counted, and every one is that of zeros. Assumes nothing.
-use mathlib.Core.Path.{ap}
-use mathlib.Core.List.{List}
+use mathlib.Core.{Path.ap, List.List}
 use Rattle.extract.specs.declared.Made.{Made}
 use borrow.Author.Needs.{needs}
 use Rattle.extract.proofs.no_steps.Statement.{statement}

@@ -1,9 +1,6 @@
 -- `extract::run` meets its contract: the run of the network in cube order, or the refusal. Assumes nothing.
-use mathlib.Core.Path.{_≡_, refl}
-use mathlib.Core.Bool.{true}
-use Rattle.network.specs.Held.{netOf, rules}
-use Rattle.network.specs.Handed.{Holds, Shaped}
-use Rattle.network.proofs.Handing.{shape-of}
+use mathlib.Core.{Path._≡_, Path.refl, Bool.true}
+use Rattle.network.{specs.Held.netOf, specs.Held.rules, specs.Handed.Holds, specs.Handed.Shaped, proofs.Handing.shape-of}
 use Rattle.extract_laws.specs.Run.{inOrder}
 use Rattle.network.proofs.Telling.{told-accepted, told-refused}
 use Rattle.extract.proofs.Starting.{start-ready, start-told, refused-told}

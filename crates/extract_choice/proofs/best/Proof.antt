@@ -3,9 +3,7 @@ use mathlib.Core.Path.{_≡_, sym, _∙_}
 use mathlib.Core.Bool.{true}
 use native.Mathlib.Omega.{arith}
 use borrow.Author.Tests.{not-true, not-false}
-use Rattle.network.specs.Held.{netOf}
-use Rattle.network.specs.Handed.{Shaped}
-use Rattle.network.proofs.Handing.{shape-of}
+use Rattle.network.{specs.Held.netOf, specs.Handed.Shaped, proofs.Handing.shape-of}
 use Rattle.extract_tidy.specs.Tidy.{arranged}
 use Rattle.extract_choice.proofs.Deciding.{arranged-few, front-nodes, front-orderly, chosen-leads, chosen-not}
 use borrow.Author.Needs.{needs}

@@ -1,7 +1,6 @@
 -- `extract_choice::choose` meets its contract: all candidates are judged. Assumes nothing.
-use Rattle.extract_choice.proofs.Deciding.{all-judged}
+use Rattle.extract_choice.proofs.{Deciding.all-judged, choose.Statement.statement}
 use borrow.Author.Needs.{needs}
-use Rattle.extract_choice.proofs.choose.Statement.{statement}
 use Rattle.extract_choice.proofs.choose.Tie as tie
 
 returns : tie.Need-returns

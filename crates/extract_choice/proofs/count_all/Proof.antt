@@ -10,8 +10,7 @@ use Rattle.expression.specs.Words.{cubesOf}
 use Rattle.network.specs.Parts.{nodesOf}
 use Rattle.network_nodes.specs.Nodes.{countBefore}
 use Rattle.extract_choice.proofs.Counting.{nodes-many, node-part, next-start, node-few, node-ordered, uses-few, literals-few, CountingAll, all-none}
-use Rattle.extract_choice.proofs.Counting.{all-more, all-counted}
-use Rattle.extract_choice.proofs.count_all.Statement.{statement}
+use Rattle.extract_choice.proofs.{Counting.all-more, Counting.all-counted, count_all.Statement.statement}
 use Rattle.extract_choice.proofs.count_all.Tie as tie
 
 abbrev Inv-loop : tie.InvT-loop

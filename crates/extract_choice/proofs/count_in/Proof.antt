@@ -1,12 +1,10 @@
 -- `extract_choice::count_in` meets its contract. The loop's invariant: what is counted and what is left make up all. Assumes nothing.
 use Prim.Native.Nat.{_-_, _<_}
-use mathlib.Core.Path.{_∙_}
-use mathlib.Core.Logic.{inl, inr}
+use mathlib.Core.{Path._∙_, Logic.inl, Logic.inr}
 use native.Mathlib.Omega.{arith}
 use borrow.Author.Needs.{needs}
 use lib.ListN.{length}
-use Rattle.cube.specs.Cube.{lits}
-use Rattle.cube.proofs.Lits.{lits-at-most}
+use Rattle.cube.{specs.Cube.lits, proofs.Lits.lits-at-most}
 use Rattle.expression.specs.Words.{cubesOf}
 use Rattle.extract_choice.proofs.Counting.{tested-use, Counting, counting-none, counting-on, counting-off, counting-all}
 use Rattle.extract_choice.proofs.count_in.Statement.{statement}

@@ -1,14 +1,10 @@
 -- `extract_choice::holders` meets its contract. The loop's invariant: what is counted and what is left make up all. Assumes nothing.
 use Prim.Native.Nat.{_+_, _-_, _≤_}
-use mathlib.Core.Path.{_≡_}
-use mathlib.Core.Logic.{inl, inr}
-use mathlib.Core.List.{[]}
+use mathlib.Core.{Path._≡_, Logic.inl, Logic.inr, List.[]}
 use native.Mathlib.Omega.{arith}
 use borrow.Author.Needs.{needs}
 use lib.ListN.{length, drop, drop-of-length-le}
-use Rattle.sets.specs.Lists.{keep}
-use Rattle.sets.specs.Sets.{sub}
-use Rattle.sets.proofs.Places.{drop-next}
+use Rattle.sets.{specs.Lists.keep, specs.Sets.sub, proofs.Places.drop-next}
 use Rattle.cube.specs.Cube.{lits}
 use Rattle.expression.specs.Words.{cubesOf}
 use Rattle.extract_choice.proofs.holders.Statement.{statement}

@@ -1,7 +1,6 @@
 -- `extract_choice::is_small` meets its contract. Assumes nothing.
-use Rattle.extract_choice.proofs.Ties.{small-none, small-some}
+use Rattle.extract_choice.proofs.{Ties.small-none, Ties.small-some, is_small.Statement.statement}
 use borrow.Author.Needs.{needs}
-use Rattle.extract_choice.proofs.is_small.Statement.{statement}
 use Rattle.extract_choice.proofs.is_small.Tie as tie
 
 returns : tie.Need-returns

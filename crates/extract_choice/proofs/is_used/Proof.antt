@@ -1,8 +1,7 @@
 -- `extract_choice::is_used` meets its contract. The loop's invariant: the test of the cubes from i on is the test of all. Assumes nothing.
 use Prim.Native.Nat.{_-_, _≤_}
 use mathlib.Core.Path.{_≡_, sym, _∙_}
-use mathlib.Core.Bool.{false}
-use mathlib.Core.List.{[]}
+use mathlib.Core.{Bool.false, List.[]}
 use native.Mathlib.Omega.{arith}
 use borrow.Author.Needs.{needs}
 use lib.ListN.{length, drop}
@@ -11,8 +10,7 @@ use Rattle.cube.specs.Cube.{lits}
 use Rattle.expression.specs.Words.{cubesOf}
 use Rattle.network_known.proofs.Testing.{test-stop, test-on, test-done}
 use Rattle.extract_laws.specs.Divisor.{useOf}
-use Rattle.extract_choice.proofs.Counting.{tested-use}
-use Rattle.extract_choice.proofs.is_used.Statement.{statement}
+use Rattle.extract_choice.proofs.{Counting.tested-use, is_used.Statement.statement}
 use Rattle.extract_choice.proofs.is_used.Tie as tie
 
 abbrev Inv-loop : tie.InvT-loop

@@ -1,10 +1,8 @@
 -- `extract_choice::judge_after` meets its contract. Assumes nothing.
 use mathlib.Core.Path.{sym, _∙_, ap}
-use Rattle.sets.specs.Lists.{isNil}
-use Rattle.sets.proofs.Sets.{meet-none}
-use Rattle.extract_choice.proofs.Sums.{lone-judged}
+use Rattle.sets.{specs.Lists.isNil, proofs.Sets.meet-none}
+use Rattle.extract_choice.proofs.{Sums.lone-judged, judge_after.Statement.statement}
 use borrow.Author.Needs.{needs}
-use Rattle.extract_choice.proofs.judge_after.Statement.{statement}
 use Rattle.extract_choice.proofs.judge_after.Tie as tie
 
 returns : tie.Need-returns

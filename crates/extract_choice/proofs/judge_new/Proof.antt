@@ -1,9 +1,7 @@
 -- `extract_choice::judge_new` meets its contract. Assumes nothing.
 use mathlib.Core.Path.{sym, _∙_}
-use Rattle.extract_choice.proofs.Judging.{adds-any}
-use Rattle.extract_choice.proofs.Sums.{sum-again}
+use Rattle.extract_choice.proofs.{Judging.adds-any, Sums.sum-again, judge_new.Statement.statement}
 use borrow.Author.Needs.{needs}
-use Rattle.extract_choice.proofs.judge_new.Statement.{statement}
 use Rattle.extract_choice.proofs.judge_new.Tie as tie
 
 returns : tie.Need-returns

@@ -1,12 +1,10 @@
 -- `extract_choice::judge_pair` meets its contract. Assumes nothing.
 use native.Mathlib.Omega.{arith}
-use Rattle.sets.specs.Sets.{sub}
-use Rattle.sets.proofs.Lists.{keep-length}
+use Rattle.sets.{specs.Sets.sub, proofs.Lists.keep-length}
 use Rattle.cube.specs.Cube.{lits}
 use Rattle.expression.specs.Words.{cubesOf}
-use Rattle.extract_choice.proofs.Pairs.{two-literals, pair-judged}
+use Rattle.extract_choice.proofs.{Pairs.two-literals, Pairs.pair-judged, judge_pair.Statement.statement}
 use borrow.Author.Needs.{needs}
-use Rattle.extract_choice.proofs.judge_pair.Statement.{statement}
 use Rattle.extract_choice.proofs.judge_pair.Tie as tie
 
 step-of-requires : tie.Need-step-of-requires

@@ -1,7 +1,6 @@
 -- `extract_choice::judge_pairs` meets its contract. The loop's invariant: the pairs of literals from p on are judged. Assumes nothing.
 use Prim.Native.Nat.{_+_, _*_, _-_, _≤_}
-use mathlib.Core.Path.{_≡_}
-use mathlib.Core.List.{[]}
+use mathlib.Core.{Path._≡_, List.[]}
 use native.Mathlib.Omega.{arith}
 use borrow.Author.Needs.{needs}
 use Rattle.sets.specs.Lists.{from}
@@ -9,8 +8,7 @@ use Rattle.cube.specs.Cube.{width}
 use Rattle.expression.specs.Words.{cubesOf}
 use Rattle.extract_laws.specs.Extract.{pairsIn}
 use Rattle.extract_choice.specs.Parts.{Adds, Cubes, literalsFrom}
-use Rattle.extract_choice.proofs.Judging.{adds-none, adds-more}
-use Rattle.extract_choice.proofs.Pairs.{literals-down}
+use Rattle.extract_choice.proofs.{Judging.adds-none, Judging.adds-more, Pairs.literals-down}
 use Rattle.extract_choice.proofs.judge_pairs.Statement.{statement}
 use Rattle.extract_choice.proofs.judge_pairs.Tie as tie
 

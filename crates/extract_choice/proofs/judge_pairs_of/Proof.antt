@@ -1,7 +1,6 @@
 -- `extract_choice::judge_pairs_of` meets its contract. The loop's invariant: the pairs from q on are judged. Assumes nothing.
 use Prim.Native.Nat.{_+_, _*_, _-_, _<_, _≤_}
-use mathlib.Core.Path.{_≡_}
-use mathlib.Core.List.{[], map}
+use mathlib.Core.{Path._≡_, List.[], List.map}
 use native.Mathlib.Omega.{arith}
 use borrow.Author.Needs.{needs}
 use Rattle.sets.specs.Lists.{from}
@@ -9,9 +8,8 @@ use Rattle.cube.specs.Cube.{width}
 use Rattle.expression.specs.Words.{cubesOf}
 use Rattle.extract_laws.specs.Divisor.{pair}
 use Rattle.extract_choice.specs.Parts.{Adds, Cubes, literalsFrom}
-use Rattle.extract_choice.proofs.Judging.{adds-none, adds-more}
+use Rattle.extract_choice.proofs.{Judging.adds-none, Judging.adds-more, judge_pairs_of.Statement.statement}
 use Rattle.extract_choice.proofs.Pairs.{one-literal, pairs-low, literals-down}
-use Rattle.extract_choice.proofs.judge_pairs_of.Statement.{statement}
 use Rattle.extract_choice.proofs.judge_pairs_of.Tie as tie
 
 abbrev Inv-loop : tie.InvT-loop

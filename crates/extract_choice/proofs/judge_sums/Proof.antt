@@ -7,13 +7,11 @@ use borrow.Author.Needs.{needs}
 use lib.ListN.{getD, drop, drop-of-length-le}
 use Rattle.sets.proofs.Lists.{_∈_}
 use Rattle.expression.specs.Words.{cubesOf}
-use Rattle.network.specs.Parts.{nodesOf}
-use Rattle.network.proofs.Parts.{nodes-at}
+use Rattle.network.{specs.Parts.nodesOf, proofs.Parts.nodes-at}
 use Rattle.extract_laws.specs.Extract.{gather, sumsIn}
 use Rattle.extract_choice.specs.Parts.{Adds, Nodes}
-use Rattle.extract_choice.proofs.Judging.{adds-none, adds-more}
+use Rattle.extract_choice.proofs.{Judging.adds-none, Judging.adds-more, Sums.drop-down}
 use Rattle.extract_choice.proofs.Counting.{words-flat, flat-in, nodes-many, node-in, node-ordered}
-use Rattle.extract_choice.proofs.Sums.{drop-down}
 use Rattle.extract_choice.proofs.judge_sums.Statement.{statement}
 use Rattle.extract_choice.proofs.judge_sums.Tie as tie
 

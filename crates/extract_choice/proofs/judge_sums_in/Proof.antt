@@ -1,22 +1,18 @@
 -- `extract_choice::judge_sums_in` meets its contract. The loop's invariant: the sums of two cubes from i on are judged. Assumes nothing.
 use Prim.Native.Nat.{_-_, _≤_}
-use mathlib.Core.Path.{_≡_, _∙_}
-use mathlib.Core.List.{[]}
+use mathlib.Core.{Path._≡_, Path._∙_, List.[]}
 use native.Mathlib.Omega.{arith}
 use borrow.Author.Needs.{needs}
 use lib.ListN.{length, drop, drop-of-length-le, length-drop}
 use lib.Seq.{take-all}
 use borrow.Author.Tests.{leb-true}
-use Rattle.sets.specs.Sets.{before}
-use Rattle.sets.proofs.Lists.{pairwise-drop}
-use Rattle.sets.proofs.Places.{at-in}
+use Rattle.sets.{specs.Sets.before, proofs.Lists.pairwise-drop, proofs.Places.at-in}
 use Rattle.cube.specs.Cube.{lits}
 use Rattle.expression.specs.Words.{cubesOf}
 use Rattle.network.specs.Parts.{nodesOf}
 use Rattle.extract_laws.specs.Extract.{sumsIn}
 use Rattle.extract_choice.specs.Parts.{Adds, Nodes}
-use Rattle.extract_choice.proofs.Judging.{adds-none, adds-then}
-use Rattle.extract_choice.proofs.Sums.{alone-in, drop-down}
+use Rattle.extract_choice.proofs.{Judging.adds-none, Judging.adds-then, Sums.alone-in, Sums.drop-down}
 use Rattle.extract_choice.proofs.judge_sums_in.Statement.{statement}
 use Rattle.extract_choice.proofs.judge_sums_in.Tie as tie
 

@@ -1,20 +1,16 @@
 -- `extract_choice::judge_sums_of` meets its contract. The loop's invariant: the sums with the cubes from j on are judged. Assumes nothing.
 use Prim.Native.Nat.{_-_, _≤_}
-use mathlib.Core.Path.{_≡_}
-use mathlib.Core.List.{[]}
+use mathlib.Core.{Path._≡_, List.[]}
 use native.Mathlib.Omega.{arith}
 use borrow.Author.Needs.{needs}
 use lib.ListN.{length, drop, drop-of-length-le}
-use Rattle.sets.specs.Sets.{before}
-use Rattle.sets.proofs.Lists.{all-out, ahead}
-use Rattle.sets.proofs.Places.{at-in}
+use Rattle.sets.{specs.Sets.before, proofs.Lists.all-out, proofs.Lists.ahead, proofs.Places.at-in}
 use Rattle.cube.specs.Cube.{lits}
 use Rattle.expression.specs.Words.{cubesOf}
 use Rattle.network.specs.Parts.{nodesOf}
 use Rattle.extract_laws.specs.Extract.{gather, sumOf, sumsIn}
 use Rattle.extract_choice.specs.Parts.{Adds, Nodes}
-use Rattle.extract_choice.proofs.Judging.{adds-none, adds-more}
-use Rattle.extract_choice.proofs.Sums.{drop-down}
+use Rattle.extract_choice.proofs.{Judging.adds-none, Judging.adds-more, Sums.drop-down}
 use Rattle.extract_choice.proofs.judge_sums_of.Statement.{statement}
 use Rattle.extract_choice.proofs.judge_sums_of.Tie as tie
 

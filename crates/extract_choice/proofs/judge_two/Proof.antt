@@ -1,15 +1,11 @@
 -- `extract_choice::judge_two` meets its contract: a case for each way the tests go. Assumes nothing.
 use Prim.Native.Nat.{ℕ}
 use mathlib.Core.Path.{_≡_, sym, _∙_}
-use mathlib.Core.Logic.{inl, inr}
-use mathlib.Core.Bool.{true, false}
-use mathlib.Core.List.{List}
+use mathlib.Core.{Logic.inl, Logic.inr, Bool.true, Bool.false, List.List}
 use native.Mathlib.Omega.{arith}
 use borrow.Author.Tests.{not-true, not-false}
-use Rattle.sets.specs.Sets.{before}
-use Rattle.sets.proofs.Truth.{refuted}
-use Rattle.cube.specs.Cube.{lits}
-use Rattle.cube.proofs.Verdict.{is-before, order-told}
+use Rattle.sets.{specs.Sets.before, proofs.Truth.refuted}
+use Rattle.cube.{specs.Cube.lits, proofs.Verdict.is-before, proofs.Verdict.order-told}
 use Rattle.extract_choice.proofs.Sums.{Sides, no-left, no-right, sum-sides}
 use borrow.Author.Needs.{needs}
 use Rattle.extract_choice.proofs.judge_two.Statement.{statement}

@@ -4,9 +4,8 @@ use lib.IntN.{pos, _-ℤ_}
 use mir.Syntax.{w32}
 use mir.Val.{toZ}
 use mir.ValLaws.{toZ-pos, toZ-ofZ}
-use Rattle.extract_choice.proofs.Ties.{difference-small}
+use Rattle.extract_choice.proofs.{Ties.difference-small, step_of.Statement.statement}
 use borrow.Author.Needs.{needs}
-use Rattle.extract_choice.proofs.step_of.Statement.{statement}
 use Rattle.extract_choice.proofs.step_of.Tie as tie
 
 -- both numbers are as they read as signed

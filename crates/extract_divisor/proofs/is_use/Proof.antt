@@ -3,13 +3,11 @@ use mathlib.Core.Path.{_≡_, sym, _∙_, ap}
 use mathlib.Core.Bool.{true}
 use borrow.Author.Tests.{not-true, not-false}
 use borrow.Author.Needs.{needs}
-use Rattle.sets.specs.Lists.{isNil, isSome}
+use Rattle.sets.{specs.Lists.isNil, specs.Lists.isSome, proofs.Sets.meet-none}
 use Rattle.sets.specs.Sets.{sub, apart, union, without}
-use Rattle.sets.proofs.Sets.{meet-none}
 use Rattle.cube.specs.Cube.{lits}
-use Rattle.expression.specs.Words.{cubesOf}
+use Rattle.expression.specs.{Words.cubesOf, Answers.placeOf}
 use Rattle.expression_survey.specs.Search.{findIn}
-use Rattle.expression.specs.Answers.{placeOf}
 use Rattle.extract_divisor.specs.Divisor.{foundUse}
 use Rattle.extract_divisor.proofs.is_use.Statement.{statement}
 use Rattle.extract_divisor.proofs.is_use.Tie as tie

@@ -2,19 +2,12 @@
 use mathlib.Core.Path.{_≡_, refl, sym, ap, _∙_}
 use mathlib.Core.Bool.{true, _&&_}
 use borrow.Author.Tests.{not-true, not-false}
-use Rattle.sets.specs.Lists.{isNil}
-use Rattle.sets.specs.Sets.{apart, before}
-use Rattle.sets.proofs.Sets.{meet-none}
-use Rattle.sets.proofs.Ordering.{before-irrefl, before-asym}
-use Rattle.cube.specs.Cube.{lits}
-use Rattle.cube.proofs.Lits.{lits-asc}
-use Rattle.cube.proofs.Verdict.{Told, told-of}
+use Rattle.sets.{specs.Lists.isNil, specs.Sets.apart, specs.Sets.before, proofs.Sets.meet-none, proofs.Ordering.before-irrefl, proofs.Ordering.before-asym}
+use Rattle.cube.{specs.Cube.lits, proofs.Lits.lits-asc, proofs.Verdict.Told, proofs.Verdict.told-of}
 use Rattle.extract_laws.specs.Divisor.{sum}
-use Rattle.extract_fit.specs.Fitness.{fitting}
-use Rattle.extract_fit.specs.Parts.{fitPart}
-use Rattle.extract_fit.proofs.Fitting.{sum-fits}
+use Rattle.extract_fit.specs.{Fitness.fitting, Parts.fitPart}
+use Rattle.extract_fit.proofs.{Fitting.sum-fits, is_sum.Statement.statement}
 use borrow.Author.Needs.{needs}
-use Rattle.extract_fit.proofs.is_sum.Statement.{statement}
 use Rattle.extract_fit.proofs.is_sum.Tie as tie
 
 -- ---- the states of the walk

@@ -1,9 +1,7 @@
 -- `extract_rank::is_before` meets its contract: what the three answers of a comparison say. Assumes nothing.
 use mathlib.Core.Path.{refl, sym, ap, _∙_}
-use Rattle.sets.specs.Sets.{before}
-use Rattle.sets.proofs.Ordering.{before-irrefl, before-asym}
-use Rattle.cube.specs.Cube.{lits}
-use Rattle.cube.proofs.Verdict.{Told, told-of}
+use Rattle.sets.{specs.Sets.before, proofs.Ordering.before-irrefl, proofs.Ordering.before-asym}
+use Rattle.cube.{specs.Cube.lits, proofs.Verdict.Told, proofs.Verdict.told-of}
 use borrow.Author.Needs.{needs}
 use Rattle.extract_rank.proofs.is_before.Statement.{statement}
 use Rattle.extract_rank.proofs.is_before.Tie as tie

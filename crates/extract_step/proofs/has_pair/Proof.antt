@@ -1,6 +1,5 @@
 -- `extract_step::has_pair` meets its contract: it asks for one literal, then for the other. Assumes nothing.
-use mathlib.Core.Path.{sym, _∙_}
-use mathlib.Core.Bool.{and-true}
+use mathlib.Core.{Path.sym, Path._∙_, Bool.and-true}
 use borrow.Author.Tests.{not-true, not-false}
 use Rattle.sets.specs.Sets.{sub}
 use borrow.Author.Needs.{needs}

@@ -5,8 +5,7 @@ use native.Mathlib.Omega.{arith}
 use lib.ListN.{set}
 use Rattle.expression.specs.Answers.{capped}
 use Rattle.network.specs.Net.{nodes, cubeCount, literalCount}
-use Rattle.network.specs.Held.{mostCubes}
-use Rattle.network.specs.Handed.{LaidNodes}
+use Rattle.network.specs.{Held.mostCubes, Handed.LaidNodes}
 use Rattle.extract_tidy.proofs.Laid.{laid-places}
 use Rattle.extract_step.proofs.Answering.{after, rewritten, next-number, laid-few, laid-count, laid-literals, step-laid, step-held}
 use Rattle.extract_step.proofs.Answering.{room-rows, room-over, room-literals, room-made}

@@ -1,16 +1,14 @@
 -- `extract_step::part_of` meets its contract: a pair's two literals, or the sum's first part. Assumes nothing.
 use Prim.Native.Nat.{ℕ, _*_}
 use mathlib.Core.Path.{_≡_, _∙_, ap, subst}
-use mathlib.Core.Bool.{true}
-use mathlib.Core.List.{[], _∷_}
+use mathlib.Core.{Bool.true, List.[], List._∷_}
 use native.Mathlib.Omega.{arith}
 use borrow.Author.Tests.{lt-ltb, le-ltb, ne-eqb}
 use Rattle.sets.specs.Sets.{insert}
 use Rattle.cube.specs.Cube.{width, joined}
 use Rattle.extract_laws.specs.Divisor.{pair}
 use Rattle.extract_divisor.specs.Divisor.{divisorOf}
-use Rattle.extract_fit.specs.Fitness.{fitting}
-use Rattle.extract_fit.proofs.Fitting.{pair-below}
+use Rattle.extract_fit.{specs.Fitness.fitting, proofs.Fitting.pair-below}
 use borrow.Author.Needs.{needs}
 use Rattle.extract_step.proofs.part_of.Statement.{statement}
 use Rattle.extract_step.proofs.part_of.Tie as tie

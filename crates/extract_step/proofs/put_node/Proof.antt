@@ -1,15 +1,12 @@
 -- `extract_step::put_node` meets its contract: what the cubes become, in cube order, is the node rewritten. Assumes nothing.
-use Rattle.expression.specs.Words.{cubesOf}
+use Rattle.expression.{specs.Words.cubesOf, proofs.Placing.appends-as, proofs.Placing.appends-sort}
 use Rattle.extract_divisor.specs.Divisor.{divisorOf}
 use Rattle.extract_step.specs.Parts.{fate}
-use Rattle.extract_step.proofs.Becoming.{become-length, become-rewrite}
-use Rattle.expression.proofs.Placing.{appends-as, appends-sort}
+use Rattle.extract_step.proofs.{Becoming.become-length, Becoming.become-rewrite, put_node.Statement.statement}
 use Prim.Native.Nat.{ℕ}
-use mathlib.Core.List.{List}
-use mathlib.Core.Option.{Option}
+use mathlib.Core.{List.List, Option.Option}
 use native.Mathlib.Omega.{arith}
 use borrow.Author.Needs.{needs}
-use Rattle.extract_step.proofs.put_node.Statement.{statement}
 use Rattle.extract_step.proofs.put_node.Tie as tie
 
 -- what becomes of the cubes

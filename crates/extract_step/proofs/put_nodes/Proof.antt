@@ -5,21 +5,15 @@ use mathlib.Core.Bool.{true}
 use mathlib.Core.List.{List, [], map}
 use native.Mathlib.Omega.{arith}
 use lib.ListN.{length, take}
-use Rattle.sets.proofs.Lists.{all-out}
-use Rattle.sets.proofs.Places.{at-in}
-use Rattle.expression.specs.Words.{cubesOf}
-use Rattle.expression.specs.Expression.{ordered}
-use Rattle.network.specs.Handed.{LaidNodes}
-use Rattle.network.specs.Parts.{nodesOf}
-use Rattle.network.proofs.Laying.{laid-none}
-use Rattle.network.proofs.Parts.{nodes-length, nodes-at}
+use Rattle.sets.proofs.{Lists.all-out, Places.at-in}
+use Rattle.expression.specs.{Words.cubesOf, Expression.ordered}
+use Rattle.network.{specs.Handed.LaidNodes, specs.Parts.nodesOf, proofs.Laying.laid-none, proofs.Parts.nodes-length, proofs.Parts.nodes-at}
 use Rattle.extract_laws.specs.Divisor.{rewrite}
 use Rattle.extract_tidy.proofs.Laid.{nodes-laid, node-fits, node-laid}
 use Rattle.extract_divisor.specs.Divisor.{divisorOf}
 use Rattle.extract_step.specs.Parts.{SourceNodes}
-use Rattle.extract_step.proofs.Becoming.{rewrite-length}
+use Rattle.extract_step.proofs.{Becoming.rewrite-length, put_nodes.Statement.statement}
 use borrow.Author.Needs.{needs}
-use Rattle.extract_step.proofs.put_nodes.Statement.{statement}
 use Rattle.extract_step.proofs.put_nodes.Tie as tie
 
 abbrev Inv-loop : tie.InvT-loop

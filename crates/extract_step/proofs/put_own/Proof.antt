@@ -6,9 +6,7 @@ use native.Mathlib.Omega.{arith}
 use lib.ListN.{length}
 use Rattle.cube.specs.Cube.{lits}
 use Rattle.extract_laws.specs.Divisor.{own, part}
-use Rattle.extract_divisor.specs.Divisor.{divisorOf}
-use Rattle.extract_divisor.specs.declared.Divisor.{Divisor}
-use Rattle.extract_divisor.specs.declared.Divisor.the-variants.{Pair, Sum}
+use Rattle.extract_divisor.specs.{Divisor.divisorOf, declared.Divisor.Divisor, declared.Divisor.the-variants.Pair, declared.Divisor.the-variants.Sum}
 use Rattle.expression.proofs.Words.{cubes-few}
 use Rattle.expression.proofs.Placing.{appends-none, appends-as, appends-put}
 use borrow.Author.Needs.{needs}

@@ -1,8 +1,7 @@
 -- `extract_step::remake` meets its contract, by the two tests. Assumes nothing.
 use Prim.Native.Nat.{_*_}
 use mathlib.Core.Path.{_≡_, sym, ap, _∙_}
-use mathlib.Core.Bool.{false}
-use mathlib.Core.Option.{some}
+use mathlib.Core.{Bool.false, Option.some}
 use borrow.Author.Tests.{lt-ltb}
 use Rattle.sets.specs.Sets.{without}
 use Rattle.cube.specs.Cube.{width, lits, joined}

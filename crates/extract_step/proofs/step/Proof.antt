@@ -4,17 +4,12 @@ use mathlib.Core.Path.{_≡_, sym, ap, _∙_}
 use mathlib.Core.Bool.{true}
 use native.Mathlib.Omega.{arith}
 use borrow.Author.Tests.{not-true, not-false}
-use Rattle.network.specs.Net.{variables}
+use Rattle.network.{specs.Net.variables, specs.Held.netOf, specs.Held.mostVariables, specs.Handed.Shaped, proofs.Handing.shape-of}
 use Rattle.cube.specs.Cube.{width}
-use Rattle.network.specs.Held.{netOf, mostVariables}
-use Rattle.network.specs.Handed.{Shaped}
-use Rattle.network.proofs.Handing.{shape-of}
-use Rattle.extract_tidy.specs.Tidy.{arranged}
-use Rattle.extract_tidy.proofs.Arranged.{arranged-sized}
+use Rattle.extract_tidy.{specs.Tidy.arranged, proofs.Arranged.arranged-sized}
 use Rattle.extract_divisor.specs.Divisor.{divisorOf}
-use Rattle.extract_fit.specs.Fitness.{fitting}
+use Rattle.extract_fit.{specs.Fitness.fitting, proofs.Fitting.fitting-more}
 use Rattle.extract_step.specs.Replace.{outcomeOf}
-use Rattle.extract_fit.proofs.Fitting.{fitting-more}
 use Rattle.extract_step.proofs.Answering.{arranged-source, arranged-variables, room-full}
 use borrow.Author.Needs.{needs}
 use Rattle.extract_step.proofs.step.Statement.{statement}

@@ -1,16 +1,14 @@
 -- `extract_step::write_node` meets its contract. The loop's invariant: what the cubes passed become stands from place `at` on. Assumes nothing.
 use Prim.Native.Nat.{ℕ, _+_, _-_, _≤_}
 use mathlib.Core.Path.{_≡_, refl, sym, ap, _∙_}
-use mathlib.Core.List.{List, []}
-use mathlib.Core.Option.{Option}
+use mathlib.Core.{List.List, List.[], Option.Option}
 use native.Mathlib.Omega.{arith}
 use lib.ListN.{length, getD, take}
 use lib.Seq.{take-all}
-use Rattle.expression.specs.Words.{cubesOf, Appends}
+use Rattle.expression.{specs.Words.cubesOf, specs.Words.Appends, proofs.Words.cubes-few}
 use Rattle.extract_divisor.specs.Divisor.{divisorOf}
 use Rattle.extract_step.specs.Parts.{fate, fateOf, become}
 use Rattle.extract_step.proofs.Becoming.{become-few, become-none, become-one}
-use Rattle.expression.proofs.Words.{cubes-few}
 use Rattle.expression.proofs.Placing.{appends-none, appends-as, appends-put}
 use borrow.Author.Needs.{needs}
 use Rattle.extract_step.proofs.write_node.Statement.{statement}

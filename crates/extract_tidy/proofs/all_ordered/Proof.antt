@@ -9,8 +9,7 @@ use lib.ListN.{length, getD, drop}
 use Rattle.sets.specs.Lists.{all}
 use Rattle.sets.proofs.Places.{all-stop, all-on, all-done}
 use Rattle.expression.specs.Expression.{ordered}
-use Rattle.network.specs.Parts.{nodesOf}
-use Rattle.network.proofs.Parts.{nodes-length, nodes-at}
+use Rattle.network.{specs.Parts.nodesOf, proofs.Parts.nodes-length, proofs.Parts.nodes-at}
 use Rattle.extract_tidy.proofs.all_ordered.Statement.{statement}
 use Rattle.extract_tidy.proofs.all_ordered.Tie as tie
 

@@ -3,17 +3,12 @@
 use mathlib.Core.Path.{_≡_, refl, sym, _∙_, subst}
 use mathlib.Core.Bool.{true}
 use native.Mathlib.Omega.{arith}
-use Rattle.network.specs.Held.{netOf, rules}
-use Rattle.network.specs.Handed.{Shaped, Holds}
-use Rattle.network.specs.Parts.{Limited}
-use Rattle.network.proofs.Handing.{shape-of}
-use Rattle.network.proofs.Limits.{rules-sized}
-use Rattle.network.proofs.Ruling.{accepted-rules, refused-rules}
+use Rattle.network.{specs.Held.netOf, specs.Held.rules, specs.Handed.Shaped, specs.Handed.Holds, specs.Parts.Limited, proofs.Handing.shape-of}
+use Rattle.network.proofs.{Limits.rules-sized, Ruling.accepted-rules, Ruling.refused-rules}
 use Rattle.network.proofs.Telling.{told-gives, told-refuses}
 use Rattle.extract_laws.specs.Run.{inOrder}
-use Rattle.extract_tidy.proofs.Laid.{limited-room, laid-order}
+use Rattle.extract_tidy.proofs.{Laid.limited-room, Laid.laid-order, in_order.Statement.statement}
 use borrow.Author.Needs.{needs}
-use Rattle.extract_tidy.proofs.in_order.Statement.{statement}
 use Rattle.extract_tidy.proofs.in_order.Tie as tie
 
 -- ---- the states of the walk

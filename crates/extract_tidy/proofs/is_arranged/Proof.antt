@@ -3,13 +3,9 @@ use mathlib.Core.Path.{_≡_, sym, _∙_}
 use mathlib.Core.Bool.{true, false}
 use native.Mathlib.Omega.{arith}
 use borrow.Author.Tests.{not-true, not-false}
-use Rattle.network.specs.Held.{sized}
-use Rattle.network.specs.Parts.{Limited}
-use Rattle.network.proofs.Handing.{shape-of}
-use Rattle.network.proofs.Limits.{sized-out}
-use Rattle.extract_tidy.proofs.Arranged.{arranged-as}
+use Rattle.network.{specs.Held.sized, specs.Parts.Limited, proofs.Handing.shape-of, proofs.Limits.sized-out}
+use Rattle.extract_tidy.proofs.{Arranged.arranged-as, is_arranged.Statement.statement}
 use borrow.Author.Needs.{needs}
-use Rattle.extract_tidy.proofs.is_arranged.Statement.{statement}
 use Rattle.extract_tidy.proofs.is_arranged.Tie as tie
 
 abbrev within : tie.After-struct-known → tie.Else1

@@ -5,13 +5,8 @@ use mathlib.Core.List.{List, map}
 use native.Mathlib.Omega.{arith}
 use borrow.Author.Needs.{needs}
 use lib.ListN.{length, take}
-use Rattle.expression.specs.Words.{cubesOf}
-use Rattle.expression.specs.Expression.{sort}
-use Rattle.expression.proofs.Sorting.{sort-length}
-use Rattle.expression.proofs.Words.{cubes-few}
-use Rattle.network.specs.Handed.{LaidNodes}
-use Rattle.network.specs.Parts.{nodesOf}
-use Rattle.network.proofs.Laying.{laid-none}
+use Rattle.expression.{specs.Words.cubesOf, specs.Expression.sort, proofs.Sorting.sort-length, proofs.Words.cubes-few}
+use Rattle.network.{specs.Handed.LaidNodes, specs.Parts.nodesOf, proofs.Laying.laid-none}
 use Rattle.extract_tidy.proofs.Laid.{nodes-laid, node-fits, node-laid, sorted-copy}
 use Rattle.extract_tidy.proofs.lay_nodes.Statement.{statement}
 use Rattle.extract_tidy.proofs.lay_nodes.Tie as tie

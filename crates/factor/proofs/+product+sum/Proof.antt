@@ -8,16 +8,12 @@ use borrow.Author.Needs.{needs}
 use lib.ListN.{length}
 use Rattle.sets.specs.Lists.{isNil}
 use Rattle.cube.specs.Cube.{width}
-use Rattle.expression.specs.Words.{cubesOf}
-use Rattle.expression.specs.Expression.{literalsOf}
-use Rattle.expression.proofs.Words.{same-room}
-use Rattle.factor.specs.Form.{usedIn, mostUsed}
-use Rattle.factor.specs.Text.{sumText}
+use Rattle.expression.{specs.Words.cubesOf, specs.Expression.literalsOf, proofs.Words.same-room}
+use Rattle.factor.specs.{Form.usedIn, Form.mostUsed, Text.sumText}
 use Rattle.factor.specs.Parts.{cubesFrom, Elsewhere, writtenSum, productOf}
 use Rattle.letters.proofs.Laying.{Due, due-all, due-as, due-next, due-done, due-last}
-use Rattle.factor.proofs.Choosing.{mostUsed-inside}
+use Rattle.factor.proofs.{Choosing.mostUsed-inside, Falling.literals-fall, +product+sum.statement}
 use Rattle.factor.proofs.Parting.{part-after, part-some, slice-none, outside-none, outside-join}
-use Rattle.factor.proofs.Falling.{literals-fall}
 use Rattle.factor.proofs.Writing.{after, after-none, after-some, sum-plain, sum-parted, product-start}
 use borrow.Fn.Kinds.{In, Out}
 use borrow.Fn.PlainCycle.{Measures, is, falls, and}
@@ -33,7 +29,6 @@ use Rattle.factor.proofs.put_cubes.Reads as put-cubes-reads
 use Rattle.letters_products.proofs.put_literal.Reads as put-literal-reads
 use Rattle.factor.proofs.split.Reads as split-reads
 use Rattle.factor.proofs.uses.Reads as uses-reads
-use Rattle.factor.proofs.+product+sum.{statement}
 use Rattle.factor.proofs.+product+sum.Tie.{close}
 
 abbrev μ-product : Measures 3 product-kinds.ps ℕ

@@ -1,14 +1,12 @@
 -- `factor::factored` meets its contract: the length is found with no room, and then the text is written or refused. Assumes nothing.
 use mathlib.Core.Path.{_≡_, sym, _∙_, ap, subst}
-use mathlib.Core.List.{_++_}
-use mathlib.Core.Option.{none}
+use mathlib.Core.{List._++_, Option.none}
 use Prim.Native.Nat.{_≤_}
 use native.Mathlib.Omega.{arith}
 use borrow.Author.Needs.{needs}
 use lib.ListN.{length}
-use Rattle.expression.specs.Words.{cubesOf}
+use Rattle.expression.{specs.Words.cubesOf, proofs.Words.spare-length}
 use Rattle.expression.specs.Answers.{mostHanded, refusal, refusalOf}
-use Rattle.expression.proofs.Words.{spare-length}
 use Rattle.expression_accept.proofs.Accepting.{accepted-iff}
 use Rattle.factor.specs.Text.{textOf}
 use Rattle.letters.specs.Laid.{Laid}

@@ -8,8 +8,7 @@ use borrow.Author.Needs.{needs}
 use lib.ListN.{length, getD, set}
 use Rattle.sets.specs.Sets.{mem, without}
 use Rattle.cube.specs.Cube.{lits, joined}
-use Rattle.expression.specs.Words.{cubesOf}
-use Rattle.expression.proofs.Words.{cubes-few, same-room}
+use Rattle.expression.{specs.Words.cubesOf, proofs.Words.cubes-few, proofs.Words.same-room}
 use Rattle.factor.proofs.Parting.{Parting, parting-none, parting-yes, parting-no, back-at, joined-one}
 use Rattle.factor.proofs.gather.Statement.{statement}
 use Rattle.factor.proofs.gather.Tie as tie

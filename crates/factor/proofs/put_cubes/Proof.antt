@@ -6,15 +6,12 @@ use native.Mathlib.Omega.{arith}
 use borrow.Author.Needs.{needs}
 use lib.ListN.{length, getD}
 use Rattle.cube.specs.Cube.{lits}
-use Rattle.expression.specs.Words.{cubesOf}
-use Rattle.expression.proofs.Words.{cubes-few}
+use Rattle.expression.{specs.Words.cubesOf, proofs.Words.cubes-few}
 use Rattle.letters_products.specs.Products.{cubeText}
-use Rattle.factor.specs.Text.{sumText}
-use Rattle.factor.specs.Parts.{cubesFrom}
+use Rattle.factor.specs.{Text.sumText, Parts.cubesFrom}
 use Rattle.letters.proofs.Laying.{Due, due-all, due-as, due-next, due-done, due-last, due-trans, laid-next}
 use Rattle.factor.proofs.Texts.{marked-nil, marked-cons, plussed, sum-first, sum-none}
-use Rattle.factor.proofs.Parting.{slice-next, slice-none}
-use Rattle.factor.proofs.put_cubes.Statement.{statement}
+use Rattle.factor.proofs.{Parting.slice-next, Parting.slice-none, put_cubes.Statement.statement}
 use Rattle.factor.proofs.put_cubes.Tie as tie
 
 abbrev Inv-loop : tie.InvT-loop

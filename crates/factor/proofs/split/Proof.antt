@@ -3,10 +3,8 @@ use Prim.Native.Nat.{_≤_}
 use native.Mathlib.Omega.{arith}
 use borrow.Author.Needs.{needs}
 use lib.ListN.{length}
-use Rattle.expression.specs.Words.{cubesOf}
-use Rattle.expression.proofs.Words.{same-room}
-use Rattle.factor.proofs.Parting.{copied-back}
-use Rattle.factor.proofs.split.Statement.{statement}
+use Rattle.expression.{specs.Words.cubesOf, proofs.Words.same-room}
+use Rattle.factor.proofs.{Parting.copied-back, split.Statement.statement}
 use Rattle.factor.proofs.split.Tie as tie
 
 abbrev begun : tie.After-gather → tie.Start

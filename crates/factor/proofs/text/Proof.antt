@@ -5,14 +5,10 @@ use Prim.Native.Nat.{ℕ, _*_, _≤_}
 use native.Mathlib.Omega.{arith}
 use borrow.Author.Needs.{needs}
 use lib.ListN.{length, replicate}
-use Rattle.expression.specs.Words.{cubeWords, cubesOf}
-use Rattle.expression.specs.Answers.{mostHanded}
-use Rattle.expression.proofs.Words.{same-room, room-cubes}
-use Rattle.factor.specs.Text.{textOf}
-use Rattle.factor.specs.Parts.{cubesFrom, writtenSum}
+use Rattle.expression.{specs.Words.cubeWords, specs.Words.cubesOf, specs.Answers.mostHanded, proofs.Words.same-room, proofs.Words.room-cubes}
+use Rattle.factor.specs.{Text.textOf, Parts.cubesFrom, Parts.writtenSum}
 use Rattle.letters.proofs.Laying.{Due, due-all, due-last}
-use Rattle.factor.proofs.Answering.{sorted-front, text-sum}
-use Rattle.factor.proofs.text.Statement.{statement}
+use Rattle.factor.proofs.{Answering.sorted-front, Answering.text-sum, text.Statement.statement}
 use Rattle.factor.proofs.text.Tie as tie
 
 -- the words that there are places for

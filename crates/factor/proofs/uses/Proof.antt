@@ -7,12 +7,9 @@ use borrow.Author.Needs.{needs}
 use lib.ListN.{getD}
 use mathlib.Core.Logic.{inl, inr}
 use Rattle.sets.specs.Sets.{mem}
-use Rattle.expression.specs.Words.{cubesOf}
-use Rattle.expression.proofs.Words.{cubes-few}
-use Rattle.factor.specs.Form.{usedIn}
-use Rattle.factor.specs.Parts.{cubesFrom}
-use Rattle.factor.proofs.Choosing.{uses-yes, uses-no}
-use Rattle.factor.proofs.Parting.{slice-next, slice-none}
+use Rattle.expression.{specs.Words.cubesOf, proofs.Words.cubes-few}
+use Rattle.factor.specs.{Form.usedIn, Parts.cubesFrom}
+use Rattle.factor.proofs.{Choosing.uses-yes, Choosing.uses-no, Parting.slice-next, Parting.slice-none}
 use Rattle.factor.proofs.uses.Statement.{statement}
 use Rattle.factor.proofs.uses.Tie as tie
 

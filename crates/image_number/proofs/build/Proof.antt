@@ -6,17 +6,14 @@ use mathlib.Core.List.{List, []}
 use native.Mathlib.Omega.{arith}
 use borrow.Author.Needs.{needs}
 use lib.ListN.{length, getD, take, length-replicate}
-use Rattle.expression.specs.Words.{cubesOf}
-use Rattle.expression.proofs.Words.{room-cubes}
-use Rattle.network.specs.Net.{nodes}
+use Rattle.expression.{specs.Words.cubesOf, proofs.Words.room-cubes}
+use Rattle.network.specs.{Net.nodes, Parts.netAt}
 use Rattle.network.specs.Handed.{LaidNodes, nodeSlots, cubeSlots, wordSlots}
-use Rattle.network.specs.Parts.{netAt}
 use Rattle.network.proofs.Laying.{laid-none, laid-more, laid-all}
 use Rattle.image_laws.specs.Renumber.{renumbered}
 use Rattle.image_number.specs.Parts.{nodeBy}
-use Rattle.image_number.proofs.Taking.{node-length}
+use Rattle.image_number.proofs.{Taking.node-length, build.Statement.statement}
 use Rattle.image_number.proofs.Renumbering.{nodes-few, numbers-in, source-ready, source-in, size-at, new-many, new-room, new-holds, node-new}
-use Rattle.image_number.proofs.build.Statement.{statement}
 use Rattle.image_number.proofs.build.Tie as tie
 
 abbrev Inv-loop : tie.InvT-loop

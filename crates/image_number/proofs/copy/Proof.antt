@@ -7,9 +7,8 @@ use native.Mathlib.Omega.{arith}
 use lib.ListN.{length, take, length-map}
 use lib.Seq.{take-all}
 use Rattle.sets.proofs.Rows.{getD-map}
-use Rattle.expression.proofs.Words.{cubes-few}
+use Rattle.expression.{proofs.Words.cubes-few, specs.Words.cubesOf, specs.Words.Placed}
 use Rattle.expression.proofs.Placing.{placed-none, placed-as, copied-next}
-use Rattle.expression.specs.Words.{cubesOf, Placed}
 use Rattle.image_number.specs.Parts.{cubeBy}
 use Rattle.image_number.proofs.copy.Statement.{statement}
 use Rattle.image_number.proofs.copy.Tie as tie

@@ -6,8 +6,7 @@ use native.Mathlib.Omega.{arith}
 use borrow.Author.Needs.{needs}
 use lib.ListN.{length}
 use Rattle.sets.specs.Sets.{union}
-use Rattle.cube.proofs.Lits.{lits-asc}
-use Rattle.cube.specs.Cube.{lits, joined}
+use Rattle.cube.{proofs.Lits.lits-asc, specs.Cube.lits, specs.Cube.joined}
 use Rattle.image_number.specs.Parts.{cubeBy}
 use Rattle.image_number.proofs.Taking.{taken-none, taken-small, taken-next, by-none, by-more, by-all}
 use Rattle.image_number.proofs.new_cube.Statement.{statement}

@@ -1,7 +1,6 @@
 -- `image_number::new_literal` meets its contract. Assumes nothing.
 use borrow.Author.Needs.{needs}
-use Rattle.image_number.proofs.Taking.{literal-negated, literal-plain}
-use Rattle.image_number.proofs.new_literal.Statement.{statement}
+use Rattle.image_number.proofs.{Taking.literal-negated, Taking.literal-plain, new_literal.Statement.statement}
 use Rattle.image_number.proofs.new_literal.Tie as tie
 
 returns : tie.Need-returns

@@ -5,8 +5,7 @@ use mathlib.Core.Path.{_≡_}
 use native.Mathlib.Omega.{arith}
 use Rattle.network.specs.Held.{mostVariables}
 use Rattle.image_number.specs.Parts.{Itself}
-use Rattle.image_number.proofs.Placing.{itself-none, itself-next}
-use Rattle.image_number.proofs.own.Statement.{statement}
+use Rattle.image_number.proofs.{Placing.itself-none, Placing.itself-next, own.Statement.statement}
 use Rattle.image_number.proofs.own.Tie as tie
 
 abbrev Inv-loop : tie.InvT-loop

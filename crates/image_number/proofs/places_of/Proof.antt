@@ -6,8 +6,7 @@ use native.Mathlib.Omega.{arith}
 use lib.ListN.{getD}
 use Rattle.network.specs.Held.{mostVariables}
 use Rattle.image_number.specs.Parts.{Placing}
-use Rattle.image_number.proofs.Placing.{placing-none, placing-next}
-use Rattle.image_number.proofs.places_of.Statement.{statement}
+use Rattle.image_number.proofs.{Placing.placing-none, Placing.placing-next, places_of.Statement.statement}
 use Rattle.image_number.proofs.places_of.Tie as tie
 
 abbrev Inv-loop : tie.InvT-loop

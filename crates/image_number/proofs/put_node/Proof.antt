@@ -2,9 +2,7 @@
 use native.Mathlib.Omega.{arith}
 use borrow.Author.Needs.{needs}
 use lib.ListN.{length-map}
-use Rattle.expression.specs.Words.{cubesOf}
-use Rattle.expression.proofs.Words.{cubes-few}
-use Rattle.expression.proofs.Placing.{placed-sort}
+use Rattle.expression.{specs.Words.cubesOf, proofs.Words.cubes-few, proofs.Placing.placed-sort}
 use Rattle.image_number.specs.Parts.{cubeBy}
 use Rattle.image_number.proofs.put_node.Statement.{statement}
 use Rattle.image_number.proofs.put_node.Tie as tie

@@ -2,14 +2,10 @@
 use mathlib.Core.Path.{_≡_, sym, _∙_, subst}
 use mathlib.Core.Bool.{true}
 use borrow.Author.Needs.{needs}
-use Rattle.network.specs.Held.{netOf, rules}
-use Rattle.network.specs.Handed.{Holds}
-use Rattle.network.proofs.Ruling.{accepted-rules, refused-rules}
-use Rattle.network.proofs.Handing.{shape-of}
-use Rattle.network.proofs.Telling.{told-gives, told-refuses}
+use Rattle.network.{specs.Held.netOf, specs.Held.rules, specs.Handed.Holds, proofs.Ruling.accepted-rules, proofs.Ruling.refused-rules}
+use Rattle.network.proofs.{Handing.shape-of, Telling.told-gives, Telling.told-refuses}
 use Rattle.image_laws.specs.Renumber.{renumbered}
-use Rattle.image_number.proofs.Renumbering.{rules-order}
-use Rattle.image_number.proofs.renumber.Statement.{statement}
+use Rattle.image_number.proofs.{Renumbering.rules-order, renumber.Statement.statement}
 use Rattle.image_number.proofs.renumber.Tie as tie
 
 returns : tie.Need-returns

@@ -1,8 +1,7 @@
 -- `image_read::all_earlier` meets its contract. The loop's invariant: the test of the divisors from i on is the test of all. Assumes nothing.
 use Prim.Native.Nat.{ℕ, _+_, _-_, _≤_}
 use mathlib.Core.Path.{_≡_, sym, ap, _∙_}
-use mathlib.Core.Bool.{Bool, _&&_}
-use mathlib.Core.List.{List}
+use mathlib.Core.{Bool.Bool, Bool._&&_, List.List}
 use native.Mathlib.Omega.{arith}
 use lib.ListN.{length, drop}
 use borrow.Author.Needs.{needs}
@@ -12,8 +11,7 @@ use Rattle.network.specs.Held.{reach}
 use Rattle.network_nodes.proofs.Cutting.{cut-length}
 use Rattle.image_laws.specs.Reading.{readsEarlier}
 use Rattle.image_read.specs.Parts.{nodesIn}
-use Rattle.image_read.proofs.Testing.{earlier-next, earlier-done}
-use Rattle.image_read.proofs.all_earlier.Statement.{statement}
+use Rattle.image_read.proofs.{Testing.earlier-next, Testing.earlier-done, all_earlier.Statement.statement}
 use Rattle.image_read.proofs.all_earlier.Tie as tie
 
 abbrev Inv-loop : tie.InvT-loop

@@ -1,8 +1,7 @@
 -- `image_read::body` meets its contract. The divisors are those of the definition. Assumes nothing.
 use borrow.Author.Needs.{needs}
 use Rattle.image_fields.specs.Fields.{bitsIn}
-use Rattle.image_read.proofs.Telling.{divisors-refused}
-use Rattle.image_read.proofs.body.Statement.{statement}
+use Rattle.image_read.proofs.{Telling.divisors-refused, body.Statement.statement}
 use Rattle.image_read.proofs.body.Tie as tie
 
 rest-requires : tie.Need-rest-requires

@@ -1,16 +1,13 @@
 -- `image_read::front` meets its contract. Each field is the field of the definition. Assumes nothing.
-use mathlib.Core.Bool.{Bool}
-use mathlib.Core.List.{List}
+use mathlib.Core.{Bool.Bool, List.List}
 use native.Mathlib.Omega.{arith}
 use lib.ListN.{drop}
 use borrow.Author.Needs.{needs}
 use Rattle.image_fields.specs.Fields.{bitsIn}
 use Rattle.image_laws.specs.Widths.{editionField, edition1}
-use Rattle.image_read.specs.Parts.{FieldIs}
-use Rattle.image_read.specs.declared.fields.Field.the-variants.{Value}
+use Rattle.image_read.specs.{Parts.FieldIs, declared.fields.Field.the-variants.Value}
 use Rattle.image_read.proofs.Heading.{inputsAt, outputsAt, divisorsAt, field-below, field-is, field-short, edition-cut, edition-bad, front-cut}
-use Rattle.image_read.proofs.Heading.{sizes-are}
-use Rattle.image_read.proofs.front.Statement.{statement}
+use Rattle.image_read.proofs.{Heading.sizes-are, front.Statement.statement}
 use Rattle.image_read.proofs.front.Tie as tie
 
 abbrev start : tie.After-value-at → tie.Start

@@ -12,8 +12,7 @@ use Rattle.sets.specs.Lists.{all}
 use Rattle.image_fields.specs.Fields.{valueOf, bitsIn}
 use Rattle.image_fields.proofs.Bytes.{left-length, bits-in-length}
 use Rattle.image_laws.specs.Reading.{padding}
-use Rattle.image_read.proofs.Bits.{value-zero}
-use Rattle.image_read.proofs.is_padded.Statement.{statement}
+use Rattle.image_read.proofs.{Bits.value-zero, is_padded.Statement.statement}
 use Rattle.image_read.proofs.is_padded.Tie as tie
 
 returns : tie.Need-returns

@@ -1,7 +1,6 @@
 -- `image_read::read` meets its contract. The fields before the nodes, and then the nodes. Assumes nothing.
 use borrow.Author.Needs.{needs}
-use Rattle.image_read.proofs.Telling.{read-refused, read-on}
-use Rattle.image_read.proofs.read.Statement.{statement}
+use Rattle.image_read.proofs.{Telling.read-refused, Telling.read-on, read.Statement.statement}
 use Rattle.image_read.proofs.read.Tie as tie
 
 body-requires : tie.Need-body-requires

@@ -1,8 +1,7 @@
 -- `image_read::rest` meets its contract. The outputs are those of the definition. Assumes nothing.
 use mathlib.Core.Path.{refl}
 use borrow.Author.Needs.{needs}
-use Rattle.image_read.proofs.Telling.{outputs-refused}
-use Rattle.image_read.proofs.rest.Statement.{statement}
+use Rattle.image_read.proofs.{Telling.outputs-refused, rest.Statement.statement}
 use Rattle.image_read.proofs.rest.Tie as tie
 
 abbrev start : tie.After-nodes → tie.Start

@@ -1,13 +1,10 @@
 -- `image_write::node_bits` meets its contract: a node of few cubes has few literals. Assumes nothing.
 use Prim.Native.Nat.{ℕ}
-use mathlib.Core.Path.{_≡_, _∙_}
-use mathlib.Core.List.{List}
+use mathlib.Core.{Path._≡_, Path._∙_, List.List}
 use native.Mathlib.Omega.{arith}
 use borrow.Author.Needs.{needs}
 use borrow.Author.Tests.{lt-ltb}
-use Rattle.expression.specs.Words.{cubesOf}
-use Rattle.expression.specs.Expression.{literalsOf}
-use Rattle.expression.proofs.Words.{literals-most}
+use Rattle.expression.{specs.Words.cubesOf, specs.Expression.literalsOf, proofs.Words.literals-most}
 use Rattle.image_laws.proofs.Fielding.{node-bits-length}
 use Rattle.image_write.proofs.node_bits.Statement.{statement}
 use Rattle.image_write.proofs.node_bits.Tie as tie

@@ -1,7 +1,6 @@
 -- `image_write::put_all` meets its contract: the head, the divisors and the outputs, one after the other. Assumes nothing.
 use Prim.Native.Nat.{ℕ, _+_}
-use mathlib.Core.Bool.{Bool}
-use mathlib.Core.List.{List, _++_}
+use mathlib.Core.{Bool.Bool, List.List, List._++_}
 use native.Mathlib.Omega.{arith}
 use borrow.Author.Needs.{needs}
 use Rattle.image_fields.specs.Fields.{fieldBits}

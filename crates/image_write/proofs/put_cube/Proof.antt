@@ -1,6 +1,5 @@
 -- `image_write::put_cube` meets its contract. The loop's invariant: the fields of the literals left are due. Assumes nothing.
-use mathlib.Core.Path.{_≡_, ap}
-use mathlib.Core.Bool.{Bool}
+use mathlib.Core.{Path._≡_, Path.ap, Bool.Bool}
 use mathlib.Core.List.{List, _∷_, _++_}
 use Prim.Native.Nat.{ℕ}
 use native.Mathlib.Omega.{arith}
@@ -8,8 +7,7 @@ use borrow.Author.Needs.{needs}
 use lib.ListN.{length}
 use Rattle.cube.specs.Cube.{lits}
 use Rattle.image_fields.specs.Fields.{fieldBits}
-use Rattle.image_laws.specs.Image.{cubeFields}
-use Rattle.image_laws.proofs.Fielding.{literalsBits, literalBits}
+use Rattle.image_laws.{specs.Image.cubeFields, proofs.Fielding.literalsBits, proofs.Fielding.literalBits}
 use Rattle.image_number.proofs.Taking.{taken-none, taken-some, taken-next}
 use Rattle.image_write.proofs.Laying.{Going, going-all, going-as, going-next, going-ready, going-done}
 use Rattle.image_write.proofs.Following.{spread, cube-bits, literals-next, literals-none}

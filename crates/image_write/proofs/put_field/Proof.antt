@@ -7,9 +7,8 @@ use native.Mathlib.Omega.{arith}
 use borrow.Author.Needs.{needs}
 use Rattle.sets.proofs.Digits.{bit-test}
 use Rattle.image_fields.specs.Fields.{bitsOf}
-use Rattle.image_write.proofs.Following.{field-next, field-none}
+use Rattle.image_write.proofs.{Following.field-next, Following.field-none, put_field.Statement.statement}
 use Rattle.image_write.proofs.Laying.{Going, going-all, going-as, going-next, going-ready, going-done}
-use Rattle.image_write.proofs.put_field.Statement.{statement}
 use Rattle.image_write.proofs.put_field.Tie as tie
 
 abbrev Inv-loop : tie.InvT-loop

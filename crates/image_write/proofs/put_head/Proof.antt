@@ -1,16 +1,13 @@
 -- `image_write::put_head` meets its contract: four fields, one after the other. Assumes nothing.
 use Prim.Native.Nat.{ℕ}
-use mathlib.Core.Bool.{Bool}
-use mathlib.Core.List.{List, _++_}
+use mathlib.Core.{Bool.Bool, List.List, List._++_}
 use native.Mathlib.Omega.{arith}
 use borrow.Author.Needs.{needs}
 use Rattle.image_fields.specs.Fields.{bitsOf, fieldBits}
-use Rattle.image_laws.specs.Widths.{editionField, edition1}
-use Rattle.image_laws.specs.Image.{headFields}
+use Rattle.image_laws.specs.{Widths.editionField, Widths.edition1, Image.headFields}
 use Rattle.image_laws.proofs.Fielding.{inputsBits, outputsBits, divisorsBits}
 use Rattle.image_write.proofs.Laying.{Going, going-all, going-as, going-next, going-ready}
-use Rattle.image_write.proofs.Following.{head-bits}
-use Rattle.image_write.proofs.put_head.Statement.{statement}
+use Rattle.image_write.proofs.{Following.head-bits, put_head.Statement.statement}
 use Rattle.image_write.proofs.put_head.Tie as tie
 
 -- what is due of the head

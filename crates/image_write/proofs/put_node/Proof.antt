@@ -1,14 +1,12 @@
 -- `image_write::put_node` meets its contract. The loop's invariant: the fields of the cubes from i on are due. Assumes nothing.
-use mathlib.Core.Bool.{Bool}
-use mathlib.Core.List.{List, _++_}
+use mathlib.Core.{Bool.Bool, List.List, List._++_}
 use Prim.Native.Nat.{ℕ, _+_, _-_, _≤_}
 use native.Mathlib.Omega.{arith}
 use borrow.Author.Needs.{needs}
 use Rattle.cube.specs.Cube.{lits}
 use Rattle.expression.specs.Words.{cubesOf}
 use Rattle.image_fields.specs.Fields.{fieldBits}
-use Rattle.image_laws.specs.Image.{cubeFields, nodeFields}
-use Rattle.image_laws.proofs.Fielding.{cubesBits}
+use Rattle.image_laws.{specs.Image.cubeFields, specs.Image.nodeFields, proofs.Fielding.cubesBits}
 use Rattle.image_write.proofs.Laying.{Going, going-all, going-as, going-next, going-ready, going-done}
 use Rattle.image_write.proofs.Following.{spreadFrom, node-bits, cubes-next, cubes-none}
 use Rattle.image_write.proofs.put_node.Statement.{statement}

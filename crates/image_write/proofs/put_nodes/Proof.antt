@@ -8,8 +8,7 @@ use Rattle.image_fields.specs.Fields.{fieldBits}
 use Rattle.image_laws.specs.Image.{nodeFields}
 use Rattle.image_write.specs.Parts.{bitsFrom}
 use Rattle.image_write.proofs.Laying.{Going, going-all, going-as, going-next, going-ready, going-done}
-use Rattle.image_write.proofs.Following.{nodes-next, nodes-none}
-use Rattle.image_write.proofs.put_nodes.Statement.{statement}
+use Rattle.image_write.proofs.{Following.nodes-next, Following.nodes-none, put_nodes.Statement.statement}
 use Rattle.image_write.proofs.put_nodes.Tie as tie
 
 abbrev Inv-loop : tie.InvT-loop

@@ -1,8 +1,7 @@
 -- `image_write::write` meets its contract: the network is renumbered, its bits counted, and laid where there is room. Assumes nothing.
 use native.Mathlib.Omega.{arith}
 use borrow.Author.Needs.{needs}
-use Rattle.network.proofs.Handing.{shape-of}
-use Rattle.network.proofs.Telling.{told-accepted, told-refused}
+use Rattle.network.proofs.{Handing.shape-of, Telling.told-accepted, Telling.told-refused}
 use Rattle.image_write.proofs.Telling.{Renewed, there, told-rule, told-over, ready, told-written}
 use Rattle.image_write.proofs.write.Statement.{statement}
 use Rattle.image_write.proofs.write.Tie as tie

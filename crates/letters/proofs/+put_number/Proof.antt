@@ -7,12 +7,11 @@ use borrow.Fn.Kinds.{In, Out}
 use borrow.Fn.PlainCycle.{Measures, is, falls, and}
 use Rattle.letters.specs.Letters.{decimal}
 use Rattle.letters.proofs.Laying.{Due, due-all, due-next, due-last}
-use Rattle.letters.proofs.Numbers.{decimal-one, decimal-more}
+use Rattle.letters.proofs.{Numbers.decimal-one, Numbers.decimal-more, +put_number.statement}
 use Rattle.letters.proofs.put_number.Reads as reads
 use Rattle.letters.proofs.put_number.Kinds as kinds
 use Rattle.letters.proofs.+put_number.Lts-put_number as lts
 use Rattle.letters.proofs.put.Reads as put-reads
-use Rattle.letters.proofs.+put_number.{statement}
 use Rattle.letters.proofs.+put_number.Tie.{close}
 
 abbrev μ : Measures 1 kinds.ps ℕ

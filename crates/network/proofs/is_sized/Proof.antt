@@ -5,10 +5,9 @@ use native.Mathlib.Omega.{arith}
 use borrow.Author.Tests.{not-true, not-false}
 use lib.Dec.{leb}
 use Rattle.network.specs.Held.{upTo, mostCubes, mostInputs, mostOutputs}
-use Rattle.network.proofs.Holding.{up-out}
+use Rattle.network.proofs.{Holding.up-out, is_sized.Statement.statement}
 use Rattle.network.proofs.Limits.{sized-inputs, sized-outputs, sized-variables, sized-cubes}
 use borrow.Author.Needs.{needs}
-use Rattle.network.proofs.is_sized.Statement.{statement}
 use Rattle.network.proofs.is_sized.Tie as tie
 
 -- the numbers of inputs and outputs are within their limits

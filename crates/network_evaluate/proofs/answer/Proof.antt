@@ -1,11 +1,9 @@
 -- `network_evaluate::answer` meets its contract: the divisors settle along the listing, and the outputs are read. Assumes nothing.
 use mathlib.Core.Path.{_∙_}
 use native.Mathlib.Omega.{arith}
-use Rattle.network.specs.Parts.{heldIn, InLimits}
-use Rattle.network.proofs.Limits.{rules-sized}
+use Rattle.network.{specs.Parts.heldIn, specs.Parts.InLimits, proofs.Limits.rules-sized}
 use Rattle.network_listing.proofs.Answering.{ordered-listing}
-use Rattle.network_evaluate.proofs.Answering.{answer-is}
-use Rattle.network_evaluate.proofs.answer.Statement.{statement}
+use Rattle.network_evaluate.proofs.{Answering.answer-is, answer.Statement.statement}
 use Rattle.network_evaluate.proofs.answer.Tie as tie
 
 limited : (s : tie.Start) → InLimits (s .args .n) (s .args .m) (s .args .k) (s .args .words .now) (s .args .counts .now)

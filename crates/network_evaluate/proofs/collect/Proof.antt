@@ -1,16 +1,13 @@
 -- `network_evaluate::collect` meets its contract. The loop's invariant: the number has the bits of the outputs from j on. Assumes nothing.
 use Prim.Native.Nat.{ℕ, _≤_, _<_, _-_, _^_}
 use mathlib.Core.Path.{_≡_, sym, _∙_, ap, subst}
-use mathlib.Core.Bool.{true, false}
-use mathlib.Core.List.{List, []}
+use mathlib.Core.{Bool.true, Bool.false, List.List, List.[]}
 use native.Mathlib.Omega.{arith}
 use borrow.Author.Needs.{needs}
 use lib.ListN.{length, getD}
 use Rattle.cube.specs.Cube.{lits}
-use Rattle.network.specs.Parts.{nodesOf}
+use Rattle.network.{specs.Parts.nodesOf, proofs.Parts.nodes-length, proofs.Parts.nodes-at, specs.Held.mostOutputs}
 use Rattle.network_known.specs.Known.{someWithin}
-use Rattle.network.proofs.Parts.{nodes-length, nodes-at}
-use Rattle.network.specs.Held.{mostOutputs}
 use Rattle.network_evaluate.proofs.Settling.{Collected, collected-none, collected-small, collected-more, collected-all}
 use Rattle.network_evaluate.proofs.collect.Statement.{statement}
 use Rattle.network_evaluate.proofs.collect.Tie as tie

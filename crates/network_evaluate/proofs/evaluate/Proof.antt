@@ -2,8 +2,7 @@
 use mathlib.Core.Path.{_≡_, sym, _∙_}
 use mathlib.Core.Bool.{true}
 use borrow.Author.Needs.{needs}
-use Rattle.network.specs.Held.{rules}
-use Rattle.network.proofs.Ruling.{accepted-rules, refused-rules}
+use Rattle.network.{specs.Held.rules, proofs.Ruling.accepted-rules, proofs.Ruling.refused-rules}
 use Rattle.network_evaluate.proofs.Answering.{evaluated-no, evaluated-is}
 use Rattle.network_evaluate.proofs.evaluate.Statement.{statement}
 use Rattle.network_evaluate.proofs.evaluate.Tie as tie

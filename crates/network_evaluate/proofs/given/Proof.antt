@@ -4,8 +4,7 @@ use mathlib.Core.Path.{_∙_, ap, subst}
 use Prim.Native.Nat.{_≤_, _-_}
 use native.Mathlib.Omega.{arith}
 use borrow.Author.Needs.{needs}
-use Rattle.sets.specs.Masks.{bit}
-use Rattle.sets.proofs.Digits.{bit-test}
+use Rattle.sets.{specs.Masks.bit, proofs.Digits.bit-test}
 use Rattle.cube.specs.Cube.{lits, joined}
 use Rattle.network_known.specs.Known.{Truths, signed}
 use Rattle.network_known.proofs.Knowing.{joined-signed, truths-none, truths-input}

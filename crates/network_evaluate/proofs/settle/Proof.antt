@@ -9,12 +9,9 @@ use lib.Seq.{getD-take, length-take-le}
 use Rattle.cube.specs.Cube.{lits}
 use Rattle.expression.specs.Words.{cubesOf}
 use Rattle.network_nodes.specs.Nodes.{cut}
-use Rattle.network.specs.Parts.{netAt}
-use Rattle.network.specs.Held.{placeAt}
+use Rattle.network.{specs.Parts.netAt, specs.Held.placeAt, proofs.Parts.place-at}
 use Rattle.network_evaluate.specs.Parts.{settledIn}
-use Rattle.network.proofs.Parts.{place-at}
-use Rattle.network_evaluate.proofs.Settling.{settled-on, settled-done}
-use Rattle.network_evaluate.proofs.settle.Statement.{statement}
+use Rattle.network_evaluate.proofs.{Settling.settled-on, Settling.settled-done, settle.Statement.statement}
 use Rattle.network_evaluate.proofs.settle.Tie as tie
 
 abbrev Inv-loop : tie.InvT-loop

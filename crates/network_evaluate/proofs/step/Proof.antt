@@ -3,8 +3,7 @@ use mathlib.Core.Path.{_∙_, ap}
 use borrow.Author.Needs.{needs}
 use Rattle.sets.specs.Sets.{insert}
 use Rattle.cube.specs.Cube.{lits}
-use Rattle.network_known.specs.Known.{signed, someWithin}
-use Rattle.network_known.proofs.Knowing.{joined-signed}
+use Rattle.network_known.{specs.Known.signed, specs.Known.someWithin, proofs.Knowing.joined-signed}
 use Rattle.network_evaluate.proofs.step.Statement.{statement}
 use Rattle.network_evaluate.proofs.step.Tie as tie
 

@@ -7,8 +7,7 @@ use lib.Dec.{leb}
 use Rattle.sets.specs.Lists.{keep}
 use Rattle.cube.specs.Cube.{lits}
 use Rattle.network_hangs.specs.Parts.{Makes}
-use Rattle.network_hangs.proofs.Marking.{above-first, above-next}
-use Rattle.network_hangs.proofs.above.Statement.{statement}
+use Rattle.network_hangs.proofs.{Marking.above-first, Marking.above-next, above.Statement.statement}
 use Rattle.network_hangs.proofs.above.Tie as tie
 
 abbrev Inv-loop : tie.InvT-loop

@@ -7,12 +7,10 @@ use lib.ListN.{getD}
 use Rattle.expression.specs.Words.{cubesOf}
 use Rattle.network_nodes.specs.Nodes.{cut}
 use Rattle.network.specs.Held.{placeAt}
-use Rattle.sets.specs.Literal.{plainOf}
-use Rattle.sets.specs.Sets.{mem}
+use Rattle.sets.specs.{Literal.plainOf, Sets.mem}
 use Rattle.cube.specs.Cube.{lits}
 use Rattle.network_reads.specs.Reading.{readsOf, Marks}
-use Rattle.network_hangs.proofs.Marking.{asked-yes, asked-no}
-use Rattle.network_hangs.proofs.asked.Statement.{statement}
+use Rattle.network_hangs.proofs.{Marking.asked-yes, Marking.asked-no, asked.Statement.statement}
 use Rattle.network_hangs.proofs.asked.Tie as tie
 
 -- whether the set has the divisor

@@ -1,8 +1,7 @@
 -- `network_hangs::found` meets its contract: what the node reads, what is reached from it, and of that the divisors. Assumes nothing.
 use native.Mathlib.Omega.{arith}
 use borrow.Author.Needs.{needs}
-use Rattle.network_hangs.proofs.Finding.{found-marks}
-use Rattle.network_hangs.proofs.found.Statement.{statement}
+use Rattle.network_hangs.proofs.{Finding.found-marks, found.Statement.statement}
 use Rattle.network_hangs.proofs.found.Tie as tie
 
 abbrev start : tie.After-node → tie.Start

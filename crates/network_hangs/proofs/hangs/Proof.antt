@@ -3,12 +3,8 @@ use mathlib.Core.Path.{_≡_, sym, _∙_}
 use mathlib.Core.Bool.{true}
 use native.Mathlib.Omega.{arith}
 use borrow.Author.Needs.{needs}
-use Rattle.network.specs.Held.{rules}
-use Rattle.network.specs.Parts.{Limited}
-use Rattle.network.proofs.Limits.{rules-sized}
-use Rattle.network.proofs.Ruling.{accepted-rules, refused-rules}
-use Rattle.network.specs.Handed.{Shaped}
-use Rattle.network.proofs.Handing.{shape-of}
+use Rattle.network.{specs.Held.rules, specs.Parts.Limited, proofs.Limits.rules-sized, proofs.Ruling.accepted-rules, proofs.Ruling.refused-rules}
+use Rattle.network.{specs.Handed.Shaped, proofs.Handing.shape-of}
 use Rattle.network_hangs.proofs.Finding.{hangs-refused, hangs-past, hangs-found}
 use Rattle.network_hangs.proofs.hangs.Statement.{statement}
 use Rattle.network_hangs.proofs.hangs.Tie as tie

@@ -4,11 +4,9 @@ use mathlib.Core.Path.{subst}
 use native.Mathlib.Omega.{arith}
 use Rattle.cube.specs.Cube.{lits}
 use Rattle.network.specs.Parts.{netAt}
-use Rattle.network_hangs.specs.Hangs.{reached}
-use Rattle.network_hangs.specs.Parts.{Makes}
-use Rattle.network_hangs.proofs.Reading.{makes-first, makes-more}
+use Rattle.network_hangs.specs.{Hangs.reached, Parts.Makes}
+use Rattle.network_hangs.proofs.{Reading.makes-first, Reading.makes-more, often.Statement.statement}
 use borrow.Author.Needs.{needs}
-use Rattle.network_hangs.proofs.often.Statement.{statement}
 use Rattle.network_hangs.proofs.often.Tie as tie
 
 abbrev Inv-loop : tie.InvT-loop

@@ -6,19 +6,15 @@ use mathlib.Core.List.{List, []}
 use native.Mathlib.Omega.{arith}
 use borrow.Author.Needs.{needs}
 use lib.ListN.{drop, getD}
-use Rattle.sets.specs.Lists.{any}
-use Rattle.sets.specs.Sets.{mem, union}
+use Rattle.sets.specs.{Lists.any, Sets.mem, Sets.union}
 use Rattle.cube.specs.Cube.{lits}
 use Rattle.expression.specs.Words.{cubesOf}
 use Rattle.network_nodes.specs.Nodes.{cut}
 use Rattle.network.specs.Held.{netOf, numberAt, placeAt}
-use Rattle.network.specs.Parts.{heldIn, netAt}
-use Rattle.network.proofs.Parts.{divisors-next, divisors-done}
-use Rattle.network.proofs.Holding.{held-distinct}
+use Rattle.network.{specs.Parts.heldIn, specs.Parts.netAt, proofs.Parts.divisors-next, proofs.Parts.divisors-done, proofs.Holding.held-distinct}
 use Rattle.network_reads.specs.Reading.{Marks}
 use Rattle.network_reads.proofs.Marking.{Gathers, gather-more, gather-done}
-use Rattle.network_hangs.specs.Hangs.{readBy}
-use Rattle.network_hangs.specs.Parts.{readIf}
+use Rattle.network_hangs.specs.{Hangs.readBy, Parts.readIf}
 use Rattle.network_hangs.proofs.Reading.{asks, asks-first, asks-next}
 use Rattle.network_hangs.proofs.once.Statement.{statement}
 use Rattle.network_hangs.proofs.once.Tie as tie

@@ -2,8 +2,7 @@
 use mathlib.Core.Path.{_∙_, ap}
 use borrow.Author.Needs.{needs}
 use Rattle.cube.specs.Cube.{lits, joined}
-use Rattle.network_known.proofs.Knowing.{joined-past}
-use Rattle.network_known.proofs.valued.Statement.{statement}
+use Rattle.network_known.proofs.{Knowing.joined-past, valued.Statement.statement}
 use Rattle.network_known.proofs.valued.Tie as tie
 
 returns : tie.Need-returns

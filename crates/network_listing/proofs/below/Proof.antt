@@ -1,12 +1,10 @@
 -- `network_listing::below` meets its contract. The loop's invariant: the cube has both literals of each variable passed. Assumes nothing.
-use mathlib.Core.List.{[]}
-use mathlib.Core.Path.{subst}
+use mathlib.Core.{List.[], Path.subst}
 use Prim.Native.Nat.{_≤_, _-_}
 use native.Mathlib.Omega.{arith}
 use borrow.Author.Needs.{needs}
 use Rattle.cube.specs.Cube.{lits}
-use Rattle.network_known.specs.Known.{BothWays}
-use Rattle.network_known.proofs.Knowing.{spans-none, spans-input}
+use Rattle.network_known.{specs.Known.BothWays, proofs.Knowing.spans-none, proofs.Knowing.spans-input}
 use Rattle.network_listing.proofs.below.Statement.{statement}
 use Rattle.network_listing.proofs.below.Tie as tie
 use Rattle.network.specs.Held.{mostVariables}

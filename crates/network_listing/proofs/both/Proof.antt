@@ -1,10 +1,8 @@
 -- `network_listing::both` meets its contract: the variable is one of those of a cube. Assumes nothing.
-use mathlib.Core.Path.{_∙_, ap}
-use mathlib.Core.Bool.{true, false}
+use mathlib.Core.{Path._∙_, Path.ap, Bool.true, Bool.false}
 use borrow.Author.Needs.{needs}
 use Rattle.sets.specs.Sets.{insert}
-use Rattle.network_known.specs.Known.{signed}
-use Rattle.network_known.proofs.Knowing.{joined-signed}
+use Rattle.network_known.{specs.Known.signed, proofs.Knowing.joined-signed}
 use Rattle.network_listing.proofs.both.Statement.{statement}
 use Rattle.network_listing.proofs.both.Tie as tie
 

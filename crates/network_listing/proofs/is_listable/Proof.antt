@@ -4,10 +4,7 @@ use mathlib.Core.Bool.{true}
 use native.Mathlib.Omega.{arith}
 use borrow.Author.Needs.{needs}
 use borrow.Author.Tests.{not-true, not-false}
-use Rattle.network.specs.Held.{sized}
-use Rattle.network.specs.Parts.{Limited}
-use Rattle.network.proofs.Handing.{shape-of}
-use Rattle.network.proofs.Limits.{sized-out}
+use Rattle.network.{specs.Held.sized, specs.Parts.Limited, proofs.Handing.shape-of, proofs.Limits.sized-out}
 use Rattle.network_listing.proofs.Answering.{listable-no, listable-as}
 use Rattle.network_listing.proofs.is_listable.Statement.{statement}
 use Rattle.network_listing.proofs.is_listable.Tie as tie

@@ -4,8 +4,7 @@ use Prim.Native.Nat.{ℕ, _<_, _%_}
 use mathlib.Core.Bool.{Bool, true, false, not, _&&_}
 use mathlib.Core.List.{List}
 use native.Mathlib.Omega.{arith}
-use Rattle.sets.specs.Sets.{mem}
-use Rattle.sets.specs.Literal.{plainOf}
+use Rattle.sets.specs.{Sets.mem, Literal.plainOf}
 use borrow.Author.Needs.{needs}
 use Rattle.network_listing.proofs.is_next.Statement.{statement}
 use Rattle.network_listing.proofs.is_next.Tie as tie

@@ -7,14 +7,9 @@ use borrow.Author.Needs.{needs}
 use lib.ListN.{take}
 use Rattle.cube.specs.Cube.{lits}
 use Rattle.expression.specs.Answers.{placeOf}
-use Rattle.network.specs.Net.{Net}
-use Rattle.network.specs.Listing.{nextReady}
-use Rattle.network.specs.Parts.{netAt, heldIn}
+use Rattle.network.specs.{Net.Net, Listing.nextReady, Parts.netAt, Parts.heldIn, declared.Network.Network}
 use Rattle.network_listing.specs.Parts.{nextIn}
-use Rattle.network.specs.declared.Network.{Network}
-use Rattle.network.proofs.Parts.{divisor-range}
-use Rattle.network.proofs.Listings.{next-some}
-use Rattle.network.proofs.Holding.{held-distinct, divisors-held}
+use Rattle.network.proofs.{Parts.divisor-range, Listings.next-some, Holding.held-distinct, Holding.divisors-held}
 use Rattle.network.specs.Held.{mostVariables}
 use Rattle.network_listing.proofs.Turns.{Turn, turn-first, turn-more, turn-none, turn-last, next-ready}
 use Rattle.network_listing.proofs.list.Statement.{statement}

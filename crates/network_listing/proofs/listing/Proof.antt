@@ -3,9 +3,7 @@ use mathlib.Core.Path.{_≡_, sym, _∙_}
 use mathlib.Core.Bool.{true, false}
 use borrow.Author.Needs.{needs}
 use borrow.Author.Tests.{not-true, not-false}
-use Rattle.network.specs.Answers.{listable}
-use Rattle.network.proofs.Handing.{shape-of}
-use Rattle.network.proofs.Limits.{sized-out}
+use Rattle.network.{specs.Answers.listable, proofs.Handing.shape-of, proofs.Limits.sized-out}
 use Rattle.network_listing.proofs.Answering.{listed-as, listable-sized}
 use Rattle.network_listing.proofs.listing.Statement.{statement}
 use Rattle.network_listing.proofs.listing.Tie as tie

@@ -1,22 +1,17 @@
 -- `network_listing::next` meets its contract. The loop's invariant: the next number is among the divisors from i on. Assumes nothing.
 use Prim.Native.Nat.{_≤_, _-_}
 use mathlib.Core.Path.{_≡_, refl, sym, _∙_, ap, ap₂}
-use mathlib.Core.Bool.{not, _&&_}
-use mathlib.Core.List.{[]}
-use mathlib.Core.Option.{some}
+use mathlib.Core.{Bool.not, Bool._&&_, List.[], Option.some}
 use native.Mathlib.Omega.{arith}
 use borrow.Author.Needs.{needs}
 use lib.ListN.{drop, getD}
-use Rattle.sets.specs.Literal.{plainOf}
-use Rattle.sets.specs.Sets.{mem}
+use Rattle.sets.specs.{Literal.plainOf, Sets.mem}
 use Rattle.cube.specs.Cube.{lits}
 use Rattle.expression.specs.Words.{cubesOf}
 use Rattle.network_nodes.specs.Nodes.{cut}
-use Rattle.network.specs.Held.{numberAt, placeAt}
-use Rattle.network.specs.Parts.{netAt}
+use Rattle.network.{specs.Held.numberAt, specs.Held.placeAt, specs.Parts.netAt, proofs.Parts.divisors-next, proofs.Parts.divisors-done}
 use Rattle.network_known.specs.Known.{everyWithin}
 use Rattle.network_listing.specs.Parts.{nextIn}
-use Rattle.network.proofs.Parts.{divisors-next, divisors-done}
 use Rattle.network_listing.proofs.Turns.{next-found, next-on, next-done}
 use Rattle.network_listing.proofs.next.Statement.{statement}
 use Rattle.network_listing.proofs.next.Tie as tie

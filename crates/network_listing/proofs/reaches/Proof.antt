@@ -6,10 +6,8 @@ use lib.ListN.{take}
 use borrow.Author.Needs.{needs}
 use Rattle.sets.specs.Lists.{all}
 use Rattle.expression.specs.Words.{cubesOf}
-use Rattle.network.specs.Held.{reach}
-use Rattle.network.proofs.Holding.{cut-all}
-use Rattle.network_listing.proofs.Reaching.{within-reach}
-use Rattle.network_listing.proofs.reaches.Statement.{statement}
+use Rattle.network.{specs.Held.reach, proofs.Holding.cut-all}
+use Rattle.network_listing.proofs.{Reaching.within-reach, reaches.Statement.statement}
 use Rattle.network_listing.proofs.reaches.Tie as tie
 
 returns : tie.Need-returns

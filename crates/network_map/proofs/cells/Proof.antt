@@ -1,18 +1,13 @@
 -- `network_map::cells` meets its contract. The loop's invariant: the rows passed are as they are to be. Assumes nothing.
 use Prim.Native.Nat.{ℕ, _+_, _-_, _*_, _<_, _≤_}
-use mathlib.Core.Path.{_≡_, _∙_}
-use mathlib.Core.Bool.{Bool, false}
-use mathlib.Core.List.{List}
+use mathlib.Core.{Path._≡_, Path._∙_, Bool.Bool, Bool.false, List.List}
 use native.Mathlib.Omega.{arith}
 use lib.ListN.{length, getD}
 use Rattle.sets.specs.Sets.{mem}
 use Rattle.sets.proofs.Truth.{Stand, below, equal, beyond, compared}
-use Rattle.network.specs.Held.{mostOutputs, mostVariables}
-use Rattle.network.specs.declared.Network.{Network}
-use Rattle.network_reads.specs.Reading.{Marks}
-use Rattle.network_reads.proofs.Marking.{marks-plain}
-use Rattle.network_map.specs.Cells.{rowOf}
-use Rattle.network_map.specs.Parts.{RowSet}
+use Rattle.network.specs.{Held.mostOutputs, Held.mostVariables, declared.Network.Network}
+use Rattle.network_reads.{specs.Reading.Marks, proofs.Marking.marks-plain}
+use Rattle.network_map.specs.{Cells.rowOf, Parts.RowSet}
 use borrow.Author.Needs.{needs}
 use Rattle.network_map.proofs.cells.Statement.{statement}
 use Rattle.network_map.proofs.cells.Tie as tie

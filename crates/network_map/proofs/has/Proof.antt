@@ -2,8 +2,7 @@
 use mathlib.Core.Path.{_≡_, _∙_, ap}
 use native.Mathlib.Omega.{arith}
 use borrow.Author.Needs.{needs}
-use Rattle.sets.specs.Literal.{plainOf}
-use Rattle.sets.specs.Sets.{mem}
+use Rattle.sets.specs.{Literal.plainOf, Sets.mem}
 use Rattle.cube.specs.Cube.{lits}
 use Rattle.network_map.proofs.has.Statement.{statement}
 use Rattle.network_map.proofs.has.Tie as tie

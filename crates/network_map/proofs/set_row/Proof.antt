@@ -1,14 +1,12 @@
 -- `network_map::set_row` meets its contract. The loop's invariant: the cells passed are as the set says, the rows before as they were. Assumes nothing.
 use Prim.Native.Nat.{ℕ, _+_, _-_, _*_, _<_, _≤_}
 use mathlib.Core.Path.{_≡_, refl, _∙_}
-use mathlib.Core.Bool.{Bool, false}
-use mathlib.Core.List.{List}
+use mathlib.Core.{Bool.Bool, Bool.false, List.List}
 use native.Mathlib.Omega.{arith}
 use lib.ListN as list
 use lib.ListN.{length, getD}
 use lib.Seq.{getD-set-same, getD-set-other}
-use Rattle.sets.specs.Literal.{plainOf}
-use Rattle.sets.specs.Sets.{mem}
+use Rattle.sets.specs.{Literal.plainOf, Sets.mem}
 use Rattle.sets.proofs.Truth.{Stand, below, equal, beyond, compared}
 use Rattle.cube.specs.Cube.{lits}
 use Rattle.network.specs.Held.{mostOutputs, mostVariables}

@@ -1,7 +1,6 @@
 -- `network_nodes::front` meets its contract: the cubes up to a start. Assumes nothing.
 use borrow.Author.Needs.{needs}
-use Rattle.network_nodes.proofs.Starting.{front-is}
-use Rattle.network_nodes.proofs.front.Statement.{statement}
+use Rattle.network_nodes.proofs.{Starting.front-is, front.Statement.statement}
 use Rattle.network_nodes.proofs.front.Tie as tie
 
 returns : tie.Need-returns

@@ -4,8 +4,7 @@ use mathlib.Core.Path.{_∙_, ap}
 use native.Mathlib.Omega.{arith}
 use borrow.Author.Needs.{needs}
 use lib.ListN.{length}
-use Rattle.network_nodes.proofs.Starting.{node-is, node-past}
-use Rattle.network_nodes.proofs.node.Statement.{statement}
+use Rattle.network_nodes.proofs.{Starting.node-is, Starting.node-past, node.Statement.statement}
 use Rattle.network_nodes.proofs.node.Tie as tie
 
 returns : tie.Need-returns

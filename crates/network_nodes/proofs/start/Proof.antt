@@ -3,8 +3,7 @@ use Prim.Native.Nat.{min}
 use mathlib.Core.Path.{_∙_, ap}
 use native.Mathlib.Omega.{arith}
 use borrow.Author.Needs.{needs}
-use Rattle.network_nodes.proofs.Starting.{start-all}
-use Rattle.network_nodes.proofs.start.Statement.{statement}
+use Rattle.network_nodes.proofs.{Starting.start-all, start.Statement.statement}
 use Rattle.network_nodes.proofs.start.Tie as tie
 
 returns : tie.Need-returns

@@ -4,10 +4,8 @@ use mathlib.Core.Path.{_≡_, ap}
 use native.Mathlib.Omega.{arith}
 use borrow.Author.Needs.{needs}
 use lib.ListN.{take}
-use Rattle.sets.specs.Lists.{total}
-use Rattle.sets.proofs.Lists.{total-take-le}
-use Rattle.network_nodes.proofs.Starting.{start-next}
-use Rattle.network_nodes.proofs.summed.Statement.{statement}
+use Rattle.sets.{specs.Lists.total, proofs.Lists.total-take-le}
+use Rattle.network_nodes.proofs.{Starting.start-next, summed.Statement.statement}
 use Rattle.network_nodes.proofs.summed.Tie as tie
 
 abbrev Inv-loop : tie.InvT-loop

@@ -1,6 +1,5 @@
 -- `network_reads::reads` meets its contract. The loop's invariant: the cube, with what the cubes from i on read, is what all cubes read. Assumes nothing.
-use mathlib.Core.Path.{refl, subst}
-use mathlib.Core.List.{[]}
+use mathlib.Core.{Path.refl, Path.subst, List.[]}
 use Prim.Native.Nat.{_≤_, _-_}
 use native.Mathlib.Omega.{arith}
 use borrow.Author.Needs.{needs}
@@ -10,8 +9,7 @@ use Rattle.cube.specs.Cube.{lits}
 use Rattle.expression.specs.Words.{cubesOf}
 use Rattle.network_reads.specs.Reading.{variablesOf, readsOf, Marks}
 use Rattle.network_reads.proofs.Marking.{Gathers, gather-first, gather-more, gather-done}
-use Rattle.network_reads.proofs.Reading.{reads-next, reads-done}
-use Rattle.network_reads.proofs.reads.Statement.{statement}
+use Rattle.network_reads.proofs.{Reading.reads-next, Reading.reads-done, reads.Statement.statement}
 use Rattle.network_reads.proofs.reads.Tie as tie
 
 abbrev Inv-loop : tie.InvT-loop

@@ -2,12 +2,9 @@
 use mathlib.Core.Path.{_≡_, sym, _∙_, ap}
 use native.Mathlib.Omega.{arith}
 use borrow.Author.Needs.{needs}
-use Rattle.sets.specs.Literal.{plainOf, negatedOf}
-use Rattle.sets.specs.Sets.{mem}
-use Rattle.sets.proofs.Truth.{or-left, or-right}
+use Rattle.sets.{specs.Literal.plainOf, specs.Literal.negatedOf, specs.Sets.mem, proofs.Truth.or-left, proofs.Truth.or-right}
 use Rattle.cube.specs.Cube.{lits, joined}
-use Rattle.network_reads.proofs.Marking.{marks-single}
-use Rattle.network_reads.proofs.Reading.{variable-yes, variable-no}
+use Rattle.network_reads.proofs.{Marking.marks-single, Reading.variable-yes, Reading.variable-no}
 use Rattle.network_reads.proofs.variable.Statement.{statement}
 use Rattle.network_reads.proofs.variable.Tie as tie
 

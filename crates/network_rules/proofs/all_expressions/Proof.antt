@@ -9,8 +9,7 @@ use lib.ListN.{length, drop, getD}
 use Rattle.sets.specs.Lists.{all}
 use Rattle.expression.specs.Expression.{expression}
 use Rattle.sets.proofs.Places.{all-stop, all-on, all-done}
-use Rattle.network.specs.Parts.{nodesOf}
-use Rattle.network.proofs.Parts.{nodes-length, nodes-at}
+use Rattle.network.{specs.Parts.nodesOf, proofs.Parts.nodes-length, proofs.Parts.nodes-at}
 use Rattle.network_rules.proofs.all_expressions.Statement.{statement}
 use Rattle.network_rules.proofs.all_expressions.Tie as tie
 

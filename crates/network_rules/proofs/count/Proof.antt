@@ -2,9 +2,7 @@
 use mathlib.Core.Path.{sym, _∙_, ap}
 use lib.ListN.{length, take}
 use borrow.Author.Needs.{needs}
-use Rattle.expression.specs.Words.{cubesOf}
-use Rattle.expression.specs.Expression.{literalsOf}
-use Rattle.expression.specs.Answers.{capped}
+use Rattle.expression.specs.{Words.cubesOf, Expression.literalsOf, Answers.capped}
 use Rattle.network_nodes.proofs.Cutting.{cut-total}
 use Rattle.network_rules.proofs.count.Statement.{statement}
 use Rattle.network_rules.proofs.count.Tie as tie

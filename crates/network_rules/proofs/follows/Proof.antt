@@ -4,14 +4,9 @@ use mathlib.Core.Bool.{true}
 use native.Mathlib.Omega.{arith}
 use borrow.Author.Needs.{needs}
 use borrow.Author.Tests.{not-true, not-false}
-use Rattle.network.specs.Answers.{listable}
-use Rattle.network.specs.Handed.{Shaped}
-use Rattle.network.specs.Parts.{Limited}
-use Rattle.network.proofs.Handing.{shape-of}
-use Rattle.network.proofs.Limits.{sized-out}
+use Rattle.network.{specs.Answers.listable, specs.Handed.Shaped, specs.Parts.Limited, proofs.Handing.shape-of, proofs.Limits.sized-out}
 use Rattle.network_listing.proofs.Answering.{listable-sized}
-use Rattle.network_rules.proofs.Ruling.{rules-no, rules-as}
-use Rattle.network_rules.proofs.follows.Statement.{statement}
+use Rattle.network_rules.proofs.{Ruling.rules-no, Ruling.rules-as, follows.Statement.statement}
 use Rattle.network_rules.proofs.follows.Tie as tie
 
 allowed : (c : tie.Else1) → listable (c .before .before .args .n) ≡ true

@@ -2,8 +2,7 @@
 use mathlib.Core.Path.{ap}
 use borrow.Author.Needs.{needs}
 use lib.Dec.{eqb}
-use Rattle.network.specs.Answers.{listedOf}
-use Rattle.network.specs.declared.Listed.{Listed}
+use Rattle.network.specs.{Answers.listedOf, declared.Listed.Listed}
 use Rattle.network_rules.proofs.is_acyclic.Statement.{statement}
 use Rattle.network_rules.proofs.is_acyclic.Tie as tie
 

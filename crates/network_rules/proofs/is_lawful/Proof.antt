@@ -5,10 +5,8 @@ use borrow.Author.Tests.{not-true, not-false}
 use lib.Dec.{leb}
 use Rattle.sets.specs.Lists.{total}
 use Rattle.expression.specs.Expression.{literalsOf}
-use Rattle.network.specs.Held.{mostLiterals}
-use Rattle.network.specs.Parts.{nodesOf}
-use Rattle.network_rules.proofs.Ruling.{leb-capped}
-use Rattle.network_rules.proofs.is_lawful.Statement.{statement}
+use Rattle.network.specs.{Held.mostLiterals, Parts.nodesOf}
+use Rattle.network_rules.proofs.{Ruling.leb-capped, is_lawful.Statement.statement}
 use Rattle.network_rules.proofs.is_lawful.Tie as tie
 
 returns : tie.Need-returns

@@ -3,13 +3,9 @@ use mathlib.Core.Path.{_≡_, sym, _∙_}
 use mathlib.Core.Bool.{true}
 use native.Mathlib.Omega.{arith}
 use borrow.Author.Tests.{not-true, not-false}
-use Rattle.network.specs.Held.{rules}
-use Rattle.network.specs.Parts.{Limited}
-use Rattle.network.proofs.Handing.{shape-of}
-use Rattle.network.proofs.Limits.{rules-sized}
-use Rattle.network_rules.proofs.Ruling.{counted-no, counted-is}
+use Rattle.network.{specs.Held.rules, specs.Parts.Limited, proofs.Handing.shape-of, proofs.Limits.rules-sized}
+use Rattle.network_rules.proofs.{Ruling.counted-no, Ruling.counted-is, literals.Statement.statement}
 use borrow.Author.Needs.{needs}
-use Rattle.network_rules.proofs.literals.Statement.{statement}
 use Rattle.network_rules.proofs.literals.Tie as tie
 
 kept : (c : tie.Else1) → rules (c .before .before .args .n) ≡ true

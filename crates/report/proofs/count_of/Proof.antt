@@ -1,7 +1,6 @@
 -- `report::count_of` meets its contract: a network that follows the rules is counted. Assumes nothing.
 use borrow.Author.Needs.{needs}
-use Rattle.report.proofs.Exploring.{counted-told, never-uncounted}
-use Rattle.report.proofs.count_of.Statement.{statement}
+use Rattle.report.proofs.{Exploring.counted-told, Exploring.never-uncounted, count_of.Statement.statement}
 use Rattle.report.proofs.count_of.Tie as tie
 
 returns : tie.Need-returns

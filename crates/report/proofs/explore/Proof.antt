@@ -1,11 +1,9 @@
 -- `report::explore` meets its contract: a network that follows the rules is run and counted, and so is what the run leaves. Assumes nothing.
 use borrow.Author.Needs.{needs}
-use Rattle.network.specs.Handed.{Shaped}
-use Rattle.network.proofs.Handing.{shape-of}
+use Rattle.network.{specs.Handed.Shaped, proofs.Handing.shape-of}
 use Rattle.extract_laws.specs.Run.{askedSteps}
 use Rattle.extract.proofs.Telling.{ran-rules}
-use Rattle.report.proofs.Exploring.{never-refused, explored-run}
-use Rattle.report.proofs.explore.Statement.{statement}
+use Rattle.report.proofs.{Exploring.never-refused, Exploring.explored-run, explore.Statement.statement}
 use Rattle.report.proofs.explore.Tie as tie
 
 shape : (s : tie.Start) → Shaped (s .args .n)

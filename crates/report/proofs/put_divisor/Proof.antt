@@ -5,8 +5,7 @@ use borrow.Author.Needs.{needs}
 use Rattle.letters.proofs.Laying.{due-all, due-next, due-last}
 use Rattle.extract_divisor.specs.Divisor.{divisorOf}
 use Rattle.report.specs.Report.{divisorText}
-use Rattle.report.proofs.Lines.{pair-start, sum-start}
-use Rattle.report.proofs.put_divisor.Statement.{statement}
+use Rattle.report.proofs.{Lines.pair-start, Lines.sum-start, put_divisor.Statement.statement}
 use Rattle.report.proofs.put_divisor.Tie as tie
 
 -- a pair

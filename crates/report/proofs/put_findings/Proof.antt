@@ -2,8 +2,7 @@
 use mathlib.Core.Path.{sym}
 use borrow.Author.Needs.{needs}
 use Rattle.letters.proofs.Laying.{laid-as}
-use Rattle.report.proofs.Lines.{found-read, found-refused}
-use Rattle.report.proofs.put_findings.Statement.{statement}
+use Rattle.report.proofs.{Lines.found-read, Lines.found-refused, put_findings.Statement.statement}
 use Rattle.report.proofs.put_findings.Tie as tie
 
 returns : tie.Need-returns

@@ -2,8 +2,7 @@
 use native.Mathlib.Omega.{arith}
 use borrow.Author.Needs.{needs}
 use Rattle.letters.proofs.Laying.{due-all, due-next, due-last}
-use Rattle.report.proofs.Lines.{refusal-start}
-use Rattle.report.proofs.put_refusal.Statement.{statement}
+use Rattle.report.proofs.{Lines.refusal-start, put_refusal.Statement.statement}
 use Rattle.report.proofs.put_refusal.Tie as tie
 
 returns : tie.Need-returns

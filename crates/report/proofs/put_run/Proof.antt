@@ -2,8 +2,7 @@
 use native.Mathlib.Omega.{arith}
 use borrow.Author.Needs.{needs}
 use Rattle.letters.proofs.Laying.{due-all, due-next, due-last}
-use Rattle.report.proofs.Lines.{found-start}
-use Rattle.report.proofs.put_run.Statement.{statement}
+use Rattle.report.proofs.{Lines.found-start, put_run.Statement.statement}
 use Rattle.report.proofs.put_run.Tie as tie
 
 -- the states of the walk: after `start` and its count, the line's end, the steps, `end` and its count

@@ -2,8 +2,7 @@
 use native.Mathlib.Omega.{arith}
 use borrow.Author.Needs.{needs}
 use Rattle.letters.proofs.Laying.{due-all, due-next, due-last}
-use Rattle.report.proofs.Lines.{step-start}
-use Rattle.report.proofs.put_step.Statement.{statement}
+use Rattle.report.proofs.{Lines.step-start, put_step.Statement.statement}
 use Rattle.report.proofs.put_step.Tie as tie
 
 -- the states of the walk: after the name, ` = `, the divisor, its weight and the count

@@ -10,8 +10,7 @@ use lib.Seq.{length-take-le}
 use Rattle.letters.proofs.Laying.{Due, due-all, due-as, due-next, due-done}
 use Rattle.extract_laws.specs.Run.{Made}
 use Rattle.extract.specs.Answers.{madeOf, noMade, places}
-use Rattle.report.specs.Report.{stepLines, stepLine}
-use Rattle.report.specs.Parts.{Sized, EachSized}
+use Rattle.report.specs.{Report.stepLines, Report.stepLine, Parts.Sized, Parts.EachSized}
 use Rattle.report.proofs.Lines.{lines-none, lines-first, made-next}
 use Rattle.report.proofs.Counting.{sized-read, sized-above, each-first}
 use Rattle.report.proofs.put_steps.Statement.{statement}

@@ -2,8 +2,7 @@
 use mathlib.Core.Path.{_≡_, sym, ap}
 use borrow.Author.Needs.{needs}
 use Rattle.letters.proofs.Laying.{laid-as}
-use Rattle.extract.specs.Answers.{stopOf}
-use Rattle.extract.specs.declared.Stop.{Stop}
+use Rattle.extract.specs.{Answers.stopOf, declared.Stop.Stop}
 use Rattle.report.specs.Report.{stopText}
 use Rattle.report.proofs.put_stop.Statement.{statement}
 use Rattle.report.proofs.put_stop.Tie as tie

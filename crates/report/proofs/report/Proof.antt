@@ -5,9 +5,8 @@ use Prim.Native.Nat.{_≤_}
 use native.Mathlib.Omega.{arith}
 use borrow.Author.Needs.{needs}
 use lib.ListN.{length}
-use Rattle.letters.specs.Laid.{Laid}
+use Rattle.letters.{specs.Laid.Laid, proofs.Telling.told-long, proofs.Telling.told-whole}
 use Rattle.letters.proofs.Laying.{laid-as, laid-whole, laid-nowhere, laid-long, laid-short}
-use Rattle.letters.proofs.Telling.{told-long, told-whole}
 use Rattle.report.specs.Report.{reportOf}
 use Rattle.report.proofs.report.Statement.{statement}
 use Rattle.report.proofs.report.Tie as tie

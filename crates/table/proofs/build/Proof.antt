@@ -1,7 +1,6 @@
 -- `table::build` meets its contract. The loop's invariant: the outputs passed are laid one after the other. Assumes nothing.
-use mathlib.Core.List.{map}
+use mathlib.Core.{List.map, Path._≡_}
 use Prim.Native.Nat.{ℕ, _-_, _≤_}
-use mathlib.Core.Path.{_≡_}
 use native.Mathlib.Omega.{arith}
 use lib.ListN.{length, length-replicate}
 use Rattle.sets.specs.Lists.{from}

@@ -4,8 +4,7 @@ use mathlib.Core.Logic.{inl, inr}
 use Prim.Native.Nat.{ℕ, _-_, _≤_}
 use native.Mathlib.Omega.{arith}
 use lib.ListN.{length}
-use Rattle.expression.specs.Words.{Appends}
-use Rattle.expression.proofs.Words.{spare-length}
+use Rattle.expression.{specs.Words.Appends, proofs.Words.spare-length}
 use Rattle.table.specs.Parts.{pick}
 use Rattle.table.proofs.Picking.{pick-none, pick-skip, pick-put, pick-room}
 use borrow.Author.Needs.{needs}

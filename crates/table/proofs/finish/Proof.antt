@@ -1,12 +1,9 @@
 -- `table::finish` meets its contract: `.i` and `.o` are there, and `.p` agrees. Assumes nothing.
 use Prim.Native.Nat.{ℕ}
-use mathlib.Core.Path.{_≡_, _∙_}
-use mathlib.Core.Bool.{false}
-use mathlib.Core.List.{List}
+use mathlib.Core.{Path._≡_, Path._∙_, Bool.false, List.List}
 use borrow.Author.Tests.{eq-eqb, ne-eqb}
 use Rattle.table.specs.Table.{State, missing, finish}
-use Rattle.table.specs.Meaning.{Bounded}
-use Rattle.table.specs.Parts.{Stands}
+use Rattle.table.specs.{Meaning.Bounded, Parts.Stands}
 use Rattle.table.proofs.Standing.{wide-stored, tall-stored, agrees-unstated, agrees-not, agrees-so}
 use borrow.Author.Needs.{needs}
 use Rattle.table.proofs.finish.Statement.{statement}

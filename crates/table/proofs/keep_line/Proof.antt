@@ -1,8 +1,7 @@
 -- `table::keep_line` meets its contract: the cube and the mask are put after those kept. Assumes nothing.
 use native.Mathlib.Omega.{arith}
-use Rattle.table.proofs.Adding.{stands-plain, stands-kept}
+use Rattle.table.proofs.{Adding.stands-plain, Adding.stands-kept, keep_line.Statement.statement}
 use borrow.Author.Needs.{needs}
-use Rattle.table.proofs.keep_line.Statement.{statement}
 use Rattle.table.proofs.keep_line.Tie as tie
 
 returns : tie.Need-returns

@@ -1,16 +1,11 @@
 -- `table::number_line` meets its contract: test by test. Assumes nothing.
 use borrow.Author.Tests.{le-leb, lt-leb, eq-eqb, ne-eqb}
 use Prim.Native.Nat.{ℕ}
-use mathlib.Core.Path.{_≡_}
-use mathlib.Core.Bool.{true, and-false}
-use mathlib.Core.List.{List}
-use mathlib.Core.Option.{Option}
+use mathlib.Core.{Path._≡_, Bool.true, Bool.and-false, List.List, Option.Option}
 use lib.Dec.{eqb}
 use Rattle.table.specs.Table as table
-use Rattle.table.specs.Table.{missing, inTime}
-use Rattle.table.specs.Parts.{Stands}
-use Rattle.table.proofs.Standing.{lines-none}
-use Rattle.table.proofs.number_line.Statement.{statement}
+use Rattle.table.specs.{Table.missing, Table.inTime, Parts.Stands}
+use Rattle.table.proofs.{Standing.lines-none, number_line.Statement.statement}
 use Rattle.table.proofs.number_line.Tie as tie
 
 returns : tie.Need-returns

@@ -4,11 +4,9 @@ use Rattle.expression.proofs.Words.{room-cubes}
 use Rattle.network.specs.Handed.{Holds}
 use Rattle.table.specs.Table.{mostRows, State, accepted, readText}
 use Rattle.table.specs.Parts.{Stands}
-use Rattle.table.proofs.Refusals.{text-long, accepted-complete}
-use Rattle.table.proofs.Marking.{kept-buildable, net-same}
-use Rattle.table.proofs.Scanning.{text-read, text-refused}
+use Rattle.table.proofs.{Refusals.text-long, Refusals.accepted-complete, Marking.kept-buildable, Marking.net-same}
+use Rattle.table.proofs.{Scanning.text-read, Scanning.text-refused, read.Statement.statement}
 use borrow.Author.Needs.{needs}
-use Rattle.table.proofs.read.Statement.{statement}
 use Rattle.table.proofs.read.Tie as tie
 
 returns : tie.Need-returns

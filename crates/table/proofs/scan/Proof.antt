@@ -6,20 +6,13 @@ use native.Mathlib.Omega.{arith}
 use lib.ListN.{length}
 use denote.Enum.Declared.{tagOf}
 use Rattle.expression.proofs.Words.{same-room}
-use Rattle.table_lines.specs.Text.{linesOf}
-use Rattle.table_lines.proofs.Lining.{line-ends}
+use Rattle.table_lines.{specs.Text.linesOf, proofs.Lining.line-ends}
 use Rattle.table.specs.Table as table
-use Rattle.table.specs.Table.{readLines}
-use Rattle.table.specs.Parts.{Scans}
-use Rattle.table.specs.declared.State.{State}
-use Rattle.table.specs.declared.Scanned.{Scanned}
-use Rattle.table.specs.declared.Turn.{Turn}
-use Rattle.table.specs.declared.Turn.the-variants.{Next}
-use Rattle.table.proofs.Turn.{the-type}
-use Rattle.table.proofs.Scanning.{Remains, left-there}
+use Rattle.table.specs.{Table.readLines, Parts.Scans, declared.State.State, declared.Scanned.Scanned}
+use Rattle.table.specs.declared.{Turn.Turn, Turn.the-variants.Next}
+use Rattle.table.proofs.{Turn.the-type, Scanning.Remains, Scanning.left-there, scan.Statement.statement}
 use Rattle.table.proofs.Scanning.{Reading, reading-first, reading-roomy, reading-over, reading-next, reading-stop}
 use borrow.Author.Needs.{needs}
-use Rattle.table.proofs.scan.Statement.{statement}
 use Rattle.table.proofs.scan.Tie as tie
 
 abbrev Inv-loop : tie.InvT-loop

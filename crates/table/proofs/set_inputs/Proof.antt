@@ -1,9 +1,8 @@
 -- `table::set_inputs` meets its contract. Assumes nothing.
 use mathlib.Core.Path.{refl}
 use Rattle.table.specs.Table.{withWide, setWide}
-use Rattle.table.proofs.Standing.{wide-stored}
+use Rattle.table.proofs.{Standing.wide-stored, set_inputs.Statement.statement}
 use borrow.Author.Needs.{needs}
-use Rattle.table.proofs.set_inputs.Statement.{statement}
 use Rattle.table.proofs.set_inputs.Tie as tie
 
 returns : tie.Need-returns

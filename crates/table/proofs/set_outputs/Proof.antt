@@ -1,9 +1,8 @@
 -- `table::set_outputs` meets its contract. Assumes nothing.
 use mathlib.Core.Path.{refl}
 use Rattle.table.specs.Table.{withTall, setTall}
-use Rattle.table.proofs.Standing.{tall-stored}
+use Rattle.table.proofs.{Standing.tall-stored, set_outputs.Statement.statement}
 use borrow.Author.Needs.{needs}
-use Rattle.table.proofs.set_outputs.Statement.{statement}
 use Rattle.table.proofs.set_outputs.Tie as tie
 
 returns : tie.Need-returns

@@ -2,9 +2,8 @@
 use mathlib.Core.Path.{refl}
 use lib.Dec.{leb·zero}
 use Rattle.table.specs.Table.{withStated, setStated}
-use Rattle.table.proofs.Standing.{stated-missing}
+use Rattle.table.proofs.{Standing.stated-missing, set_stated.Statement.statement}
 use borrow.Author.Needs.{needs}
-use Rattle.table.proofs.set_stated.Statement.{statement}
 use Rattle.table.proofs.set_stated.Tie as tie
 
 returns : tie.Need-returns

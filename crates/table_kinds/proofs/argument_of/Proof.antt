@@ -2,9 +2,8 @@
 use mathlib.Core.Path.{sym, _∙_, ap}
 use lib.ListN.{length}
 use Rattle.table_kinds.specs.Kinds.{numberOf}
-use Rattle.table_kinds.proofs.Reading.{argument-solid, argument-read}
+use Rattle.table_kinds.proofs.{Reading.argument-solid, Reading.argument-read, argument_of.Statement.statement}
 use borrow.Author.Needs.{needs}
-use Rattle.table_kinds.proofs.argument_of.Statement.{statement}
 use Rattle.table_kinds.proofs.argument_of.Tie as tie
 
 returns : tie.Need-returns

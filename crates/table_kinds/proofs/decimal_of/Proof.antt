@@ -1,7 +1,6 @@
 -- `table_kinds::decimal_of` meets its contract. The loop's invariant: i digits wrote n, and what is left decides. Assumes nothing.
 use mathlib.Core.Path.{_≡_, refl, sym, _∙_, ap}
-use mathlib.Core.Logic.{inl, inr}
-use mathlib.Core.Option.{some}
+use mathlib.Core.{Logic.inl, Logic.inr, Option.some}
 use Prim.Native.Nat.{_-_, _^_, _<_, _≤_}
 use native.Mathlib.Omega.{arith}
 use borrow.Author.Tests.{ltb-true, ltb-false}
@@ -10,9 +9,8 @@ use Rattle.sets.specs.Lists.{all}
 use Rattle.sets.proofs.Places.{all-stop, all-on, all-done}
 use Rattle.letters.specs.Meaning.{readBack, isDigit}
 use Rattle.table_kinds.proofs.Reading.{value-short, value-long, value-stray, value-read, read-on, read-done, digit-low, digit-high, digit-in}
-use Rattle.table_kinds.proofs.Reading.{digits-lt, digits-few}
+use Rattle.table_kinds.proofs.{Reading.digits-lt, Reading.digits-few, decimal_of.Statement.statement}
 use borrow.Author.Needs.{needs}
-use Rattle.table_kinds.proofs.decimal_of.Statement.{statement}
 use Rattle.table_kinds.proofs.decimal_of.Tie as tie
 
 abbrev Inv-loop : tie.InvT-loop

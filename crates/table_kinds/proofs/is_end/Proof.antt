@@ -1,8 +1,7 @@
 -- `table_kinds::is_end` meets its contract: the two names in turn. Assumes nothing.
 use mathlib.Core.Path.{sym, _∙_}
-use Rattle.table_kinds.proofs.Reading.{ends-short, ends-long}
+use Rattle.table_kinds.proofs.{Reading.ends-short, Reading.ends-long, is_end.Statement.statement}
 use borrow.Author.Needs.{needs}
-use Rattle.table_kinds.proofs.is_end.Statement.{statement}
 use Rattle.table_kinds.proofs.is_end.Tie as tie
 
 returns : tie.Need-returns

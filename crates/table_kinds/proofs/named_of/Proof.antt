@@ -2,8 +2,7 @@
 use mathlib.Core.Path.{_∙_, ap}
 use lib.ListN.{getD}
 use Rattle.table_lines.proofs.Ends.{rest-whole}
-use Rattle.table_kinds.specs.Kinds.{argument}
-use Rattle.table_kinds.specs.Parts.{lettered}
+use Rattle.table_kinds.specs.{Kinds.argument, Parts.lettered}
 use Rattle.table_kinds.proofs.Reading.{named-short, named-plain, named-dotted}
 use borrow.Author.Needs.{needs}
 use Rattle.table_kinds.proofs.named_of.Statement.{statement}

@@ -2,9 +2,8 @@
 use mathlib.Core.Path.{ap}
 use native.Mathlib.Omega.{arith}
 use lib.ListN.{length}
-use Rattle.table_lines.proofs.Ends.{front-le}
+use Rattle.table_lines.proofs.{Ends.front-le, content_of.Statement.statement}
 use borrow.Author.Needs.{needs}
-use Rattle.table_lines.proofs.content_of.Statement.{statement}
 use Rattle.table_lines.proofs.content_of.Tie as tie
 
 returns : tie.Need-returns

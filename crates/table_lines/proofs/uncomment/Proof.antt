@@ -2,9 +2,8 @@
 use mathlib.Core.Path.{sym}
 use native.Mathlib.Omega.{arith}
 use lib.Seq.{length-take-le}
-use Rattle.table_lines.proofs.Ends.{upto-le, uncommented-take}
+use Rattle.table_lines.proofs.{Ends.upto-le, Ends.uncommented-take, uncomment.Statement.statement}
 use borrow.Author.Needs.{needs}
-use Rattle.table_lines.proofs.uncomment.Statement.{statement}
 use Rattle.table_lines.proofs.uncomment.Tie as tie
 
 slice-aggregate-result : tie.Need-slice-aggregate-result

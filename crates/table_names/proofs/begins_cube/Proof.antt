@@ -5,9 +5,8 @@ use lib.ListN.{getD}
 use borrow.Author.Tests.{eq-eqb, ne-eqb}
 use Rattle.table_rows.specs.Lines.{isPlace}
 use Rattle.table_names.specs.Names.{startsPlace, beginsCube}
-use Rattle.table_names.proofs.Naming.{place-none, place-first}
+use Rattle.table_names.proofs.{Naming.place-none, Naming.place-first, begins_cube.Statement.statement}
 use borrow.Author.Needs.{needs}
-use Rattle.table_names.proofs.begins_cube.Statement.{statement}
 use Rattle.table_names.proofs.begins_cube.Tie as tie
 
 -- what is said of the first byte is said of the line

@@ -1,8 +1,7 @@
 -- `table_names::name_after` meets its contract. Assumes nothing.
 use mathlib.Core.Path.{_∙_}
-use Rattle.table_names.proofs.Naming.{name-there, name-missing}
+use Rattle.table_names.proofs.{Naming.name-there, Naming.name-missing, name_after.Statement.statement}
 use borrow.Author.Needs.{needs}
-use Rattle.table_names.proofs.name_after.Statement.{statement}
 use Rattle.table_names.proofs.name_after.Tie as tie
 
 returns : tie.Need-returns

@@ -5,10 +5,8 @@ use mathlib.Core.Bool.{true}
 use lib.ListN.{length, take}
 use borrow.Author.Tests.{not-true, not-false}
 use Rattle.sets.specs.Lists.{all}
-use Rattle.table_lines.specs.Text.{trimFront}
-use Rattle.table_lines.proofs.Ends.{rest-whole}
-use Rattle.table_rows.specs.Lines.{mostPlaces, isPlace}
-use Rattle.table_rows.specs.Parts.{roomy, markedLine}
+use Rattle.table_lines.{specs.Text.trimFront, proofs.Ends.rest-whole}
+use Rattle.table_rows.specs.{Lines.mostPlaces, Lines.isPlace, Parts.roomy, Parts.markedLine}
 use Rattle.table_rows.proofs.Cubing.{all-places, roomy-bounds, parsing-parts}
 use borrow.Author.Needs.{needs}
 use Rattle.table_rows.proofs.cube_line.Statement.{statement}

@@ -4,11 +4,9 @@ use Prim.Native.Nat.{_-_, _≤_}
 use native.Mathlib.Omega.{arith}
 use lib.ListN.{length, take, getD}
 use Rattle.cube.specs.Cube.{lits}
-use Rattle.table_rows.specs.Lines.{mostPlaces, cubeFrom}
-use Rattle.table_rows.specs.Parts.{placed}
-use Rattle.table_rows.proofs.Cubing.{from-next}
+use Rattle.table_rows.specs.{Lines.mostPlaces, Lines.cubeFrom, Parts.placed}
+use Rattle.table_rows.proofs.{Cubing.from-next, cube_of.Statement.statement}
 use borrow.Author.Needs.{needs}
-use Rattle.table_rows.proofs.cube_of.Statement.{statement}
 use Rattle.table_rows.proofs.cube_of.Tie as tie
 
 abbrev Inv-loop : tie.InvT-loop

@@ -4,9 +4,8 @@ use native.Mathlib.Omega.{arith}
 use borrow.Author.Tests.{not-true, not-false}
 use mathlib.Core.Bool.{true}
 use Rattle.table_rows.specs.Parts.{hasMarks, entered}
-use Rattle.table_rows.proofs.Cubing.{marks-length}
+use Rattle.table_rows.proofs.{Cubing.marks-length, marked.Statement.statement}
 use borrow.Author.Needs.{needs}
-use Rattle.table_rows.proofs.marked.Statement.{statement}
 use Rattle.table_rows.proofs.marked.Tie as tie
 
 returns : tie.Need-returns

@@ -9,9 +9,8 @@ use lib.Seq.{drop-length}
 use borrow.Author.Tests.{eq-eqb, ne-eqb}
 use Rattle.sets.specs.Masks.{packed}
 use Rattle.table_rows.specs.Lines.{mostPlaces}
-use Rattle.table_rows.proofs.Cubing.{marks-next, marks-lt}
+use Rattle.table_rows.proofs.{Cubing.marks-next, Cubing.marks-lt, marks_of.Statement.statement}
 use borrow.Author.Needs.{needs}
-use Rattle.table_rows.proofs.marks_of.Statement.{statement}
 use Rattle.table_rows.proofs.marks_of.Tie as tie
 
 abbrev Inv-loop : tie.InvT-loop

@@ -4,8 +4,7 @@ use mathlib.Core.Path.{sym, ap, _∙_}
 use mathlib.Core.Bool.{cond}
 use borrow.Author.Needs.{needs}
 use borrow.Author.Tests.{eq-eqb, ne-eqb}
-use Rattle.sets.specs.Masks.{bit}
-use Rattle.sets.proofs.Digits.{bit-test}
+use Rattle.sets.{specs.Masks.bit, proofs.Digits.bit-test}
 use Rattle.image_read.proofs.fields.bit_at.Statement.{statement}
 use Rattle.image_read.proofs.fields.bit_at.Tie as tie
 

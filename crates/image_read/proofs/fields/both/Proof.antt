@@ -1,6 +1,5 @@
 -- `image_read::both` meets its contract. Assumes nothing.
-use mathlib.Core.Path.{sym, ap}
-use mathlib.Core.Bool.{Bool, _&&_}
+use mathlib.Core.{Path.sym, Path.ap, Bool.Bool, Bool._&&_}
 use borrow.Author.Tests.{not-true, not-false}
 use Rattle.image_read.proofs.fields.both.Statement.{statement}
 use Rattle.image_read.proofs.fields.both.Tie as tie

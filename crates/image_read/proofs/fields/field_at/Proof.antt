@@ -3,8 +3,7 @@ use Prim.Native.Nat.{_<_}
 use native.Mathlib.Omega.{arith}
 use lib.ListN.{length, drop}
 use borrow.Author.Needs.{needs}
-use Rattle.image_fields.specs.Fields.{bitsIn}
-use Rattle.image_fields.proofs.Bytes.{left-length}
+use Rattle.image_fields.{specs.Fields.bitsIn, proofs.Bytes.left-length}
 use Rattle.image_read.proofs.fields.field_at.Statement.{statement}
 use Rattle.image_read.proofs.fields.field_at.Tie as tie
 

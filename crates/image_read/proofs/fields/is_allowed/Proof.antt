@@ -1,7 +1,6 @@
 -- `image_read::is_allowed` meets its contract. Assumes nothing.
 use Prim.Native.Nat.{_/_}
-use mathlib.Core.Path.{ap, _∙_}
-use mathlib.Core.Bool.{not}
+use mathlib.Core.{Path.ap, Path._∙_, Bool.not}
 use native.Mathlib.Omega.{arith}
 use borrow.Author.Needs.{needs}
 use borrow.Author.Tests.{lt-ltb, le-ltb}

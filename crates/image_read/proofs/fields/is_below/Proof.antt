@@ -4,8 +4,7 @@ use mathlib.Core.Bool.{not}
 use borrow.Author.Needs.{needs}
 use Rattle.cube.specs.Cube.{answer}
 use Rattle.sets.specs.Lists.{isSome}
-use Rattle.image_read.proofs.Testing.{first-below}
-use Rattle.image_read.proofs.fields.is_below.Statement.{statement}
+use Rattle.image_read.proofs.{Testing.first-below, fields.is_below.Statement.statement}
 use Rattle.image_read.proofs.fields.is_below.Tie as tie
 
 returns : tie.Need-returns

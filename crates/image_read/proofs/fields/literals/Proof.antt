@@ -1,8 +1,7 @@
 -- `image_read::literals` meets its contract. The loop's invariant: the literals read so far and those to come are those of the definition. Assumes nothing.
 use Prim.Native.Nat.{ℕ, _+_, _-_, _*_, _≤_}
 use mathlib.Core.Path.{_≡_, refl, sym, ap, _∙_}
-use mathlib.Core.Bool.{Bool, _&&_}
-use mathlib.Core.List.{List}
+use mathlib.Core.{Bool.Bool, Bool._&&_, List.List}
 use native.Mathlib.Omega.{arith}
 use lib.ListN.{drop}
 use borrow.Author.Needs.{needs}
@@ -10,11 +9,9 @@ use borrow.Author.Tests.{not-true, not-false}
 use Rattle.cube.specs.Cube.{lits}
 use Rattle.image_fields.specs.Fields.{bitsIn}
 use Rattle.image_laws.specs.Widths.{edition1}
-use Rattle.image_read.specs.Parts.{FieldIs}
-use Rattle.image_read.specs.declared.fields.Field.the-variants.{Value}
-use Rattle.image_read.proofs.Heading.{field-below}
+use Rattle.image_read.specs.{Parts.FieldIs, declared.fields.Field.the-variants.Value}
+use Rattle.image_read.proofs.{Heading.field-below, fields.literals.Statement.statement}
 use Rattle.image_read.proofs.Gathering.{Gathering, gather-none, gather-cut, gather-bad, gather-next, gather-end}
-use Rattle.image_read.proofs.fields.literals.Statement.{statement}
 use Rattle.image_read.proofs.fields.literals.Tie as tie
 
 abbrev Inv-loop : tie.InvT-loop

@@ -7,10 +7,8 @@ use native.Mathlib.Numerals.{add-one}
 use lib.ListN.{getD, take, drop}
 use borrow.Author.Needs.{needs}
 use Rattle.sets.specs.Masks.{bit}
-use Rattle.image_fields.specs.Fields.{valueOf, bitsIn}
-use Rattle.image_fields.proofs.Bytes.{value-next}
-use Rattle.image_read.proofs.Bits.{value-small, bit-small}
-use Rattle.image_read.proofs.fields.value_at.Statement.{statement}
+use Rattle.image_fields.{specs.Fields.valueOf, specs.Fields.bitsIn, proofs.Bytes.value-next}
+use Rattle.image_read.proofs.{Bits.value-small, Bits.bit-small, fields.value_at.Statement.statement}
 use Rattle.image_read.proofs.fields.value_at.Tie as tie
 
 abbrev Inv-loop : tie.InvT-loop

@@ -7,8 +7,7 @@ use lib.ListN.{length}
 use borrow.Author.Needs.{needs}
 use Rattle.image_fields.specs.Fields.{bitsIn}
 use Rattle.image_read.proofs.Filling.{Filling, fill-none, fill-next, fill-end}
-use Rattle.image_read.proofs.Going.{going-bad}
-use Rattle.image_read.proofs.nodes.cubes.Statement.{statement}
+use Rattle.image_read.proofs.{Going.going-bad, nodes.cubes.Statement.statement}
 use Rattle.image_read.proofs.nodes.cubes.Tie as tie
 
 abbrev Inv-loop : tie.InvT-loop

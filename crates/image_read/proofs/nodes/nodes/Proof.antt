@@ -7,8 +7,7 @@ use lib.ListN.{length, length-set}
 use borrow.Author.Needs.{needs}
 use Rattle.image_fields.specs.Fields.{bitsIn}
 use Rattle.image_read.proofs.Filling.{Counting, count-none, count-next, count-end}
-use Rattle.image_read.proofs.Going.{going-bad}
-use Rattle.image_read.proofs.nodes.nodes.Statement.{statement}
+use Rattle.image_read.proofs.{Going.going-bad, nodes.nodes.Statement.statement}
 use Rattle.image_read.proofs.nodes.nodes.Tie as tie
 
 abbrev Inv-loop : tie.InvT-loop

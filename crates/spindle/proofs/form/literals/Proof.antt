@@ -3,12 +3,8 @@ use Prim.Native.Nat.{ℕ}
 use mathlib.Core.Path.{_≡_, refl, sym, ap, _∙_}
 use mathlib.Core.Bool.{Bool, true, false, cond}
 use borrow.Author.Needs.{needs}
-use Rattle.network.specs.Net.{literalCount}
-use Rattle.network.specs.Held.{netOf, rules}
-use Rattle.network.specs.Answers.{counted}
-use Rattle.network.specs.declared.Network.{Network}
-use Rattle.network.specs.declared.Number.{Number}
-use Rattle.network.specs.declared.Number.the-variants.{Is, No}
+use Rattle.network.specs.{Net.literalCount, Held.netOf, Held.rules, Answers.counted, declared.Network.Network}
+use Rattle.network.specs.declared.{Number.Number, Number.the-variants.Is, Number.the-variants.No}
 use Rattle.spindle.proofs.form.literals.Statement.{statement}
 use Rattle.spindle.proofs.form.literals.Tie as tie
 

@@ -1,8 +1,7 @@
 -- `node::literals` meets its contract: the literals of the part that holds node i. Assumes nothing.
 use mathlib.Core.Path.{_∙_, ap}
 use borrow.Author.Needs.{needs}
-use Rattle.expression.specs.Expression.{literalsOf}
-use Rattle.expression.specs.Answers.{capped}
+use Rattle.expression.specs.{Expression.literalsOf, Answers.capped}
 use Rattle.spindle.proofs.node.literals.Statement.{statement}
 use Rattle.spindle.proofs.node.literals.Tie as tie
 
