@@ -3,7 +3,7 @@ use mathlib.Core.{Path._≡_, Path.refl, Bool.true}
 use Rattle.sets.{specs.Lists.all, specs.Masks.bit, proofs.Lists._∈_, proofs.Lists.all-out}
 use Rattle.sets.specs.Sets.{mem, sub, apart, insert, union, without, meet, same, before}
 use Rattle.expression.specs.Expression.{has, place, sort, loose}
-use Rattle.division.specs.Division.{divides, quotient, product, remainder}
+use Rattle.division.specs.Division.{inQuotient, quotient, product, remainder}
 use Rattle.cokernel.specs.Cokernels.{common, isCokernel, opens}
 use Rattle.factor.specs.{Form.most, Form.formBy, Text.sumText, Text.formText}
 use Rattle.letters.specs.Letters.{digits, decimal}
@@ -29,7 +29,7 @@ unfolding isRight table
 cases-hold = simp cokernels-opened (unfold
     f₁ f₆ f₉ f₁₂ image₅ alike equalCubes sameInteger sameDivisor turn sameStop equalNode sameNet begins finishes readAs
     mem sub apart insert union without meet same before has place sort loose
-    divides quotient product remainder
+    inQuotient quotient product remainder
     common isCokernel opens opened
     most formBy digits decimal literalText cubeText sumText formText
     small useOf swap rewrite allUses basesLiterals weight pairsIn smallerFirst sumOf sumsIn candidates sooner better bestOf best

@@ -1,5 +1,5 @@
 -- What a line does, in the paper's words: when it goes on and to what, when it ends the table, and by which number it is refused. Assumes nothing.
-use Prim.Native.Nat.{ℕ, _+_, _<_, _≤_}
+use Prim.Native.Nat.{ℕ, _+_, _<_}
 use mathlib.Core.Path.{_≡_, refl, sym, ap, ap₂, _∙_, subst}
 use mathlib.Core.Logic.{_⊎_, inl, inr, _↔_}
 use mathlib.Core.Bool.{Bool, true, false, cond, _&&_, and-false}
@@ -9,7 +9,7 @@ use native.Mathlib.Omega.{arith}
 use lib.Dec.{leb}
 use lib.ListN.{length}
 use borrow.Author.Tests.{leb-true, leb-false, le-leb, lt-leb, eqb-false, ne-eqb}
-use Rattle.sets.{specs.Lists.total, specs.Lists.isNil, specs.Sets.mem, proofs.Truth.both, proofs.Truth.clash}
+use Rattle.sets.{specs.Lists.total, specs.Lists.isNil, specs.Sets.mem, proofs.Truth.clash}
 use Rattle.network.specs.Held.{mostInputs, mostOutputs, upTo}
 use Rattle.table_lines.specs.Text.{content}
 use Rattle.table_kinds.specs.{Kinds.kindOf, declared.Kind.Kind}
@@ -20,6 +20,7 @@ use Rattle.table.specs.Table.{withLine, finish, addLine, cubeLine, byKin
 use Rattle.table.specs.Meaning.{Timely, Goes, blank, inputs, outputs, products, cube, Late, Early, Closes, isLine, Does, going, closing, refusing}
 use Rattle.table.specs.Meaning.{Refuses, lateInputs, lateOutputs, lateProducts, earlyEnd, earlyCube, noKind, outInputs, outOutputs, outProducts}
 use Rattle.table.specs.Meaning.{differs, over}
+use Rattle.network.proofs.Holding.{up-out}
 
 -- ---- in time or late, in range or out of it
 
@@ -46,9 +47,6 @@ range-out most n h = go (leb 1 n) (leb n most) refl refl
 range-in : (most n : ℕ) → (n ≡ 0) ⊎ (most < n) → upTo most n ≡ false
 range-in most n (inl e) = rw e
 range-in most n (inr h) = rw (le-leb 1 n (omega arith), lt-leb n most h)
-
-within-out : (most n : ℕ) → upTo most n ≡ true → (1 ≤ n) × (n ≤ most)
-within-out most n h = let k = both (leb 1 n) (leb n most) h in (leb-true 1 n (k .0), leb-true n most (k .1))
 
 differ-out : (o : Option ℕ) (l : List CubeLine) → rightCount o l ≡ false → (p : ℕ) × (o ≡ some p) × (p ≡ length l → ⊥)
 differ-out none l h = clash refl h
@@ -102,10 +100,10 @@ module _ (s : State) (c : List ℕ) where
   unfolding setWide setTall setStated
   kind-does Empty q = going (blank q)
   kind-does (Inputs n) q =
-      number-does (s .wide) (upTo mostInputs n) (λ t h. let w = within-out mostInputs n h in inputs n q t (w .0) (w .1)) (lateInputs n q)
+      number-does (s .wide) (upTo mostInputs n) (λ t h. let w = up-out mostInputs n h in inputs n q t (w .0) (w .1)) (lateInputs n q)
       (λ t h. outInputs n q t (range-out mostInputs n h))
   kind-does (Outputs n) q =
-      number-does (s .tall) (upTo mostOutputs n) (λ t h. let w = within-out mostOutputs n h in outputs n q t (w .0) (w .1)) (lateOutputs n q)
+      number-does (s .tall) (upTo mostOutputs n) (λ t h. let w = up-out mostOutputs n h in outputs n q t (w .0) (w .1)) (lateOutputs n q)
       (λ t h. outOutputs n q t (range-out mostOutputs n h))
   kind-does (Products n) q =
       number-does (s .stated) (leb n mostProducts) (λ t h. products n q t (leb-true n mostProducts h)) (lateProducts n q)
