@@ -4,12 +4,13 @@ use network::Network;
 use std::num;
 ghost use mathlib.Core.List.{[]};
 ghost use mathlib.Core.Path.{_≡_};
-ghost use Prim.Native.Nat.{_≤_};
+ghost use Prim.Native.Nat.{_+_, _%_, _^_, _≤_, max};
 ghost use lib.ListN.{getD};
 ghost use Rattle.expression.specs.Words.{cubesOf};
 ghost use Rattle.expression.specs.Expression.{literalsOf};
 ghost use Rattle.expression.specs.Answers.{capped};
 ghost use Rattle.network_nodes.specs.Nodes.{cut};
+ghost use Rattle.spindle.specs.Node.{longest, nameOf, columnIn, columnAt, widestOf};
 
 // The longest text that widens a column.
 const LONGEST: usize = 40;
@@ -21,7 +22,9 @@ pub struct Name {
 }
 
 // Outputs come first, by `y`; divisors follow, by `x`, numbered on from the inputs.
-pub fn name_of(n: Network, i: usize) -> Name {
+pub fn name_of(n: Network, i: usize) -> Name
+    ensures { λ r. ⌜ r ≡ nameOf n i ⌝ }
+{
     if i < n.outputs {
         return Name {
             letter: b'y',
@@ -45,7 +48,7 @@ pub fn literals(n: Network, i: usize) -> u64
 
 // The length of the factored text of f, or 0 where that is too long for a column.
 fn length_of(f: &[u64]) -> usize
-    ensures { λ r. ⌜ r ≤ 40 ⌝ }
+    ensures { λ r. ⌜ r ≡ columnIn (now (f .entry)) ⌝ }
 {
     let mut room = [0u8; LONGEST];
     let a = factor::factored(f, &mut room);
@@ -60,8 +63,7 @@ fn length_of(f: &[u64]) -> usize
 
 // The greater of a length so far and that of node i.
 fn widened(most: usize, n: Network, i: usize) -> usize
-    requires { ⌜ most ≤ 40 ⌝ }
-    ensures { λ r. ⌜ r ≤ 40 ⌝ }
+    ensures { λ r. ⌜ r ≡ max most (columnAt n i) ⌝ }
 {
     let words = n.words;
     let counts = n.counts;
@@ -74,7 +76,7 @@ fn widened(most: usize, n: Network, i: usize) -> usize
 
 // The length of the longest text that fits a column.
 pub fn widest(n: Network) -> usize
-    ensures { λ r. ⌜ r ≤ 40 ⌝ }
+    ensures { λ r. ⌜ (r ≡ widestOf n ((n .outputs + n .divisors) % 2 ^ 64)) × (r ≤ longest) ⌝ }
 {
     let nodes = num::wrapping_add_usize(n.outputs, n.divisors);
     let mut most = 0;
