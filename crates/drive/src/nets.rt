@@ -6,6 +6,7 @@ use network::Network;
 use network::Number;
 use std::num;
 ghost use mathlib.Core.Path.{_≡_};
+ghost use Rattle.drive.specs.Nets.{givenIn};
 ghost use Rattle.drive.specs.Wire.{numberTold};
 
 // ---- requests
@@ -16,7 +17,9 @@ pub struct Given {
     pub network: Network,
 }
 
-fn narrow(pool: [u64; network::NODE_SLOTS]) -> [usize; network::NODE_SLOTS] {
+fn narrow(pool: [u64; network::NODE_SLOTS]) -> [usize; network::NODE_SLOTS]
+    ensures { λ r. ⌜ r ≡ pool ⌝ }
+{
     let mut counts = [0usize; network::NODE_SLOTS];
     let mut i = 0;
     while i < network::NODE_SLOTS {
@@ -27,7 +30,9 @@ fn narrow(pool: [u64; network::NODE_SLOTS]) -> [usize; network::NODE_SLOTS] {
 }
 
 // The network of the first three groups. Slots that are not given are 0.
-pub fn read_net(text: &[u8]) -> Given {
+pub fn read_net(text: &[u8]) -> Given
+    ensures { λ r. ⌜ r ≡ givenIn (now (text .entry)) ⌝ }
+{
     let after = drive_request::tail(text);
     let mut sizes = [0u64; 3];
     let mut counts = [0u64; network::NODE_SLOTS];
