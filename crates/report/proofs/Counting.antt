@@ -15,7 +15,7 @@ use Rattle.extract_laws.specs.Run.{Made, inOrder, run}
 use Rattle.extract_laws.proofs.{Weighing.step-falls, Stepping.step-good, Arranging.in-order-literals}
 use Rattle.extract_laws.proofs.{Preparing.prepare-keeps, Running.run-leads, Keeping.worth-fit, Keeping.start-good}
 use Rattle.report.specs.Parts.{signBit, Sized, EachSized}
-use Rattle.report.specs.Parts.EachSized.{none, more}
+use Rattle.report.specs.Parts.EachSized.{noStep, more}
 
 -- the weight as its bits read back
 pub sized-read : {w : ℤ} → Sized w → toZ w32 (ofZ w32 w) ≡ w
@@ -29,7 +29,7 @@ pub each-first : {m : Made} {l : List Made} → EachSized (m ∷ l) → Sized (m
 each-first (more o f) = (o, f)
 
 leads-sized : {n m : Net} {l : List Made} → Leads n l m → Good n → literalCount n < signBit → EachSized l
-leads-sized stay g s = none
+leads-sized stay g s = noStep
 leads-sized (onward {n = n} d w a b t) g s =
     let f = worth-fit g w in
     let z = step-falls n g d (f .whole) (w .above) in

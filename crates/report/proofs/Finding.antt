@@ -12,7 +12,7 @@ use Rattle.table.specs.Answers as table
 use Rattle.table.{specs.declared.Table.Table, proofs.Telling.told-refused, proofs.Keeping.read-net, proofs.Keeping.read-rules}
 use Rattle.report.specs.Report.{ranText, outcomeText, reportOf}
 use Rattle.report.specs.Parts.{EachSized, foundText, Steady, Explored}
-use Rattle.report.specs.{Parts.EachSized.none, declared.Findings.Findings}
+use Rattle.report.specs.{Parts.EachSized.noStep, declared.Findings.Findings}
 use Rattle.report.proofs.Lines.{found-read, found-refused}
 
 -- ---- a table that was read
@@ -25,7 +25,7 @@ module _ (t : List ℕ) (r : Table) (h : table.Told (readText t) r) where
   found-refusal k e f q = (
     record {
       few = omega (arith, q .1);
-      each = subst (λ (i : ℕ). EachSized (map madeOf (take i (f .steps .list)))) (sym (q .1)) none;
+      each = subst (λ (i : ℕ). EachSized (map madeOf (take i (f .steps .list)))) (sym (q .1)) noStep;
     },
     found-refused f k (q .0 ∙ e) ∙ sym (ap outcomeText (told-refused r (readText t) h k e)),
   )

@@ -23,7 +23,7 @@ pub record Sized (weight : ℤ) : Type 0 where
 
 -- and so the weight of each step
 pub data EachSized : List Made → Type 0 where
-  none : EachSized []
+  noStep : EachSized []
   more : {m : Made} {l : List Made} → Sized (m .weight) → EachSized l → EachSized (m ∷ l)
 
 -- the text of a run that was found
