@@ -13,7 +13,7 @@ ghost use Rattle.network_nodes.specs.Nodes.{cut};
 ghost use Rattle.spindle.specs.Node.{longest, nameOf, columnIn, columnAt, widestOf};
 
 // The longest text that widens a column.
-const LONGEST: usize = 40;
+const MOST_COLUMN: usize = 40;
 
 // The name of a node: a letter and a number.
 pub struct Name {
@@ -50,12 +50,12 @@ pub fn literals(n: Network, i: usize) -> u64
 fn length_of(f: &[u64]) -> usize
     ensures { λ r. ⌜ r ≡ columnIn (now (f .entry)) ⌝ }
 {
-    let mut room = [0u8; LONGEST];
+    let mut room = [0u8; MOST_COLUMN];
     let a = factor::factored(f, &mut room);
     let Wrote::Bytes(n) = a else {
         return 0;
     };
-    if n > LONGEST {
+    if n > MOST_COLUMN {
         return 0;
     }
     n
