@@ -1,0 +1,14 @@
+pub mod Cutting
+pub mod Naming
+pub mod Rowing
+pub mod Parting
+pub mod Blocking
+pub mod Forming
+pub mod Bounding
+pub mod Breaking
+pub mod Judging
+pub mod Shuffling
+pub mod Joining
+pub mod Modelling
+pub mod Trips
+pub mod Beginning

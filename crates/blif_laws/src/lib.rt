@@ -1,0 +1,1 @@
+// Networks in the Berkeley Logic Interchange Format: definitions and laws, no code.
