@@ -4,8 +4,20 @@
 use std::collections::BTreeMap;
 
 /// The operations that a request may name.
-pub const OPERATIONS: [&str; 10] =
-    ["table", "divide", "cokernels", "factored", "literals", "evaluate", "extract", "write", "read", "report"];
+pub const OPERATIONS: [&str; 12] = [
+    "table",
+    "divide",
+    "cokernels",
+    "factored",
+    "literals",
+    "evaluate",
+    "extract",
+    "write",
+    "read",
+    "write-blif",
+    "read-blif",
+    "report",
+];
 
 /// Lines that name none of them, or that are not text.
 pub const OTHER: &str = "other";

@@ -121,6 +121,15 @@ impl Cube {
         Cube::of(self.0.iter().chain(&other.0).copied())
     }
 
+    /// How a variable stands in it, as a row has it: `1` plain, `0` negated, `-` not at all.
+    pub fn mark(&self, variable: Variable) -> char {
+        match (self.has(variable.plain()), self.has(variable.negated())) {
+            (true, _) => '1',
+            (_, true) => '0',
+            _ => '-',
+        }
+    }
+
     /// Its literals with `*` between them, `1` if there are none.
     pub fn text(&self) -> String {
         if self.0.is_empty() {

@@ -2,6 +2,7 @@
 //! the paper alone: cubes are sorted lists of literal numbers, expressions are
 //! sets of cubes, and every operation transcribes its sentence.
 
+pub mod blif;
 pub mod cokernel;
 pub mod compare;
 pub mod cubes;

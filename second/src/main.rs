@@ -1,8 +1,9 @@
 //! Without an argument it answers the line protocol; else it generates
 //! requests, compares two programs' answers, counts what answers reach, or
-//! says what `show` and `map` of the shop's program should.
+//! says what `show` and `map` of the shop's program should, or a table's BLIF.
 
-use second::{compare, extract, generate, image, map, protocol, report, table};
+use second::network::Network;
+use second::{blif, compare, extract, generate, image, map, protocol, report, table};
 use std::io::{self, BufWriter, Write};
 use std::process::ExitCode;
 
@@ -11,7 +12,8 @@ second generate SEED COUNT [OPERATION ...]
 second compare REQUESTS LEFT RIGHT
 second cover REQUESTS ANSWERS
 second show IMAGE
-second map TABLE";
+second map TABLE
+second blif TABLE";
 
 fn main() -> ExitCode {
     let words: Vec<String> = std::env::args().skip(1).collect();
@@ -22,7 +24,8 @@ fn main() -> ExitCode {
         ["compare", requests, left, right] => compare_files(requests, left, right),
         ["cover", requests, answers] => cover_files(requests, answers),
         ["show", file] => show_file(file),
-        ["map", file] => map_file(file),
+        ["map", file] => print_extracted(file, map::map),
+        ["blif", file] => print_extracted(file, blif::write),
         _ => Err(io::Error::other(USAGE)),
     };
     done.unwrap_or_else(|error| {
@@ -72,10 +75,11 @@ fn show_file(file: &str) -> io::Result<ExitCode> {
     Ok(ExitCode::SUCCESS)
 }
 
-fn map_file(file: &str) -> io::Result<ExitCode> {
+/// What is to be said of a table's network, once the program's steps are made.
+fn print_extracted(file: &str, said: fn(&Network) -> String) -> io::Result<ExitCode> {
     let read = table::read(&std::fs::read(file)?);
     let mut network = read.map_err(|refusal| io::Error::other(format!("refused {}", refusal.number)))?;
     extract::run(&mut network, report::STEPS);
-    print!("{}", map::map(&network));
+    print!("{}", said(&network));
     Ok(ExitCode::SUCCESS)
 }

@@ -6,7 +6,7 @@ use crate::divide::divide;
 use crate::extract::{run, Divisor, Step};
 use crate::network::{Lent, Network};
 use crate::refusal::{whole, Refusal};
-use crate::{factor, image, report, table};
+use crate::{blif, factor, image, report, table};
 use std::io::{self, BufRead, Write};
 
 pub const MOST_LINE: usize = 262_144;
@@ -66,7 +66,12 @@ fn respond(line: &str) -> Option<Answer> {
             let room = room_of(room)?;
             Some(write_answer(lent_of(sizes, counts, words)?.network(), room))
         }
+        (["write-blif"], [sizes, counts, words, room]) => {
+            let room = room_of(room)?;
+            Some(write_blif_answer(lent_of(sizes, counts, words)?.network(), room))
+        }
         (["read", bytes], []) => Some(network_answer(image::read(&bytes_of(bytes)?).map_err(whole))),
+        (["read-blif", text], []) => Some(network_answer(blif::read(&bytes_of(text)?).map_err(whole))),
         (["report", text], []) => {
             let printed = report::report(&bytes_of(text)?);
             Some(vec![word("ok"), word(";"), bytes_text(printed.as_bytes())])
@@ -265,6 +270,10 @@ fn factored_answer(f: &[u64], room: Vec<u8>) -> Answer {
 
 fn write_answer(network: Option<Network>, room: Vec<u8>) -> Answer {
     bytes_answer(network.map(|net| image::write(&net)).ok_or(10), room)
+}
+
+fn write_blif_answer(network: Option<Network>, room: Vec<u8>) -> Answer {
+    bytes_answer(network.map(|net| blif::write(&net).into_bytes()).ok_or(10), room)
 }
 
 fn extract_answer(steps: u64, network: Option<Network>) -> Answer {

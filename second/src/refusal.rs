@@ -1,4 +1,4 @@
-//! The refusal list: a number from 1 to 13, and a line.
+//! The refusal list: a number from 1 to 15, and a line.
 
 /// A refusal holds its number and its line alone.
 #[derive(Clone, Copy, Debug, PartialEq, Eq)]

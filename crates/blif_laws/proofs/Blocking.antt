@@ -14,13 +14,13 @@ use Rattle.sets.specs.Literal.{variableOf}
 use Rattle.sets.specs.Sets.{mem, same, asc}
 use Rattle.sets.proofs.Truth.{both, together}
 use Rattle.sets.proofs.Lists.{_∈_, all-in, all-out, all-append, map-out, map-map, map-fixed}
-use Rattle.sets.proofs.Sets.{mem-of, of-mem, union-asc, same-eq, same-self}
+use Rattle.sets.proofs.Sets.{mem-of, of-mem, same-eq, same-self}
 use Rattle.letters.specs.Letters.{nameText}
 use Rattle.letters_products.specs.Spelled.{spelled}
 use Rattle.table_lines.specs.Meaning.{lacks}
 use Rattle.expression.specs.Expression.{isCube, reach}
 use Rattle.network.proofs.Numbering.{read-passes, passes-read}
-use Rattle.network_reads.{specs.Reading.readsOf, proofs.Reading.reads-in, proofs.Reading.reads-out}
+use Rattle.network_reads.{specs.Reading.readsOf, proofs.Reading.reads-in, proofs.Reading.reads-out, proofs.Reading.reads-asc}
 use Rattle.blif_laws.specs.Text.{spaced, Name, variable, output, nameWord, rowWords, Block, namesWords, blockLines}
 use Rattle.blif_laws.specs.Reading.{andThen, wordsIn, Part, pointed, Named, namesIn, isRow, cubeIn, cubesIn, among, blockFrom, after, blockIn}
 use Rattle.blif_laws.specs.Meaning.{isClear, FormedBlock}
@@ -30,11 +30,6 @@ use Rattle.blif_laws.proofs.Rowing.{cube-read, row-clear, row-plain, ro
 use Rattle.blif_laws.proofs.Parting.{isPart}
 
 -- ---- the variables that are read
-
-pub reads-asc : (f : List (List ℕ)) → asc (readsOf f) ≡ true
-unfolding readsOf
-reads-asc [] = refl
-reads-asc (c ∷ f) = union-asc _ (readsOf f) (reads-asc f)
 
 -- every literal of a cube is of one of them
 pub reads-cover : (f : List (List ℕ)) {c : List ℕ} → c ∈ f → all (λ l. mem (variableOf l) (readsOf f)) c ≡ true

@@ -83,7 +83,7 @@ turn-out c k (f ∷ fs) b m = elim (List·Memᴰ·cases-cons m) [
 -- ---- lists laid one after the other
 
 module _ {A B : Type 0} (g : A → List B) where
-  gathered-in : {x : A} {l : List A} {y : B} → x ∈ l → y ∈ g x → y ∈ flat (map g l)
+  pub gathered-in : {x : A} {l : List A} {y : B} → x ∈ l → y ∈ g x → y ∈ flat (map g l)
   gathered-in {y = y} (here {xs = l} e) m = Memᴰ·append-left (flat (map g l)) (subst (λ z. y ∈ g z) e m)
   gathered-in (there {x = z} i) m = Memᴰ·append-right (g z) (gathered-in i m)
 

@@ -12,10 +12,10 @@ use Rattle.sets.specs.Lists.{any, all, keep, from}
 use Rattle.sets.specs.Sets.{mem, asc, readsBelow}
 use Rattle.sets.proofs.Truth.{iff}
 use Rattle.sets.proofs.Lists.{_∈_, all-in, all-out, all-cong, map-cong}
-use Rattle.sets.proofs.Sets.{union-mem, mem-append, all-mem, mem-all, union-asc, ext}
+use Rattle.sets.proofs.Sets.{union-mem, mem-append, all-mem, mem-all, ext}
 use Rattle.expression.{specs.Expression.place, specs.Expression.sort, specs.Expression.isCube, proofs.Sorting.sort-middle}
 use Rattle.network.specs.{Held.numbered, Handed.flat}
-use Rattle.network_reads.specs.Reading.{variablesOf, readsOf}
+use Rattle.network_reads.{specs.Reading.variablesOf, specs.Reading.readsOf, proofs.Reading.reads-asc}
 use Rattle.blif_laws.specs.Text.{Name, variable, output, Block, Model, modelText}
 use Rattle.blif_laws.specs.Reading.{joined, isModelName, modelIn, namedIn, standing, gapless, sameName, blocksFor, inputTimes, timesDefined, definedOnce}
 use Rattle.blif_laws.specs.Reading.{cubesFor, isVariable, divisorsIn, netIn, judgeModel, readBlif}
@@ -72,11 +72,6 @@ reads-any : (v : ℕ) (f : List (List ℕ)) → mem v (readsOf f) ≡ any (λ c.
 unfolding readsOf mem
 reads-any v [] = refl
 reads-any v (c ∷ f) = union-mem v (variablesOf c) (readsOf f) ∙ ap (mem v (variablesOf c) ||_) (reads-any v f)
-
-reads-asc : (f : List (List ℕ)) → asc (readsOf f) ≡ true
-unfolding readsOf
-reads-asc [] = refl
-reads-asc (c ∷ f) = union-asc (variablesOf c) (readsOf f) (reads-asc f)
 
 pub reads-shuffled : {f g : List (List ℕ)} → Shuffled _≡_ f g → readsOf f ≡ readsOf g
 reads-shuffled {f} {g} s = ext (readsOf f) (readsOf g) (reads-asc f) (reads-asc g) (λ v.

@@ -1,3 +1,4 @@
 pub mod Walking
 pub mod Texts
 pub mod Renewing
+pub mod Again

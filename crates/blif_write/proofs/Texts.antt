@@ -13,13 +13,13 @@ use Rattle.letters.specs.Letters.{nameText}
 use Rattle.letters_products.specs.Spelled.{spelled}
 use Rattle.expression.specs.Words.{cubesOf}
 use Rattle.network_nodes.{specs.Nodes.cut, proofs.Cutting.cut-take, proofs.Cutting.cut-length}
-use Rattle.network_reads.specs.Reading.{readsOf, Marks}
+use Rattle.network_reads.{specs.Reading.readsOf, specs.Reading.Marks, proofs.Reading.reads-asc}
 use Rattle.network.specs.{Held.netOf, Held.numbered, Handed.flat, Parts.Limited, declared.Network.Network}
 use Rattle.network.proofs.Handing.{flat-append}
 use Rattle.blif_laws.specs.Text.{spaced, ended, nameWord, firstNames, signOf, rowWords, Block, namesWords, blockLines, headLines, modelLines, modelText}
 use Rattle.blif_laws.specs.Text.{outputBlocks, divisorBlock, modelOf}
 use Rattle.blif_write.specs.Parts.{led, plainsOf, AllPlain, rowsText, blockText, blocksText, nodesAt}
-use Rattle.blif_write.proofs.Walking.{plains-marked, reads-asc, plain-nil}
+use Rattle.blif_write.proofs.Walking.{plains-marked, plain-nil}
 
 -- ---- lines
 

@@ -11,10 +11,10 @@ use Rattle.sets.specs.Lists.{keep, isNil, from}
 use Rattle.sets.specs.{Literal.plainOf, Sets.mem, Sets.asc}
 use Rattle.sets.proofs.Truth.{iff, both, together, clash, refuted}
 use Rattle.sets.proofs.Lists.{pairwise-keep}
-use Rattle.sets.proofs.Sets.{ext, keep-mem, from-mem, from-asc, union-asc, mem-head, mem-nil, nil-mem}
+use Rattle.sets.proofs.Sets.{ext, keep-mem, from-mem, from-asc, mem-head, mem-nil, nil-mem}
 use Rattle.cube.{specs.Cube.width, specs.Cube.lits, specs.declared.Cube.Cube, proofs.Lits.lits-inside}
 use Rattle.letters.specs.Letters.{nameText}
-use Rattle.network_reads.{specs.Reading.readsOf, specs.Reading.Marks, proofs.Marking.marks-plain}
+use Rattle.network_reads.{specs.Reading.readsOf, specs.Reading.Marks, proofs.Marking.marks-plain, proofs.Reading.reads-asc}
 use Rattle.blif_laws.specs.Text.{firstNames}
 use Rattle.blif_write.specs.Parts.{led, plainsOf, AllPlain}
 
@@ -94,12 +94,6 @@ plains-marked c l h p = ext (plainsOf (lits c)) l (pairwise-keep ltb test (from 
         (λ t. sym (marks-plain p z) ∙ both (mem z (from 0 width)) (test z) t .1)
         (λ t. let m : test z ≡ true = marks-plain p z ∙ t in
         together _ _ (from-mem 0 width z ∙ together _ _ (le-leb 0 z (omega arith)) (lt-ltb z (0 + width) (omega (arith, lits-inside c (plainOf z) m)))) m)
-
--- what an expression reads is ascending
-pub reads-asc : (f : List (List ℕ)) → asc (readsOf f) ≡ true
-unfolding readsOf
-reads-asc [] = refl
-reads-asc (c ∷ f) = union-asc _ (readsOf f) (reads-asc f)
 
 -- the cube that marks it has plain literals only
 pub reads-plain : (c : Cube) (f : List (List ℕ)) → Marks (lits c) (readsOf f) → AllPlain (lits c)

@@ -9,6 +9,7 @@ mod wire;
 
 use drive_request::Hex;
 use expressions::Asked;
+use images::Form;
 use letters::Wrote;
 use libc::STDIN_FILENO;
 use network::Network;
@@ -70,7 +71,10 @@ fn answer_bytes(name: &[u8], bytes: &[u8], out: &mut [u8]) -> usize {
         return on_table(bytes, out);
     }
     if check::same(name, b"read") {
-        return images::on_read(bytes, out);
+        return images::on_read(Form::Image, bytes, out);
+    }
+    if check::same(name, b"read-blif") {
+        return images::on_read(Form::Blif, bytes, out);
     }
     if check::same(name, b"report") {
         return on_report(bytes, out);
@@ -163,13 +167,13 @@ fn last(text: &[u8]) -> &[u8] {
     drive_request::tail(drive_request::tail(drive_request::tail(text)))
 }
 
-fn answer_write(text: &[u8], out: &mut [u8]) -> usize {
+fn answer_write(f: Form, text: &[u8], out: &mut [u8]) -> usize {
     let g = nets::read_net(text);
     if !g.ok {
         return wire::put_none(out);
     }
     let network = g.network;
-    images::on_write(network, last(text), out)
+    images::on_write(f, network, last(text), out)
 }
 
 fn answer_five(head: &[u8], text: &[u8], out: &mut [u8]) -> usize {
@@ -177,7 +181,10 @@ fn answer_five(head: &[u8], text: &[u8], out: &mut [u8]) -> usize {
         return expressions::on_expression(Asked::Division, text, out);
     }
     if check::same(head, b"write") {
-        return answer_write(text, out);
+        return answer_write(Form::Image, text, out);
+    }
+    if check::same(head, b"write-blif") {
+        return answer_write(Form::Blif, text, out);
     }
     wire::put_none(out)
 }

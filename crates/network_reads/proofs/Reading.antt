@@ -8,9 +8,9 @@ use native.Mathlib.Omega.{arith}
 use lib.Dec.{leb, eqb}
 use lib.ListN.{length, getD, drop, drop-of-length-le}
 use borrow.Author.Tests.{eq-eqb, ne-eqb, eqb-true, eqb-false, le-leb, lt-leb}
-use Rattle.sets.{specs.Literal.plainOf, specs.Literal.negatedOf, specs.Sets.mem, proofs.Lists._∈_, proofs.Places.drop-next}
+use Rattle.sets.{specs.Literal.plainOf, specs.Literal.negatedOf, specs.Sets.mem, specs.Sets.asc, proofs.Lists._∈_, proofs.Places.drop-next}
 use Rattle.sets.proofs.Truth.{iff, both, either, or-left, or-right, clash, decided, compared, below, equal, beyond}
-use Rattle.sets.proofs.Sets.{mem-of, of-mem, insert-mem, union-mem}
+use Rattle.sets.proofs.Sets.{mem-of, of-mem, insert-mem, union-mem, union-asc}
 use Rattle.cube.{specs.Cube.width, specs.Cube.lits, specs.declared.Cube.Cube, proofs.Lits.lits-inside}
 use Rattle.network.specs.Meaning.{Reads}
 use Rattle.network_reads.specs.Reading.{variablesOf, readsOf, Marks}
@@ -101,6 +101,12 @@ reads-out (c ∷ f) v h = elim (either (mem v (variablesOf c)) (mem v (readsOf f
   | inl t ↦ (c, here refl, variables-out v c t)
   | inr t ↦ let r = reads-out f v t in (r .0, there (r .1), r .2)
 ]
+
+-- they ascend
+pub reads-asc : (f : List (List ℕ)) → asc (readsOf f) ≡ true
+unfolding readsOf
+reads-asc [] = refl
+reads-asc (c ∷ f) = union-asc _ (readsOf f) (reads-asc f)
 
 -- exactly those of which a cube has a literal
 pub reads-iff : (f : List (List ℕ)) (v : ℕ) → (mem v (readsOf f) ≡ true) ↔ Reads f v

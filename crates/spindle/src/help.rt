@@ -10,6 +10,10 @@ fn say_tables(fd: i32) {
         fd,
         b"spindle image TABLE FILE\n    writes to FILE the image of the table's network with its shared conditions\n    spindle image examples/orchards.pla orchards.image",
     );
+    say(
+        fd,
+        b"spindle blif TABLE|IMAGE [FILE]\n    the same network as a BLIF text, for programs that take only that; to FILE where there is one\n    spindle blif examples/orchards.pla orchards.blif",
+    );
 }
 
 fn say_images(fd: i32) {
@@ -30,7 +34,7 @@ fn say_maps(fd: i32) {
     );
     say(
         fd,
-        b"spindle help\n    this page\nA file to read may be - for standard input.\nA table or an image that breaks a rule is answered by one line: refused 2 at line 3",
+        b"spindle help\n    this page\nA file to read may be - for standard input; one whose first word is .model is read as a BLIF text, where a network is asked for.\nA table, an image or a BLIF text that breaks a rule is answered by one line: refused 2 at line 3",
     );
 }
 

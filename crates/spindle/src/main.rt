@@ -1,5 +1,5 @@
-// The shop's program: reports, images, and the dispatcher's map. Safety and an end are all that is promised here; what a table or an
-// image answers is promised by the crates that are called.
+// The shop's program: reports, images, BLIF texts, and the dispatcher's map. Safety and an end are all that is promised here; what a
+// table, an image or a text answers is promised by the crates that are called.
 mod file;
 mod form;
 mod help;
@@ -11,19 +11,33 @@ mod show;
 use letters::Wrote;
 use libc::STDERR_FILENO;
 use libc::STDOUT_FILENO;
+use network::Handed;
 use network::Network;
 
-// Room for any file: a byte more than the longest image whose fields are each in range, and than any table.
+// Room for any file: a byte more than the longest image whose fields are each in range, and than any table. A BLIF text has no
+// longest length: one that fills it is not read.
 const ROOM: usize = image_laws::ROOM;
+
+// Room for the BLIF text of any network: 1,088 rows of 64 signs, 96 lines of 65 names, and the lines before them.
+const BLIF_ROOM: usize = 131072;
 
 // What is asked: a table alone asks for its report.
 enum Command {
     Report,
     Image,
+    Blif,
+    BlifTo,
     Show,
     Ask,
     Map,
     Other,
+}
+
+// What a file holds, by its beginning.
+enum Kind {
+    Table,
+    Image,
+    Blif,
 }
 
 // A network, where there is one; where there is none, that has been said.
@@ -77,18 +91,17 @@ fn extracted(text: &[u8]) -> Loaded {
     with(network)
 }
 
-// The network of an image; a refusal is printed.
-fn opened(bytes: &[u8]) -> Loaded {
-    let i = image_read::read(bytes);
-    let answer = i.answer;
+// The network that was read; a refusal is printed.
+fn handed(h: Handed) -> Loaded {
+    let answer = h.answer;
     if let expression::Verdict::Refused(k) = answer {
         return refused(k, 0);
     }
-    let network = i.network;
+    let network = h.network;
     with(network)
 }
 
-// ---- images
+// ---- images and BLIF texts
 
 // `orchards.image: 164 bytes, 80 literals`
 fn print_written(path: &[u8], bytes: usize, literals: u64) {
@@ -97,7 +110,7 @@ fn print_written(path: &[u8], bytes: usize, literals: u64) {
     line::print(b" literals");
 }
 
-fn store_image(bytes: &[u8], k: usize, path: &[u8], literals: u64) {
+fn store_front(bytes: &[u8], k: usize, path: &[u8], literals: u64) {
     if k > bytes.len() {
         return;
     }
@@ -106,11 +119,31 @@ fn store_image(bytes: &[u8], k: usize, path: &[u8], literals: u64) {
     }
 }
 
+// What was written goes to a file.
+fn store(a: Wrote, bytes: &[u8], path: &[u8], literals: u64) {
+    match a {
+        Wrote::Bytes(k) => store_front(bytes, k, path, literals),
+        Wrote::Refused(k) => line::refuse(k, 0),
+    }
+}
+
 fn write_image(n: Network, path: &[u8]) {
     let mut bytes = [0u8; 32768];
     let a = image_write::write(n, &mut bytes);
+    store(a, &bytes, path, form::literals(n));
+}
+
+fn write_blif(n: Network, path: &[u8]) {
+    let mut text = [0u8; BLIF_ROOM];
+    let a = blif_write::write(n, &mut text);
+    store(a, &text, path, form::literals(n));
+}
+
+fn print_blif(n: Network) {
+    let mut text = [0u8; BLIF_ROOM];
+    let a = blif_write::write(n, &mut text);
     match a {
-        Wrote::Bytes(k) => store_image(&bytes, k, path, form::literals(n)),
+        Wrote::Bytes(k) => print_front(&text, k),
         Wrote::Refused(k) => line::refuse(k, 0),
     }
 }
@@ -126,7 +159,7 @@ fn begins_table(b: u8) -> bool {
     }
 }
 
-// Whether a file for the map is a table; one of no byte is.
+// Whether a file is a table, where it is no BLIF text; one of no byte is.
 fn is_table(bytes: &[u8]) -> bool {
     if bytes.len() == 0 {
         return true;
@@ -134,10 +167,34 @@ fn is_table(bytes: &[u8]) -> bool {
     begins_table(bytes[0])
 }
 
-// The word is the path of an image, or a setting; the text of a table may name its inputs.
+fn kind_of(bytes: &[u8]) -> Kind {
+    if blif_read::is_blif(bytes) {
+        return Kind::Blif;
+    }
+    if is_table(bytes) {
+        return Kind::Table;
+    }
+    Kind::Image
+}
+
+// What is looked for, where the file is no BLIF text: some commands take tables alone, some images alone.
+fn kind_for(c: Command, k: Kind) -> Kind {
+    if let Kind::Blif = k {
+        return k;
+    }
+    match c {
+        Command::Report | Command::Image => Kind::Table,
+        Command::Show | Command::Ask => Kind::Image,
+        _ => k,
+    }
+}
+
+// The word is the path of a file to write, or a setting; the text of a table may name its inputs.
 fn on_network(c: Command, n: Network, word: &[u8], text: &[u8]) {
     match c {
         Command::Image => write_image(n, word),
+        Command::Blif => print_blif(n),
+        Command::BlifTo => write_blif(n, word),
         Command::Show => show::show(n),
         Command::Ask => show::ask(n, word),
         Command::Map => map::map(n, text),
@@ -153,30 +210,43 @@ fn on_loaded(c: Command, l: Loaded, word: &[u8], text: &[u8]) {
     }
 }
 
-fn on_map(bytes: &[u8]) {
-    if is_table(bytes) {
-        on_loaded(Command::Map, extracted(bytes), b"", bytes);
-        return;
+fn on_kind(c: Command, k: Kind, bytes: &[u8], word: &[u8]) {
+    match k {
+        Kind::Table => on_loaded(c, extracted(bytes), word, bytes),
+        Kind::Image => on_loaded(c, handed(image_read::read(bytes)), word, b""),
+        Kind::Blif => on_loaded(c, handed(blif_read::read(bytes)), word, b""),
     }
-    on_loaded(Command::Map, opened(bytes), b"", b"");
 }
 
-fn on_bytes(c: Command, bytes: &[u8], word: &[u8]) {
-    match c {
-        Command::Report => print_report(bytes),
-        Command::Map => on_map(bytes),
-        Command::Image => on_loaded(c, extracted(bytes), word, b""),
-        Command::Show => on_loaded(c, opened(bytes), word, b""),
-        Command::Ask => on_loaded(c, opened(bytes), word, b""),
-        Command::Other => {}
+// Whether the bytes are all of a BLIF text; one may be longer than the room.
+fn is_whole(k: Kind, bytes: &[u8]) -> bool {
+    if let Kind::Blif = k {
+        return bytes.len() < ROOM;
     }
+    true
+}
+
+fn on_whole(c: Command, k: Kind, bytes: &[u8], path: &[u8], word: &[u8]) {
+    if is_whole(k, bytes) {
+        on_kind(c, k, bytes, word);
+        return;
+    }
+    line::complain(path, b": a BLIF text so long is not read");
+}
+
+fn on_bytes(c: Command, bytes: &[u8], path: &[u8], word: &[u8]) {
+    if let Command::Report = c {
+        print_report(bytes);
+        return;
+    }
+    on_whole(c, kind_for(c, kind_of(bytes)), bytes, path, word);
 }
 
 fn file_into(c: Command, path: &[u8], word: &[u8], room: &mut [u8]) {
     let got = file::read(path, room);
     let n = got.count;
     if got.ok {
-        on_bytes(c, &room[0..n], word);
+        on_bytes(c, &room[0..n], path, word);
     }
 }
 
@@ -192,31 +262,39 @@ fn on_file(c: Command, path: &[u8], word: &[u8]) {
 
 // ---- words
 
-fn image_to(table: &[u8], path: &[u8]) {
-    if check::same(table, path) {
-        line::complain(path, b": the image needs a name of its own");
+fn write_to(c: Command, from: &[u8], path: &[u8]) {
+    if check::same(from, path) {
+        line::complain(path, b": what is written needs a name of its own");
         return;
     }
-    on_file(Command::Image, table, path);
+    on_file(c, from, path);
 }
 
-// `spindle image TABLE FILE`: where FILE is no path that can be held, that is said.
-fn image_at(table: &[u8], path: &[u8], is_whole: bool) {
-    if is_whole {
-        image_to(table, path);
+// `spindle image TABLE FILE`, `spindle blif TABLE FILE`: where FILE is no path that can be held, that is said.
+fn write_at(c: Command, from: &[u8], path: &[u8], is_held: bool) {
+    if is_held {
+        write_to(c, from, path);
         return;
     }
     line::fail(b"FILE");
 }
 
-// `spindle show IMAGE`, `spindle ask IMAGE SETTING`, `spindle map FILE`: a word too long to be held is no setting, as an empty one
-// is none.
+// Whether a command writes a file.
+fn writes(c: Command) -> bool {
+    match c {
+        Command::Image | Command::BlifTo => true,
+        _ => false,
+    }
+}
+
+// `spindle show IMAGE`, `spindle ask IMAGE SETTING`, `spindle map FILE`, `spindle blif FILE`: a word too long to be held is no
+// setting, as an empty one is none.
 fn with_word(c: Command, path: &[u8]) {
     let mut word = io::buffer();
     let k = os::arg(3, &mut word);
-    let is_whole = os::errno() == 0;
-    if let Command::Image = c {
-        image_at(path, &word[..k], is_whole);
+    let is_held = os::errno() == 0;
+    if writes(c) {
+        write_at(c, path, &word[..k], is_held);
         return;
     }
     on_file(c, path, &word[..k]);
@@ -224,11 +302,11 @@ fn with_word(c: Command, path: &[u8]) {
 
 // The file to read cannot be held.
 fn fail_path(c: Command) {
-    if let Command::Image = c {
-        line::fail(b"TABLE");
-        return;
+    match c {
+        Command::Image => line::fail(b"TABLE"),
+        Command::Show | Command::Ask => line::fail(b"IMAGE"),
+        _ => line::fail(b"FILE"),
     }
-    line::fail(b"IMAGE");
 }
 
 fn with_file(c: Command) {
@@ -253,6 +331,9 @@ fn image_or_show(word: &[u8]) -> Command {
 
 // The command that a word names.
 fn which(word: &[u8]) -> Command {
+    if check::same(word, b"blif") {
+        return Command::Blif;
+    }
     if check::same(word, b"ask") {
         return Command::Ask;
     }
@@ -265,13 +346,20 @@ fn which(word: &[u8]) -> Command {
 // How many words a command has that is named.
 fn words(c: Command) -> usize {
     match c {
-        Command::Image => 4,
-        Command::Ask => 4,
-        Command::Show => 3,
-        Command::Map => 3,
-        Command::Report => 0,
-        Command::Other => 0,
+        Command::Image | Command::Ask | Command::BlifTo => 4,
+        Command::Show | Command::Map | Command::Blif => 3,
+        Command::Report | Command::Other => 0,
     }
+}
+
+// `spindle blif` with a word more writes a file.
+fn with_count(c: Command, count: usize) -> Command {
+    if let Command::Blif = c {
+        if count == 4 {
+            return Command::BlifTo;
+        }
+    }
+    c
 }
 
 fn on_command(c: Command, count: usize) {
@@ -304,7 +392,7 @@ fn main() {
         return;
     }
     if count > 2 {
-        on_command(which(&word[..n]), count);
+        on_command(with_count(which(&word[..n]), count), count);
         return;
     }
     if os::errno() != 0 {

@@ -51,7 +51,7 @@ fn remove_word(r: &mut Random, line: &mut Vec<u8>) {
     *line = words.join(&b' ');
 }
 
-const LINES: [&[u8]; 44] = [
+const LINES: [&[u8]; 51] = [
     b"",
     b" ",
     b";",
@@ -95,6 +95,13 @@ const LINES: [&[u8]; 44] = [
     b"extract ; 1 1 0 ; ;",
     b"write ; 1 1 0 ; ; ; -",
     b"write ; 1 1 0 ; ; ;",
+    b"write-blif",
+    b"write-blif ; 1 1 0 ; ; ; -",
+    b"write-blif ; 1 1 0 ; ; ;",
+    b"write_blif ; 1 1 0 ; ; ; -",
+    b"read-blif",
+    b"read-blif -",
+    b"read-blif - -",
     b"ok",
 ];
 

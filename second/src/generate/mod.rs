@@ -1,5 +1,7 @@
 //! Request lines from a seed: good ones, damaged ones and limit cases.
 
+mod blif_damage;
+mod blifs;
 mod damage;
 mod expressions;
 mod images;
@@ -13,13 +15,26 @@ use crate::compare::OTHER;
 use crate::cubes::{is_over_long, lent_expression, without_dropped, Cube, Expression};
 use crate::divide::divide;
 use crate::network::Lent;
-use crate::protocol::{bytes_text, lent_words, number_text};
-use crate::{factor, image};
+use crate::protocol::{bytes_text, lent_words, number_text, MOST_LINE};
+use crate::{blif, factor, image};
 pub use random::Random;
 
 /// The operations, and lines that name none.
-pub const KINDS: [&str; 11] =
-    ["table", "divide", "cokernels", "factored", "literals", "evaluate", "extract", "write", "read", "report", OTHER];
+pub const KINDS: [&str; 13] = [
+    "table",
+    "divide",
+    "cokernels",
+    "factored",
+    "literals",
+    "evaluate",
+    "extract",
+    "write",
+    "read",
+    "write-blif",
+    "read-blif",
+    "report",
+    OTHER,
+];
 
 /// So many requests, spread over the kinds named, or over all.
 pub fn requests<'a>(seed: u64, count: u64, names: &'a [&'a str]) -> impl Iterator<Item = Vec<u8>> + 'a {
@@ -43,6 +58,8 @@ fn request(r: &mut Random, name: &str) -> Vec<u8> {
         "evaluate" => evaluate_line(r),
         "extract" => extract_line(r),
         "write" => write_line(r),
+        "write-blif" => write_blif_line(r),
+        "read-blif" => format!("read-blif {}", bytes_text(&blifs::text(r))),
         _ => return damage::other(r),
     };
     if r.one_in(16) {
@@ -213,4 +230,14 @@ fn write_line(r: &mut Random) -> String {
     let length = net.network().map(|network| image::write(&network).len());
     let room = rooms::bytes(r, length.unwrap_or(4));
     format!("{} ; {}", network_line("write", &net), bytes_text(&room))
+}
+
+/// A text is longer than its image, so that long rooms would not fit into a line.
+fn write_blif_line(r: &mut Random) -> String {
+    let net = if r.one_in(40) { networks::large(r) } else { networks::handed_in(r) };
+    let length = net.network().map(|network| blif::write(&network).len());
+    let head = network_line("write-blif", &net);
+    let mut room = if r.one_in(16) { Vec::new() } else { rooms::bytes(r, length.unwrap_or(50)) };
+    room.truncate((MOST_LINE - head.len() - 3) / 2);
+    format!("{head} ; {}", bytes_text(&room))
 }

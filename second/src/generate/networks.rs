@@ -42,6 +42,19 @@ pub fn handed_in(r: &mut Random) -> Lent {
     }
 }
 
+/// Something at the limits of variables, cubes or literals.
+pub fn large(r: &mut Random) -> Lent {
+    match r.below(4) {
+        0 => {
+            let network = many_variables(r);
+            lend(r, &network)
+        }
+        1 => wide(r),
+        2 => full_of_literals(r),
+        _ => one_long_node(r),
+    }
+}
+
 /// A network that keeps all rules: outputs and divisors from random cubes,
 /// after some steps, its divisors numbered in any order.
 pub fn good(r: &mut Random) -> Network {

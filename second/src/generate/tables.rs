@@ -2,7 +2,7 @@
 
 use super::expressions::{cube, cubes, first_variables, from_kit, kit, pool, unions};
 use super::random::Random;
-use crate::cubes::{Cube, Variable};
+use crate::cubes::Cube;
 
 type Line = Vec<u8>;
 
@@ -33,12 +33,7 @@ fn finished(r: &mut Random, change: impl Fn(&mut Random, &mut Vec<Line>)) -> Vec
 
 /// The input part of a cube line.
 fn input_part(cube: &Cube, inputs: usize) -> Line {
-    let mark = |v: Variable| match (cube.has(v.plain()), cube.has(v.negated())) {
-        (true, _) => b'1',
-        (_, true) => b'0',
-        _ => b'-',
-    };
-    first_variables(inputs).into_iter().map(mark).collect()
+    first_variables(inputs).into_iter().map(|v| cube.mark(v) as u8).collect()
 }
 
 fn cube_line(cube: &Cube, inputs: usize, marks: &[bool]) -> Line {

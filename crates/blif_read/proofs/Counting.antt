@@ -1,0 +1,106 @@
+-- Blocks passed one by one: what one pass answers, and that those before a place are counted, those from there on left. Assumes nothing.
+use Prim.Native.Nat.{ℕ, _≤_}
+use mathlib.Core.Path.{_≡_, refl, sym, ap, _∙_, subst}
+use mathlib.Core.Bool.{true, false}
+use mathlib.Core.List.{List, [], _∷_, _++_, map, append-nil, append-assoc, map-append, Memᴰ·append-right}
+use Rattle.sets.{specs.Word.largest, proofs.Truth.clash}
+use Rattle.letters_products.specs.Spelled.{spelled}
+use Rattle.network.{specs.Handed.flat, proofs.Handing.flat-last}
+use Rattle.blif_laws.specs.Text.{Block}
+use Rattle.blif_laws.specs.Reading.{namedIn}
+use Rattle.blif_scan.specs.Scanning.{left, EndedIs, labelOf}
+use Rattle.blif_lines.specs.Marking.{Raised}
+use Rattle.blif_read.specs.Surveying.{BlocksOf, SmallBlocks}
+use Rattle.blif_read.specs.Defining.{FirstIs, PassedNot, PassedIs}
+use Rattle.blif_lines.specs.Lining.{NamesGot, NamesNot, RowsGot, RowsNot}
+use Rattle.blif_scan.specs.declared.Label.{Label}
+use Rattle.blif_scan.specs.declared.Ended.{Ended}
+use Rattle.blif_lines.specs.declared.Names.{Names}
+use Rattle.blif_lines.specs.declared.Rows.{Rows}
+use Rattle.blif_read.specs.declared.defining.Passed.{Passed}
+use Rattle.blif_scan.specs.declared.Ended.the-variants as Ended
+use Rattle.blif_lines.proofs.Marking.{raised-none, raised-on}
+use Rattle.blif_read.proofs.Passing.{pass-none, pass-some, pass-unnamed, pass-rowless, pass-forth, pass-name, pass-numbers, pass-rest}
+
+-- ---- one pass
+
+-- no block is passed, and none is left
+abbrev nothing : Label → ℕ → Passed
+nothing a p = record { is = false; name = a; next = p }
+
+not-passed : {s : List ℕ} {at base : ℕ} {old new : List ℕ} (a : Label) (p : ℕ) → PassedNot s at old new → PassedIs s at base old new (nothing a p)
+not-passed a p h = record { one = λ e. clash e refl; none = λ e. h }
+
+module _ (s : List ℕ) (at base : ℕ) (old : List ℕ) (a : Label) (q : ℕ) where
+  pub passed-end : (e : Ended) → EndedIs s at (spelled ".names") e → ((p : ℕ) → e ≡ Ended.Space p → ⊥) → PassedIs s at base old old (nothing a q)
+  passed-end e h n = not-passed a q (record { size = refl; none = λ m bs l k f. (pass-none s at e h n m bs k, refl) })
+
+  module _ (p : ℕ) (h : EndedIs s at (spelled ".names") (Ended.Space p)) where
+    pub passed-unnamed : {new : List ℕ} → NamesNot s p old new → PassedIs s at base old new (nothing a q)
+    passed-unnamed n = not-passed a q (record { size = n .size; none = λ m bs l k f. absurd (pass-unnamed s at p (h .0) n m bs l k f) })
+
+    module _ {new : List ℕ} {r : Names} (g : NamesGot s p base old new r) {o w : List ℕ} where
+      pub passed-rowless : RowsNot s (r .next) (r .reads) o w → PassedIs s at base old new (nothing a q)
+      passed-rowless n = not-passed a q (record { size = g .marks .size; none = λ m bs l k f. absurd (pass-rowless s at p (h .0) g n m bs k) })
+
+      pub passed-one : {x : Rows} → RowsGot s (r .next) (r .reads) 0 o w x
+          → PassedIs s at base old new (record { is = true; name = r .name; next = x .next })
+      passed-one {x} y = record {
+        one = λ e. record { forth = pass-forth s at p (h .0) g y (h .1); size = g .marks .size; first = each };
+        none = λ e. clash refl e;
+      }
+        where
+          each : (m : ℕ) (bs : List Block) → m ≤ largest → BlocksOf (left s at) m bs → SmallBlocks bs
+              → FirstIs s base old new (record { is = true; name = r .name; next = x .next }) m bs
+          each m [] l k f = pass-some s at p (h .0) k
+          each m (b ∷ bs) l k f = record {
+            name = pass-name s at p (h .0) g y b bs k;
+            marks = subst (λ v. Raised base v old new) (pass-numbers s at p (h .0) g y b bs k) (g .marks);
+            rest = pass-rest s at p (h .0) g y b bs k;
+          }
+
+-- ---- all blocks
+
+-- the numbers that g takes of blocks
+abbrev pub taken : (Block → List ℕ) → List Block → List ℕ
+taken g bs = flat (map g bs)
+
+-- of the blocks bs some are counted, and the others are left from a place on
+pub record Tallied (s : List ℕ) (at m base : ℕ) (g : Block → List ℕ) (bs : List Block) (old new : List ℕ) : Type 0 where
+  pub done : List Block
+  pub rest : List Block
+  pub whole : bs ≡ done ++ rest
+  pub blocks : BlocksOf (left s at) m rest
+  pub small : SmallBlocks rest
+  pub marks : Raised base (taken g done) old new
+
+pub tally-first : {s : List ℕ} {at m : ℕ} {bs : List Block} (base : ℕ) (g : Block → List ℕ) (old : List ℕ) → BlocksOf (left s at) m bs → SmallBlocks bs
+    → Tallied s at m base g bs old old
+tally-first {bs = bs} base g old b k = record { done = []; rest = bs; whole = refl; blocks = b; small = k; marks = raised-none base old }
+
+-- the first block that is left is counted
+pub tally-next : {s : List ℕ} {at m base base′ : ℕ} {g : Block → List ℕ} {bs : List Block} {old mid new old′ new′ : List ℕ} (r : Passed)
+    (x : Tallied s at m base g bs old mid) → FirstIs s base′ old′ new′ r m (x .rest)
+    → ((b : Block) → labelOf (r .name) ≡ b .name → Raised base′ (namedIn b) old′ new′ → Raised base (g b) mid new)
+    → Tallied s (r .next) m base g bs old new
+tally-next {s} {at} {m} {base} {base′} {g} {bs} {old} {mid} {new} {old′} {new′} r x f c = go (x .rest) (x .whole) (x .small) f
+  where
+    added : (l : List Block) (b : Block) → taken g (l ++ (b ∷ [])) ≡ taken g l ++ g b
+    added l b = ap flat (map-append g l (b ∷ [])) ∙ flat-last (map g l) (g b)
+
+    go : (rest : List Block) → bs ≡ x .done ++ rest → SmallBlocks rest → FirstIs s base′ old′ new′ r m rest → Tallied s (r .next) m base g bs old new
+    go [] e k f = absurd f
+    go (b ∷ rest) e k f = record {
+      done = x .done ++ (b ∷ []);
+      rest = rest;
+      whole = e ∙ sym (append-assoc (x .done) (b ∷ []) rest);
+      blocks = f .rest;
+      small = λ v i. k v (Memᴰ·append-right (namedIn b) i);
+      marks = subst (λ l. Raised base l old new) (sym (added (x .done) b)) (raised-on (x .marks) (c b (f .name) (f .marks)));
+    }
+
+-- no block is left
+pub tally-done : {s : List ℕ} {at m base : ℕ} {g : Block → List ℕ} {bs : List Block} {old new : List ℕ} (x : Tallied s at m base g bs old new) → x .rest ≡ []
+    → Raised base (taken g bs) old new
+tally-done {base = base} {g = g} {old = old} {new = new} x e =
+    subst (λ l. Raised base (taken g l) old new) (sym (x .whole ∙ ap (x .done ++_) e ∙ append-nil (x .done))) (x .marks)

@@ -1,0 +1,15 @@
+pub mod Ending
+pub mod Written
+pub mod Blocking
+pub mod Passing
+pub mod Windows
+pub mod Counting
+pub mod Columns
+pub mod Taking
+pub mod Surveying
+pub mod Whole
+pub mod Summing
+pub mod Telling
+pub mod Building
+pub mod Finding
+pub mod Putting

@@ -1,0 +1,149 @@
+-- A whole text: its head is determined, with the blocks after it it is a text in the form, and a text of the form without a gap has none but small
+-- variables, since each stands in it. Assumes nothing.
+use Prim.Native.Nat.{ℕ, zero, suc, _+_, _≤_, max}
+use mathlib.Core.Path.{_≡_, refl, sym, ap, ap₂, _∙_, subst}
+use mathlib.Core.Bool.{Bool, true, false, cond, _&&_}
+use mathlib.Core.List.{List, [], _∷_, _++_, map, Memᴰ·append-right}
+use native.Mathlib.Omega.{arith}
+use lib.Dec.{eqb}
+use lib.ListN.{length}
+use Rattle.sets.specs.{Lists.from, Word.largest}
+use Rattle.sets.proofs.Truth.{together, refuted}
+use Rattle.sets.proofs.Sets.{mem-of}
+use Rattle.letters_products.specs.Spelled.{spelled}
+use Rattle.network.specs.Handed.{flat}
+use Rattle.blif_laws.specs.Text.{spaced, ended, firstNames, blockLines, headLines, Model, modelLines, modelText}
+use Rattle.blif_laws.specs.Reading.{wordsIn, joined, gapless}
+use Rattle.blif_laws.specs.Meaning.{isClear, InForm}
+use Rattle.blif_laws.proofs.Cutting.{words-spaced, clear-words}
+use Rattle.blif_laws.proofs.{Naming.names-clear, Naming.names-length, Forming.model-iff, Bounding.standing-below}
+use Rattle.blif_scan.specs.Scanning.{left}
+use Rattle.blif_scan.specs.Heading.{Headed}
+use Rattle.blif_lines.specs.Lining.{topOf}
+use Rattle.blif_read.specs.Surveying.{BlocksOf, namedBy, SmallBlocks, BlocksGot, BlocksNot, SurveyGot, SurveyNot}
+use Rattle.blif_read.specs.declared.form.Blocks.{Blocks}
+use Rattle.blif_read.proofs.Ending.{ended-more, closes-in, closes-out}
+use Rattle.blif_read.proofs.Written.{words-line}
+use Rattle.blif_read.proofs.Surveying.{top-append}
+
+-- ---- the head
+
+three-lines : (a b c r : List ℕ) → ended (a ∷ b ∷ c ∷ []) ++ r ≡ a ++ (10 ∷ (b ++ (10 ∷ (c ++ (10 ∷ r)))))
+unfolding ended
+three-lines a b c r =
+    ended-more a (b ∷ c ∷ []) r
+    ∙ ap (λ t. a ++ (10 ∷ t)) (ended-more b (c ∷ []) r ∙ ap (λ t. b ++ (10 ∷ t)) (ended-more c [] r))
+
+-- a line of a keyword and names has one number of names
+list-one : (k : List ℕ) (b n m : ℕ) → isClear k ≡ true → isClear (b ∷ []) ≡ true → spaced (k ∷ firstNames b n) ≡ spaced (k ∷ firstNames b m) → n ≡ m
+list-one k b n m h i e =
+    let w : k ∷ firstNames b n ≡ k ∷ firstNames b m = sym (back n) ∙ ap wordsIn e ∙ back m in
+    let q = ap length w in
+    omega (arith, names-length b n, names-length b m)
+  where
+    back : (x : ℕ) → wordsIn (spaced (k ∷ firstNames b x)) ≡ k ∷ firstNames b x
+    back x = words-spaced k (firstNames b x) (clear-words (k ∷ firstNames b x) (together (isClear k) _ h (names-clear b x i)))
+
+pub head-one : {t r u : List ℕ} {n m k j : ℕ} → Headed t n m r → Headed t k j u → (n ≡ k) × (m ≡ j) × (r ≡ u)
+unfolding headLines spelled
+head-one {t} {r} {u} {n} {m} {k} {j} p q =
+    let a = words-line (model (p .name)) (model (q .name)) (line (ins n) (line (outs m) r)) (line (ins k) (line (outs j) u))
+    (together (isClear (p .name)) true (p .clear) refl) (together (isClear (q .name)) true (q .clear) refl)
+    (sym (three-lines (spaced (model (p .name))) (spaced (ins n)) (spaced (outs m)) r)
+    ∙ sym (p .text)
+    ∙ q .text
+    ∙ three-lines (spaced (model (q .name))) (spaced (ins k)) (spaced (outs j)) u) in
+    let b = words-line (ins n) (ins k) (line (outs m) r) (line (outs j) u) (names-clear 120 n refl) (names-clear 120 k refl) (a .1) in
+    let c = words-line (outs m) (outs j) r u (names-clear 121 m refl) (names-clear 121 j refl) (b .1) in
+    (list-one (spelled ".inputs") 120 n k refl refl (b .0), list-one (spelled ".outputs") 121 m j refl refl (c .0), c .1)
+  where
+    model : List ℕ → List (List ℕ)
+    model w = spelled ".model" ∷ w ∷ []
+
+    ins : ℕ → List (List ℕ)
+    ins x = spelled ".inputs" ∷ firstNames 120 x
+
+    outs : ℕ → List (List ℕ)
+    outs x = spelled ".outputs" ∷ firstNames 121 x
+
+    line : List (List ℕ) → List ℕ → List ℕ
+    line ws x = spaced ws ++ (10 ∷ x)
+
+-- ---- the form
+
+-- the head, and the blocks after it
+pub form-head : {t : List ℕ} {d : Model} → InForm t d → (r : List ℕ) × Headed t (d .inputs) (d .outputs) r × BlocksOf r (d .outputs) (d .blocks)
+unfolding modelText modelLines
+form-head {t} {d} f =
+    let w = f .writes in
+    let c = closes-out t (headLines (w .name) (d .inputs) (d .outputs)) (flat (map blockLines (d .blocks))) (spelled ".end") (w .text) in
+    (c .0, record { name = w .name; good = w .good; clear = w .clear; text = c .1 }, record { each = f .formed; text = c .2 })
+
+pub head-form : {t r : List ℕ} {d : Model} → Headed t (d .inputs) (d .outputs) r → BlocksOf r (d .outputs) (d .blocks) → InForm t d
+unfolding modelText modelLines
+head-form {t} {r} {d} h b = record {
+  formed = b .each;
+  writes = record {
+    name = h .name;
+    good = h .good;
+    clear = h .clear;
+    text = closes-in t r (headLines (h .name) (d .inputs) (d .outputs)) (flat (map blockLines (d .blocks)) ++ (spelled ".end" ∷ [])) (h .text) (b .text);
+  };
+}
+
+-- ---- the largest variable
+
+top-from : (k n : ℕ) → topOf (from k (suc n)) ≡ k + suc n
+unfolding from
+top-from k zero = omega arith
+top-from k (suc n) = let e = top-from (suc k) n in omega arith
+
+top-first : (n : ℕ) → topOf (from 0 n) ≡ n
+unfolding from
+top-first zero = refl
+top-first (suc n) = let e = top-from 0 n in omega arith
+
+-- ---- what is found, and what is not
+
+pub surveyed : {s : List ℕ} {n m p t : ℕ} {b : Blocks} → Headed (left s 0) n m (left s p) → n ≤ length s → m ≤ length s → BlocksGot s p m b
+    → t ≡ max n (b .top) → SurveyGot s (record { is = true; inputs = n; outputs = m; rows = b .rows; top = t; first = p })
+surveyed {s} {n} {m} {p} {t} {b} h i j g e = record {
+  model = record { inputs = n; outputs = m; blocks = g .blocks };
+  form = head-form h (g .are);
+  inputs = refl;
+  outputs = refl;
+  blocks = g .are;
+  small = g .small;
+  rows = g .rows;
+  top = e ∙ ap₂ max (sym (top-first n)) (g .top) ∙ sym (top-append (from 0 n) (namedBy (g .blocks)));
+  fits = (i, j);
+}
+
+pub headless : {s : List ℕ} → ((n m : ℕ) (r : List ℕ) → Headed (left s 0) n m r → ⊥) → SurveyNot s
+headless {s} h = record { none = λ d f. let r = form-head f in absurd (h (d .inputs) (d .outputs) (r .0) (r .1)) }
+
+joined-short : (t : List ℕ) → length (joined t) ≤ length t
+unfolding joined
+joined-short [] = omega arith
+joined-short (b ∷ []) = omega arith
+joined-short (b ∷ d ∷ t) = go (eqb b 92 && eqb d 10) (joined-short t) (joined-short (d ∷ t))
+  where
+    go : (x : Bool) → length (joined t) ≤ length t → length (joined (d ∷ t)) ≤ length (d ∷ t)
+        → length (cond x (joined t) (b ∷ joined (d ∷ t))) ≤ length (b ∷ d ∷ t)
+    go true h k = omega arith
+    go false h k = omega arith
+
+-- a variable of a text without a gap is small
+small-blocks : (s : List ℕ) (d : Model) → length s ≤ largest → InForm (joined s) d → gapless d ≡ true → SmallBlocks (d .blocks)
+small-blocks s d h f g v i =
+    let k = standing-below (joined s) d v (model-iff (joined s) d .1 f) g (mem-of (Memᴰ·append-right (from 0 (d .inputs)) i)) in
+    omega (arith, joined-short s)
+
+pub blockless : {s : List ℕ} {n m p : ℕ} → length s ≤ largest → Headed (left s 0) n m (left s p) → BlocksNot s p m → SurveyNot s
+blockless {s} {n} {m} {p} h a b = record {
+  none = λ d f. refuted (λ g.
+      let r = form-head f in
+      let o = head-one (r .1) a in
+      b .none (d .blocks) (small-blocks s d h f g)
+      (subst (λ x. BlocksOf x m (d .blocks)) (o .2) (subst (λ x. BlocksOf (r .0) x (d .blocks)) (o .1) (r .2))));
+}

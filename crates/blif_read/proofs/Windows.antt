@@ -1,0 +1,186 @@
+-- Numbers tested window by window: a window's marks against what its numbers count, windows one after the other, and what the counts mean for a model.
+-- Assumes nothing.
+use Prim.Native.Nat.{ℕ, zero, suc, _+_, _-_, _≤_, _<_, min}
+use mathlib.Core.Path.{_≡_, refl, sym, ap, ap₂, _∙_}
+use mathlib.Core.Logic.{inl, inr}
+use mathlib.Core.Bool.{Bool, true, false, cond, _&&_, _||_}
+use mathlib.Core.List.{List, [], _∷_, _++_}
+use native.Mathlib.Omega.{arith}
+use borrow.Author.Tests.{eq-eqb, ne-eqb, eqb-true, eqb-false, lt-ltb, le-ltb, ltb-true, ltb-false, le-leb, leb-true}
+use lib.Dec.{eqb, leb, ltb}
+use lib.ListN.{length, getD, take, replicate, length-replicate, getD-replicate}
+use Rattle.sets.specs.{Lists.all, Lists.from, Sets.mem}
+use Rattle.sets.proofs.Truth.{iff, both, together, or-left, decided, clash, refuted}
+use Rattle.sets.proofs.Lists.{all-cong, total-append}
+use Rattle.sets.proofs.Sets.{mem-of, all-mem, mem-all, from-mem, mem-append}
+use Rattle.blif_laws.specs.Text.{Name, variable, output, Block}
+use Rattle.blif_laws.specs.Reading.{standing, sameName, blocksFor, timesDefined}
+use Rattle.blif_lines.specs.Marking.{times, Raised}
+use Rattle.blif_read.specs.Surveying.{namedBy}
+use Rattle.blif_read.specs.Defining.{numberIf, definedBy, timesIn, modelBy}
+use Rattle.blif_lines.proofs.Marking.{raised-on}
+
+-- ---- numbers in a row
+
+pub in-row : (k m v : ℕ) → k ≤ v → v < k + m → mem v (from k m) ≡ true
+in-row k m v h l = from-mem k m v ∙ together (leb k v) (ltb v (k + m)) (le-leb k v h) (lt-ltb v (k + m) l)
+
+pub row-in : (k m v : ℕ) → mem v (from k m) ≡ true → (k ≤ v) × (v < k + m)
+row-in k m v h = let q = both (leb k v) (ltb v (k + m)) (sym (from-mem k m v) ∙ h) in (leb-true k v (q .0), ltb-true v (k + m) (q .1))
+
+module _ (p : ℕ → Bool) where
+  -- a window after those that passed
+  pub windows-on : (base k : ℕ) → all p (from 0 base) ≡ true → all p (from base k) ≡ true → all p (from 0 (base + k)) ≡ true
+  windows-on base k a b = all-mem p (from 0 (base + k)) (λ v m.
+      let q = row-in 0 (base + k) v m in
+      elim (decided (ltb v base)) [
+        | inl t ↦ mem-all p (from 0 base) v a (in-row 0 base v (omega arith) (omega (arith, ltb-true v base t)))
+        | inr t ↦ mem-all p (from base k) v b (in-row base k v (ltb-false v base t) (omega (arith, q .1)))
+      ])
+
+  -- a window that fails
+  pub windows-stop : (base k top : ℕ) → base + k ≤ top → all p (from base k) ≡ false → all p (from 0 top) ≡ false
+  windows-stop base k top h f = refuted (λ t. clash (all-mem p (from base k) (λ v m.
+      let q = row-in base k v m in mem-all p (from 0 top) v t (in-row 0 top v (omega arith) (omega (arith, q .1))))) f)
+
+  -- all windows passed
+  pub windows-done : (base top : ℕ) → top ≤ base → all p (from 0 base) ≡ true → all p (from 0 top) ≡ true
+  windows-done base top h a = all-mem p (from 0 top) (λ v m.
+      mem-all p (from 0 base) v a (in-row 0 base v (omega arith) (omega (arith, row-in 0 top v m .1))))
+
+-- a test of the first marks is a test of the window's numbers
+pub window-all : (f h : ℕ → Bool) (l : List ℕ) (base k : ℕ) → k ≤ length l → ((i : ℕ) → i < k → f (getD l i 0) ≡ h (base + i))
+    → all f (take k l) ≡ all h (from base k)
+unfolding from
+window-all f h l base zero s q = refl
+window-all f h [] base (suc k) s q = absurd (omega arith)
+window-all f h (x ∷ l) base (suc k) s q =
+    let z : base + 0 ≡ base = omega arith in
+    ap₂ _&&_ (q 0 (omega arith) ∙ ap h z)
+    (window-all f h l (suc base) k (omega arith) (λ i t. let e : base + suc i ≡ suc base + i = omega arith in q (suc i) (omega arith) ∙ ap h e))
+
+-- ---- counts
+
+-- a number that is counted is in the list
+pub times-mem : (v : ℕ) (l : List ℕ) → leb 1 (times v l) ≡ mem v l
+unfolding mem
+times-mem v [] = refl
+times-mem v (u ∷ l) = go (eqb v u) (times-mem v l)
+  where
+    go : (b : Bool) → leb 1 (times v l) ≡ mem v l → leb 1 (cond b 1 0 + times v l) ≡ (b || mem v l)
+    go true h = le-leb 1 (1 + times v l) (omega arith)
+    go false h = let e : 0 + times v l ≡ times v l = omega arith in ap (leb 1) e ∙ h
+
+-- a number from k on is counted once where it is one of the row
+pub times-row : (k m v : ℕ) → k ≤ v → times v (from k m) ≡ cond (ltb v (k + m)) 1 0
+unfolding from
+times-row k zero v h = rw (le-ltb v (k + 0) (omega arith))
+times-row k (suc m) v h = elim (decided (eqb v k)) [
+  | inl t ↦ let e : v ≡ k = eqb-true v k t in
+      rw (t, lt-ltb v (k + suc m) (omega arith)) (omega (arith, times-below (suc k) m v (omega arith)))
+  | inr t ↦ let n = eqb-false v k t in
+      let e : suc k + m ≡ k + suc m = omega arith in
+      rw t (omega (arith, times-row (suc k) m v (omega (arith, n)) ∙ ap (λ (x : ℕ). cond (ltb v x) 1 0) e))
+]
+  where
+    times-below : (k m v : ℕ) → v < k → times v (from k m) ≡ 0
+    times-below k zero v h = refl
+    times-below k (suc m) v h = rw (ne-eqb v k (λ e. omega arith)) (omega (arith, times-below (suc k) m v (omega arith)))
+
+-- ---- the marks of a window, at first all zero
+
+module _ (w : ℕ) {base k : ℕ} {new : List ℕ} (s : k ≤ w) where
+  pub window-met : (l : List ℕ) → Raised base l (replicate w 0) new → all (λ x. leb 1 x) (take k new) ≡ all (λ v. mem v l) (from base k)
+  window-met l r = window-all (λ x. leb 1 x) (λ v. mem v l) new base k (omega (arith, r .size, length-replicate {A = ℕ} w 0))
+      (λ i h.
+      let z = getD-replicate {A = ℕ} w i 0 0 (omega arith) in
+      let e = r .each i (omega (arith, length-replicate {A = ℕ} w 0)) (omega (arith, z)) in
+      let q = times-mem (base + i) l in
+      iff (λ t. sym q ∙ le-leb 1 (times (base + i) l) (omega (arith, e, z, leb-true 1 (getD new i 0) t)))
+      (λ t. le-leb 1 (getD new i 0) (omega (arith, e, z, leb-true 1 (times (base + i) l) (q ∙ t)))))
+
+  pub window-once : (l : List ℕ) (n : ℕ) {mid : List ℕ} → Raised base l (replicate w 0) mid → Raised base (from base (min (n - base) w)) mid new
+      → all (λ x. eqb x 1) (take k new) ≡ all (λ v. eqb (cond (ltb v n) 1 0 + times v l) 1) (from base k)
+  window-once l n a b = window-all (λ x. eqb x 1) (λ v. eqb (cond (ltb v n) 1 0 + times v l) 1) new base k
+      (omega (arith, r .size, length-replicate {A = ℕ} w 0)) each
+    where
+      f : List ℕ
+      f = from base (min (n - base) w)
+
+      r : Raised base (l ++ f) (replicate w 0) new
+      r = raised-on a b
+
+      inputs : (i : ℕ) → i < k → times (base + i) f ≡ cond (ltb (base + i) n) 1 0
+      inputs i h = times-row base (min (n - base) w) (base + i) (omega arith)
+          ∙ ap (λ (t : Bool). cond t 1 0) (iff (λ t. lt-ltb (base + i) n (omega (arith, ltb-true (base + i) (base + min (n - base) w) t)))
+          (λ t. lt-ltb (base + i) (base + min (n - base) w) (omega (arith, ltb-true (base + i) n t))))
+
+      each : (i : ℕ) → i < k → eqb (getD new i 0) 1 ≡ eqb (cond (ltb (base + i) n) 1 0 + times (base + i) l) 1
+      each i h =
+          let z = getD-replicate {A = ℕ} w i 0 0 (omega arith) in
+          let e = r .each i (omega (arith, length-replicate {A = ℕ} w 0)) (omega (arith, z)) in
+          let t = total-append (λ u. cond (eqb (base + i) u) 1 0) l f in
+          let c = inputs i h in
+          let a = getD new i 0 in
+          let b = cond (ltb (base + i) n) 1 0 + times (base + i) l in
+          iff (λ x. eq-eqb b 1 (omega (arith, e, z, t, c, eqb-true a 1 x))) (λ x. eq-eqb a 1 (omega (arith, e, z, t, c, eqb-true b 1 x)))
+
+-- ---- what is counted, for a model
+
+-- how often the blocks define a name
+times-blocks : (o : Bool) (a : Name) (v : ℕ) → ((u : Name) → times v (numberIf o u) ≡ cond (sameName a u) 1 0) → (bs : List Block)
+    → times v (definedBy o bs) ≡ length (blocksFor a bs)
+times-blocks o a v h [] = refl
+times-blocks o a v h (b ∷ bs) =
+    total-append (λ u. cond (eqb v u) 1 0) (numberIf o (b .name)) (definedBy o bs)
+    ∙ go (sameName a (b .name)) (h (b .name)) (times-blocks o a v h bs)
+  where
+    go : (t : Bool) → times v (numberIf o (b .name)) ≡ cond t 1 0 → times v (definedBy o bs) ≡ length (blocksFor a bs)
+        → times v (numberIf o (b .name)) + times v (definedBy o bs) ≡ length (cond t (b ∷ blocksFor a bs) (blocksFor a bs))
+    go true e r = omega (arith, e, r)
+    go false e r = omega (arith, e, r)
+
+times-variable : (v : ℕ) (bs : List Block) → times v (definedBy false bs) ≡ length (blocksFor (variable v) bs)
+times-variable v bs = times-blocks false (variable v) v one bs
+  where
+    one : (u : Name) → times v (numberIf false u) ≡ cond (sameName (variable v) u) 1 0
+    one (variable u) = omega arith
+    one (output j) = refl
+
+times-output : (j : ℕ) (bs : List Block) → times j (definedBy true bs) ≡ length (blocksFor (output j) bs)
+times-output j bs = times-blocks true (output j) j one bs
+  where
+    one : (u : Name) → times j (numberIf true u) ≡ cond (sameName (output j) u) 1 0
+    one (variable v) = refl
+    one (output i) = omega arith
+
+module _ (n m : ℕ) (bs : List Block) where
+  -- variables and outputs that are defined once
+  once-variables : (k : ℕ) → all (λ v. eqb (timesIn false n bs v) 1) (from 0 k) ≡ all (λ v. eqb (timesDefined (modelBy n m bs) (variable v)) 1) (from 0 k)
+  unfolding timesDefined
+  once-variables k = all-cong _ _ (from 0 k) (λ v i. ap (λ (x : ℕ). eqb (cond (ltb v n) 1 0 + x) 1) (times-variable v bs))
+
+  once-outputs : (k : ℕ) → all (λ j. eqb (timesIn true 0 bs j) 1) (from 0 k) ≡ all (λ j. eqb (timesDefined (modelBy n m bs) (output j)) 1) (from 0 k)
+  unfolding timesDefined
+  once-outputs k = all-cong _ _ (from 0 k) (λ j i. rw (le-ltb j 0 (omega arith)) (ap (λ (x : ℕ). eqb (0 + x) 1) (times-output j bs)))
+
+  -- the test of all variables and outputs, from the test of the variables and that of the outputs
+  module _ (k : ℕ) {r : Bool} (e : r ≡ all (λ v. eqb (timesIn false n bs v) 1) (from 0 k)) where
+    pub once-none : r ≡ false → false ≡ (all (λ v. eqb (timesDefined (modelBy n m bs) (variable v)) 1) (from 0 k)
+        && all (λ j. eqb (timesDefined (modelBy n m bs) (output j)) 1) (from 0 m))
+    once-none h = ap (_&& all (λ j. eqb (timesDefined (modelBy n m bs) (output j)) 1) (from 0 m)) (sym h ∙ e ∙ once-variables k)
+
+    pub once-both : {q : Bool} → r ≡ true → q ≡ all (λ j. eqb (timesIn true 0 bs j) 1) (from 0 m)
+        → q ≡ (all (λ v. eqb (timesDefined (modelBy n m bs) (variable v)) 1) (from 0 k)
+        && all (λ j. eqb (timesDefined (modelBy n m bs) (output j)) 1) (from 0 m))
+    once-both h f = f ∙ once-outputs m ∙ ap (_&& all (λ j. eqb (timesDefined (modelBy n m bs) (output j)) 1) (from 0 m)) (sym h ∙ e ∙ once-variables k)
+
+  -- the inputs stand
+  pub inputs-stand : all (λ v. mem v (standing (modelBy n m bs))) (from 0 n) ≡ true
+  inputs-stand = all-mem (λ v. mem v (standing (modelBy n m bs))) (from 0 n) (λ v i. mem-append v (from 0 n) (namedBy bs) ∙ or-left _ _ i)
+
+  -- from n on those stand that blocks name
+  pub others-stand : (base k : ℕ) → n ≤ base → all (λ v. mem v (standing (modelBy n m bs))) (from base k) ≡ all (λ v. mem v (namedBy bs)) (from base k)
+  others-stand base k h = all-cong _ _ (from base k) (λ v i.
+      let out : mem v (from 0 n) ≡ false = refuted (λ t. omega (arith, row-in base k v (mem-of i) .0, row-in 0 n v t .1)) in
+      mem-append v (from 0 n) (namedBy bs) ∙ ap (_|| mem v (namedBy bs)) out)

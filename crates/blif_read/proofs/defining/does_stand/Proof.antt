@@ -1,0 +1,16 @@
+-- `blif_read::does_stand` meets its contract: a number of the window stands where its mark, at first zero, is not. Assumes nothing.
+use mathlib.Core.Path.{_∙_}
+use borrow.Author.Needs.{needs}
+use Rattle.blif_lines.specs.Marking.{window}
+use Rattle.blif_read.specs.Surveying.{namedBy}
+use Rattle.blif_read.proofs.Windows.{window-met}
+use Rattle.blif_read.proofs.defining.does_stand.Statement.{statement}
+use Rattle.blif_read.proofs.defining.does_stand.Tie as tie
+
+returns : tie.Need-returns
+returns c = λ m bs f b k.
+    let s = c .before .before .before .before .before .before in
+    c .all-met .ensures ∙ window-met window (s .pre) (namedBy bs) (c .before .before .before .stand .ensures m bs f b k)
+
+pub does-stand-spec : {M : Type 1} → statement M
+does-stand-spec = tie.close (tie.spec (λ c. search needs) (λ c κs. search needs) (λ c. search needs) (λ c κs. search needs) returns)

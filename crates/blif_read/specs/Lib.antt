@@ -1,0 +1,4 @@
+pub mod Surveying
+pub mod Defining
+pub mod Building
+pub mod Reading
