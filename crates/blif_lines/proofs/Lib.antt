@@ -1,3 +1,4 @@
 pub mod Marking
 pub mod Lining
 pub mod Rowing
+pub mod Windows

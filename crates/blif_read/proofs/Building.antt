@@ -27,10 +27,10 @@ use Rattle.blif_laws.proofs.Modelling.{gathered-in}
 use Rattle.blif_laws.specs.Text.{Name, variable, output, Block}
 use Rattle.blif_laws.specs.Reading.{namedIn, standing, sameName, blocksFor, inputTimes, timesDefined, definedOnce, cubesFor, divisorsIn, netIn}
 use Rattle.blif_scan.specs.Scanning.{left}
-use Rattle.blif_read.specs.Surveying.{BlocksOf, SmallBlock, SmallBlocks}
+use Rattle.blif_form.specs.Surveying.{BlocksOf, SmallBlock, SmallBlocks}
 use Rattle.blif_read.specs.Defining.{modelBy}
 use Rattle.blif_read.specs.Building.{NamedIs, nameAt, Buildable}
-use Rattle.blif_read.proofs.Windows.{in-row}
+use Rattle.blif_lines.proofs.Windows.{in-row}
 
 -- ---- names
 

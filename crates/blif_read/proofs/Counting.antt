@@ -10,7 +10,7 @@ use Rattle.blif_laws.specs.Text.{Block}
 use Rattle.blif_laws.specs.Reading.{namedIn}
 use Rattle.blif_scan.specs.Scanning.{left, EndedIs, labelOf}
 use Rattle.blif_lines.specs.Marking.{Raised}
-use Rattle.blif_read.specs.Surveying.{BlocksOf, SmallBlocks}
+use Rattle.blif_form.specs.Surveying.{BlocksOf, SmallBlocks}
 use Rattle.blif_read.specs.Defining.{FirstIs, PassedNot, PassedIs}
 use Rattle.blif_lines.specs.Lining.{NamesGot, NamesNot, RowsGot, RowsNot}
 use Rattle.blif_scan.specs.declared.Label.{Label}
@@ -20,7 +20,7 @@ use Rattle.blif_lines.specs.declared.Rows.{Rows}
 use Rattle.blif_read.specs.declared.defining.Passed.{Passed}
 use Rattle.blif_scan.specs.declared.Ended.the-variants as Ended
 use Rattle.blif_lines.proofs.Marking.{raised-none, raised-on}
-use Rattle.blif_read.proofs.Passing.{pass-none, pass-some, pass-unnamed, pass-rowless, pass-forth, pass-name, pass-numbers, pass-rest}
+use Rattle.blif_form.proofs.Passing.{pass-none, pass-some, pass-unnamed, pass-rowless, pass-forth, pass-name, pass-numbers, pass-rest}
 
 -- ---- one pass
 

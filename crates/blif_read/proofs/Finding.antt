@@ -9,7 +9,7 @@ use Rattle.sets.{specs.Word.largest, proofs.Lists._∈_}
 use Rattle.letters_products.specs.Spelled.{spelled}
 use Rattle.blif_laws.specs.Text.{Name, Block}
 use Rattle.blif_scan.specs.Scanning.{left, EndedIs, labelOf}
-use Rattle.blif_read.specs.Surveying.{BlockOf, BlocksOf, SmallBlocks}
+use Rattle.blif_form.specs.Surveying.{BlockOf, BlocksOf, SmallBlocks}
 use Rattle.blif_read.specs.Defining.{FirstIs, PassedGot, PassedNot}
 use Rattle.blif_read.specs.Building.{BeginsAt, StandsAt, FoundIs}
 use Rattle.blif_scan.specs.declared.Label.{Label}
@@ -18,7 +18,7 @@ use Rattle.blif_read.specs.declared.build.Place.{Place}
 use Rattle.blif_scan.specs.declared.Ended.{Ended}
 use Rattle.blif_scan.specs.declared.Ended.the-variants as Ended
 use Rattle.blif_read.specs.declared.build.Place.the-variants as Place
-use Rattle.blif_read.proofs.Blocking.{block-begins, blocks-first, small-others}
+use Rattle.blif_form.proofs.Blocking.{block-begins, blocks-first, small-others}
 
 -- `.names` and its space
 pub begin-space : (s : List ℕ) (at : ℕ) {e : Ended} {p : ℕ} → EndedIs s at (spelled ".names") e → e ≡ Ended.Space p → BeginsAt s at (Place.At p)

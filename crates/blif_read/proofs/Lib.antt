@@ -1,13 +1,5 @@
-pub mod Ending
-pub mod Written
-pub mod Blocking
-pub mod Passing
-pub mod Windows
+pub mod Tallying
 pub mod Counting
-pub mod Columns
-pub mod Taking
-pub mod Surveying
-pub mod Whole
 pub mod Summing
 pub mod Telling
 pub mod Building

@@ -32,13 +32,13 @@ use Rattle.blif_scan.specs.Scanning.{left}
 use Rattle.blif_lines.specs.Marking.{times, Raised}
 use Rattle.blif_lines.specs.Lining.{variableIn, NamesGot, Signs, rowLine, RowGot, RowNot, RowsOf}
 use Rattle.blif_read.specs.Building.{markedIn, Columns, SignsAre, RowsPut}
-use Rattle.blif_read.specs.Surveying.{BlockOf}
+use Rattle.blif_form.specs.Surveying.{BlockOf}
 use Rattle.blif_lines.specs.declared.Names.{Names}
-use Rattle.blif_read.proofs.Windows.{in-row, row-in, times-mem}
-use Rattle.blif_read.proofs.Ending.{ended-more, line-one, plain-front}
-use Rattle.blif_read.proofs.Written.{row-plain}
-use Rattle.blif_read.proofs.Blocking.{signsFor, Blocked, block-blocked, signs-cubes}
-use Rattle.blif_read.proofs.Passing.{reads-own, count-own, rows-own}
+use Rattle.blif_lines.proofs.Windows.{in-row, row-in, times-mem}
+use Rattle.blif_form.proofs.Ending.{ended-more, line-one, plain-front}
+use Rattle.blif_form.proofs.Written.{row-plain}
+use Rattle.blif_form.proofs.Blocking.{signsFor, Blocked, block-blocked, signs-cubes}
+use Rattle.blif_form.proofs.Passing.{reads-own, count-own, rows-own}
 
 -- ---- the signs of a row
 

@@ -27,11 +27,11 @@ use Rattle.letters_products.specs.Spelled.{spelled}
 use Rattle.blif_scan.specs.Scanning.{left, EndedIs, bySpace, byLine, byEnd}
 use Rattle.blif_scan.specs.declared.Ended.{Ended}
 use Rattle.blif_scan.specs.declared.Ended.the-variants as Ended
-use Rattle.blif_read.specs.Surveying.{SurveyGot, SurveyNot, SurveyBy, SurveyIs}
+use Rattle.blif_form.specs.Surveying.{SurveyGot, SurveyNot, SurveyBy, SurveyIs}
 use Rattle.blif_read.specs.Defining.{modelBy, GaplessIs, OnceIs}
 use Rattle.blif_read.specs.Building.{Buildable}
 use Rattle.blif_read.specs.Reading.{few, FinishedIs}
-use Rattle.blif_read.specs.declared.form.Survey.{Survey}
+use Rattle.blif_form.specs.declared.Survey.{Survey}
 use Rattle.blif_lines.specs.Lining.{topOf}
 use Rattle.blif_laws.proofs.Forming.{model-iff}
 use Rattle.blif_read.proofs.Summing.{gapless-top, once-top, divisors-top, inputs-top, cubes-sum, reads-top, divisor-there}

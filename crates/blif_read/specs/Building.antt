@@ -16,7 +16,7 @@ use Rattle.blif_laws.specs.Text.{Name, variable, output, Block}
 use Rattle.blif_laws.specs.Reading.{cubeIn, blocksFor, cubesFor, definedOnce, divisorsIn, netIn}
 use Rattle.blif_scan.specs.Scanning.{left, Forth, labelOf}
 use Rattle.blif_lines.specs.Lining.{RowsOf}
-use Rattle.blif_read.specs.Surveying.{BlockOf, BlocksOf, SmallBlock, SmallBlocks}
+use Rattle.blif_form.specs.Surveying.{BlockOf, BlocksOf, SmallBlock, SmallBlocks}
 use Rattle.blif_read.specs.Defining.{modelBy}
 use Rattle.blif_scan.specs.declared.Label.{Label}
 use Rattle.blif_read.specs.declared.build.Place.{Place}

@@ -11,7 +11,7 @@ use Rattle.blif_laws.specs.Text.{Name, variable, output, Block, Model}
 use Rattle.blif_laws.specs.Reading.{namedIn, standing, timesDefined}
 use Rattle.blif_scan.specs.Scanning.{left, Forth, labelOf}
 use Rattle.blif_lines.specs.Marking.{times, Raised}
-use Rattle.blif_read.specs.Surveying.{BlocksOf, SmallBlocks, namedBy}
+use Rattle.blif_form.specs.Surveying.{BlocksOf, SmallBlocks, namedBy}
 use Rattle.blif_scan.specs.declared.Label.{Label}
 use Rattle.blif_read.specs.declared.defining.Passed.{Passed}
 

@@ -1,4 +1,3 @@
-pub mod Surveying
 pub mod Defining
 pub mod Building
 pub mod Reading

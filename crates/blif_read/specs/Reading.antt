@@ -12,7 +12,7 @@ use Rattle.network.specs.{Handed.gives, Handed.refuses, Handed.Told, declared.H
 use Rattle.blif_laws.specs.Text.{variable, Block}
 use Rattle.blif_laws.specs.Reading.{definedOnce, divisorsIn, netIn, keepsRules}
 use Rattle.blif_scan.specs.Scanning.{left}
-use Rattle.blif_read.specs.Surveying.{BlocksOf, SmallBlocks}
+use Rattle.blif_form.specs.Surveying.{BlocksOf, SmallBlocks}
 use Rattle.blif_read.specs.Defining.{modelBy}
 
 -- the numbers of inputs, outputs, variables and rows are within the limits

@@ -1,7 +1,6 @@
 // The reader of BLIF texts: 14 for the form and a gap, then 15 for what is not defined once, then 10.
 mod build;
 mod defining;
-mod form;
 
 use blif_scan::Ended;
 use expression::Verdict;
@@ -51,7 +50,7 @@ fn finish(s: &[u8], first: usize, n: usize, m: usize, k: usize) -> Handed
 pub fn read(text: &[u8]) -> Handed
     ensures { λ r. ⌜ Told (readBlif (now (text .entry))) r ⌝ }
 {
-    let v = form::take_survey(text);
+    let v = blif_form::take_survey(text);
     if !v.is {
         return network::refuse(14);
     }

@@ -6,7 +6,8 @@ use borrow.Author.Needs.{needs}
 use Rattle.letters_products.specs.Spelled.{spelled}
 use Rattle.blif_laws.specs.Reading.{isBlif}
 use Rattle.blif_scan.specs.{Scanning.EndedIs, declared.Ended.Ended}
-use Rattle.blif_read.proofs.{Telling.begun, Telling.begun-told, is_blif.Statement.statement}
+use Rattle.blif_read.proofs.Telling.{begun, begun-told}
+use Rattle.blif_read.proofs.is_blif.Statement.{statement}
 use Rattle.blif_read.proofs.is_blif.Tie as tie
 
 abbrev text : tie.After-keyword → List ℕ

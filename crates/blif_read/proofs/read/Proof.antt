@@ -5,7 +5,7 @@ use Prim.Native.Nat.{_≤_}
 use Rattle.sets.specs.Word.{largest}
 use borrow.Author.Needs.{needs}
 use borrow.Author.Tests.{not-true, not-false}
-use Rattle.blif_read.specs.Surveying.{SurveyGot}
+use Rattle.blif_form.specs.Surveying.{SurveyGot}
 use Rattle.blif_read.proofs.Telling.{survey-got, survey-not, formless-told, gap-told, once-told, many-told, inputs-below, buildable, finish-told}
 use Rattle.blif_read.proofs.read.Statement.{statement}
 use Rattle.blif_read.proofs.read.Tie as tie

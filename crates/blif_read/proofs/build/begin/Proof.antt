@@ -5,7 +5,7 @@ use native.Mathlib.Omega.{arith}
 use borrow.Author.Needs.{needs}
 use Rattle.letters_products.specs.Spelled.{spelled}
 use Rattle.blif_read.proofs.Finding.{begin-space}
-use Rattle.blif_read.proofs.Passing.{names-other}
+use Rattle.blif_form.proofs.Passing.{names-other}
 use Rattle.blif_read.proofs.build.begin.Statement.{statement}
 use Rattle.blif_read.proofs.build.begin.Tie as tie
 

@@ -8,8 +8,8 @@ use lib.ListN.{length}
 use lib.Seq.{length-take-le}
 use Rattle.network.specs.Held.{mostVariables}
 use Rattle.expression.{proofs.Words.cubes-few, proofs.Placing.placed-sort}
-use Rattle.blif_read.proofs.Blocking.{namedFor, block-blocked, block-ascends}
-use Rattle.blif_read.proofs.Passing.{names-are, names-none}
+use Rattle.blif_form.proofs.Blocking.{namedFor, block-blocked, block-ascends}
+use Rattle.blif_form.proofs.Passing.{names-are, names-none}
 use Rattle.blif_read.proofs.Putting.{padded-many, node-few, node-put}
 use Rattle.blif_read.proofs.build.put_node.Statement.{statement}
 use Rattle.blif_read.proofs.build.put_node.Tie as tie

@@ -11,8 +11,8 @@ use Rattle.sets.specs.{Lists.all, Lists.from, Word.largest}
 use Rattle.blif_laws.specs.Text.{Block}
 use Rattle.blif_scan.specs.Scanning.{left}
 use Rattle.blif_read.specs.Defining.{timesIn}
-use Rattle.blif_read.specs.Surveying.{BlocksOf, SmallBlocks}
-use Rattle.blif_read.proofs.Windows.{windows-on, windows-stop, windows-done}
+use Rattle.blif_form.specs.Surveying.{BlocksOf, SmallBlocks}
+use Rattle.blif_lines.proofs.Windows.{windows-on, windows-stop, windows-done}
 use Rattle.blif_read.proofs.defining.are_defined.Statement.{statement}
 use Rattle.blif_read.proofs.defining.are_defined.Tie as tie
 

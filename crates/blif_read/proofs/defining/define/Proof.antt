@@ -11,7 +11,7 @@ use Rattle.blif_laws.specs.Text.{Name, Block}
 use Rattle.blif_scan.specs.Scanning.{left}
 use Rattle.blif_lines.specs.Marking.{Raised}
 use Rattle.blif_read.specs.Defining.{numberIf}
-use Rattle.blif_read.specs.Surveying.{BlocksOf, SmallBlocks}
+use Rattle.blif_form.specs.Surveying.{BlocksOf, SmallBlocks}
 use Rattle.blif_read.proofs.Counting.{Tallied, tally-first, tally-next, tally-done}
 use Rattle.blif_read.proofs.defining.define.Statement.{statement}
 use Rattle.blif_read.proofs.defining.define.Tie as tie

@@ -2,8 +2,8 @@
 use mathlib.Core.Path.{_∙_}
 use borrow.Author.Needs.{needs}
 use Rattle.blif_lines.specs.Marking.{window}
-use Rattle.blif_read.specs.Surveying.{namedBy}
-use Rattle.blif_read.proofs.Windows.{window-met}
+use Rattle.blif_form.specs.Surveying.{namedBy}
+use Rattle.blif_lines.proofs.Windows.{window-met}
 use Rattle.blif_read.proofs.defining.does_stand.Statement.{statement}
 use Rattle.blif_read.proofs.defining.does_stand.Tie as tie
 

@@ -10,8 +10,9 @@ use Rattle.sets.specs.{Lists.all, Lists.from, Sets.mem, Word.largest}
 use Rattle.blif_laws.specs.{Text.Block, Reading.standing}
 use Rattle.blif_scan.specs.Scanning.{left}
 use Rattle.blif_read.specs.Defining.{modelBy}
-use Rattle.blif_read.specs.Surveying.{BlocksOf, SmallBlocks}
-use Rattle.blif_read.proofs.Windows.{windows-on, windows-stop, windows-done, inputs-stand, others-stand}
+use Rattle.blif_form.specs.Surveying.{BlocksOf, SmallBlocks}
+use Rattle.blif_lines.proofs.Windows.{windows-on, windows-stop, windows-done}
+use Rattle.blif_read.proofs.Tallying.{inputs-stand, others-stand}
 use Rattle.blif_read.proofs.defining.is_gapless.Statement.{statement}
 use Rattle.blif_read.proofs.defining.is_gapless.Tie as tie
 

@@ -11,7 +11,7 @@ use Rattle.blif_scan.specs.Scanning.{EndedIs}
 use Rattle.blif_scan.specs.declared.Ended.{Ended}
 use Rattle.blif_scan.specs.declared.Ended.the-variants.{Space}
 use Rattle.blif_scan.proofs.Ended.{the-type}
-use Rattle.blif_read.proofs.Passing.{names-are, names-none, rows-are, rows-none}
+use Rattle.blif_form.proofs.Passing.{names-are, names-none, rows-are, rows-none}
 use Rattle.blif_read.proofs.Counting.{passed-end, passed-unnamed, passed-rowless, passed-one}
 use Rattle.blif_read.proofs.defining.pass.Statement.{statement}
 use Rattle.blif_read.proofs.defining.pass.Tie as tie

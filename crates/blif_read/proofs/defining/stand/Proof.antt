@@ -9,7 +9,7 @@ use lib.ListN.{length}
 use Rattle.sets.specs.Word.{largest}
 use Rattle.blif_laws.specs.{Text.Block, Reading.namedIn}
 use Rattle.blif_scan.specs.Scanning.{left}
-use Rattle.blif_read.specs.Surveying.{BlocksOf, SmallBlocks}
+use Rattle.blif_form.specs.Surveying.{BlocksOf, SmallBlocks}
 use Rattle.blif_read.proofs.Counting.{Tallied, tally-first, tally-next, tally-done}
 use Rattle.blif_read.proofs.defining.stand.Statement.{statement}
 use Rattle.blif_read.proofs.defining.stand.Tie as tie

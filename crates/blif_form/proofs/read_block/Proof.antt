@@ -1,4 +1,4 @@
--- `blif_read::form::read_block` meets its contract: names, rows and used columns make a block, and where one of them fails there is none.
+-- `blif_form::read_block` meets its contract: names, rows and used columns make a block, and where one of them fails there is none.
 -- Assumes nothing.
 use Prim.Native.Nat.{ℕ, _≤_}
 use mathlib.Core.Path.{_≡_, sym, _∙_, subst}
@@ -12,11 +12,11 @@ use Rattle.sets.specs.Word.{largest}
 use Rattle.blif_laws.specs.Reading.{among}
 use Rattle.blif_scan.specs.Scanning.{labelOf}
 use Rattle.blif_lines.specs.Lining.{NamesBy, RowsBy}
-use Rattle.blif_read.specs.Surveying.{UsedIs, BlockBy, BlockNot}
-use Rattle.blif_read.specs.declared.form.Found.{Found}
-use Rattle.blif_read.proofs.Taking.{nameless, outside, rowless, unused, found}
-use Rattle.blif_read.proofs.form.read_block.Statement.{statement}
-use Rattle.blif_read.proofs.form.read_block.Tie as tie
+use Rattle.blif_form.specs.Surveying.{UsedIs, BlockBy, BlockNot}
+use Rattle.blif_form.specs.declared.Found.{Found}
+use Rattle.blif_form.proofs.Taking.{nameless, outside, rowless, unused, found}
+use Rattle.blif_form.proofs.read_block.Statement.{statement}
+use Rattle.blif_form.proofs.read_block.Tie as tie
 
 -- the states: the names read, the name compared, the rows read, the columns tested
 abbrev start : tie.After-read-names → tie.Start

@@ -1,4 +1,4 @@
--- `blif_read::form::all_used` meets its contract. The loop's invariant: the columns before `base` are used. The measure is how many are left.
+-- `blif_form::all_used` meets its contract. The loop's invariant: the columns before `base` are used. The measure is how many are left.
 -- Assumes nothing.
 use Prim.Native.Nat.{ℕ, _+_, _-_, _<_, _≤_}
 use mathlib.Core.Path.{_≡_, refl, _∙_, subst}
@@ -7,10 +7,10 @@ use native.Mathlib.Omega.{arith}
 use borrow.Author.Needs.{needs}
 use borrow.Author.Tests.{not-true, not-false}
 use lib.ListN.{length}
-use Rattle.blif_read.specs.Surveying.{UsedFrom}
-use Rattle.blif_read.proofs.Columns.{used-none, used-more, used-less, used-all}
-use Rattle.blif_read.proofs.form.all_used.Statement.{statement}
-use Rattle.blif_read.proofs.form.all_used.Tie as tie
+use Rattle.blif_form.specs.Surveying.{UsedFrom}
+use Rattle.blif_form.proofs.Columns.{used-none, used-more, used-less, used-all}
+use Rattle.blif_form.proofs.all_used.Statement.{statement}
+use Rattle.blif_form.proofs.all_used.Tie as tie
 
 abbrev Inv-loop : tie.InvT-loop
 Inv-loop s at r marks₀ base₀ marks base = (base ≤ r) × (length marks ≡ length marks₀) × UsedFrom s at r 0 base true

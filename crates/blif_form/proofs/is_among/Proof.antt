@@ -1,10 +1,10 @@
--- `blif_read::form::is_among` meets its contract: an output is compared with m. Assumes nothing.
+-- `blif_form::is_among` meets its contract: an output is compared with m. Assumes nothing.
 use mathlib.Core.Path.{sym, ap}
 use borrow.Author.Needs.{needs}
 use Rattle.blif_laws.specs.Reading.{among}
 use Rattle.blif_scan.specs.Scanning.{labelOf}
-use Rattle.blif_read.proofs.form.is_among.Statement.{statement}
-use Rattle.blif_read.proofs.form.is_among.Tie as tie
+use Rattle.blif_form.proofs.is_among.Statement.{statement}
+use Rattle.blif_form.proofs.is_among.Tie as tie
 
 returns : tie.Need-returns-2
 returns c = sym (ap (λ x. among (c .before .before .before .args .m) (labelOf x)) (c .before .name .given .1))

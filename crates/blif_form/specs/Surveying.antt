@@ -12,9 +12,9 @@ use Rattle.blif_laws.specs.Reading.{joined, pointed, namedIn, standing, gapless
 use Rattle.blif_laws.specs.Meaning.{FormedBlock, InForm}
 use Rattle.blif_scan.specs.Scanning.{left, Forth, labelOf}
 use Rattle.blif_lines.specs.Lining.{topOf, RowsOf, signedIn}
-use Rattle.blif_read.specs.declared.form.Found.{Found}
-use Rattle.blif_read.specs.declared.form.Blocks.{Blocks}
-use Rattle.blif_read.specs.declared.form.Survey.{Survey}
+use Rattle.blif_form.specs.declared.Found.{Found}
+use Rattle.blif_form.specs.declared.Blocks.{Blocks}
+use Rattle.blif_form.specs.declared.Survey.{Survey}
 
 -- whether every column of the rows has a `0` or `1`, whatever the rows are
 abbrev pub UsedIs : List ℕ → ℕ → ℕ → Bool → Type 0

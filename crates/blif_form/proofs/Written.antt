@@ -21,7 +21,7 @@ use Rattle.blif_laws.proofs.Cutting.{words-spaced, clear-out, clear-words, clea
 use Rattle.blif_laws.proofs.Naming.{name-one, name-clear, text-clear}
 use Rattle.blif_laws.proofs.Rowing.{place-clear}
 use Rattle.blif_lines.specs.Lining.{wordsOf, Signs, rowLine, RowsOf}
-use Rattle.blif_read.proofs.Ending.{line-one, isPlain, lines-one}
+use Rattle.blif_form.proofs.Ending.{line-one, isPlain, lines-one}
 
 -- ---- words
 

@@ -1,4 +1,4 @@
--- `blif_read::form::walk` meets its contract. The loop's invariant: the blocks before the place are passed. The measure is what is left of the
+-- `blif_form::walk` meets its contract. The loop's invariant: the blocks before the place are passed. The measure is what is left of the
 -- text. Assumes nothing.
 use Prim.Native.Nat.{ℕ, _-_}
 use mathlib.Core.Path.{_≡_, refl, _∙_, subst}
@@ -11,12 +11,12 @@ use borrow.Author.Tests.{not-true, not-false}
 use lib.ListN.{length}
 use Rattle.letters_products.specs.Spelled.{spelled}
 use Rattle.blif_scan.specs.Scanning.{EndedIs}
-use Rattle.blif_read.specs.Surveying.{BlockBy}
+use Rattle.blif_form.specs.Surveying.{BlockBy}
 use Rattle.blif_scan.specs.declared.Ended.{Ended}
 use Rattle.blif_scan.specs.declared.Ended.the-variants as Ended
-use Rattle.blif_read.proofs.Surveying.{Passed, passed-none, passed-more, passed-few, walked, walked-not}
-use Rattle.blif_read.proofs.form.walk.Statement.{statement}
-use Rattle.blif_read.proofs.form.walk.Tie as tie
+use Rattle.blif_form.proofs.Surveying.{Passed, passed-none, passed-more, passed-few, walked, walked-not}
+use Rattle.blif_form.proofs.walk.Statement.{statement}
+use Rattle.blif_form.proofs.walk.Tie as tie
 
 abbrev Inv-loop : tie.InvT-loop
 Inv-loop s at m marks₀ p₀ rows₀ top₀ t11 marks p rows top = Passed s at m p rows top × (length marks ≡ length marks₀)

@@ -14,15 +14,15 @@ use Rattle.blif_laws.specs.Text.{Block, ended}
 use Rattle.blif_laws.specs.Reading.{namedIn}
 use Rattle.blif_scan.specs.Scanning.{left, NextIs, byLine, byEnd, EndedIs}
 use Rattle.blif_lines.specs.Lining.{topOf}
-use Rattle.blif_read.specs.Surveying.{BlockOf, BlockGot, BlockNot, EndingIs, BlocksOf, namedBy, SmallBlocks, rowsBy, BlocksBy, BlocksNot}
+use Rattle.blif_form.specs.Surveying.{BlockOf, BlockGot, BlockNot, EndingIs, BlocksOf, namedBy, SmallBlocks, rowsBy, BlocksBy, BlocksNot}
 use Rattle.blif_scan.specs.declared.Next.{Next}
 use Rattle.blif_scan.specs.declared.Ended.{Ended}
-use Rattle.blif_read.specs.declared.form.Found.{Found}
+use Rattle.blif_form.specs.declared.Found.{Found}
 use Rattle.blif_scan.specs.declared.Next.the-variants as Next
 use Rattle.blif_scan.specs.declared.Ended.the-variants as Ended
-use Rattle.blif_read.proofs.Ending.{Closes}
-use Rattle.blif_read.proofs.Blocking.{block-begins, block-one, blocks-first, blocks-more, small-first, small-others}
-use Rattle.blif_read.proofs.Passing.{names-begin, end-names, names-other}
+use Rattle.blif_form.proofs.Ending.{Closes}
+use Rattle.blif_form.proofs.Blocking.{block-begins, block-one, blocks-first, blocks-more, small-first, small-others}
+use Rattle.blif_form.proofs.Passing.{names-begin, end-names, names-other}
 
 -- two texts that go on in different ways after the same word
 parted : (w t u : List ℕ) (x y : ℕ) → (x ≡ y → ⊥) → w ++ (x ∷ t) ≡ w ++ (y ∷ u) → ⊥

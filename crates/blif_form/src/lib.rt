@@ -11,22 +11,22 @@ ghost use Rattle.network.specs.Held.{mostCubes};
 ghost use Rattle.blif_laws.specs.Reading.{among};
 ghost use Rattle.blif_scan.specs.Scanning.{labelOf};
 ghost use Rattle.blif_lines.specs.Marking.{Window};
-ghost use Rattle.blif_read.specs.Surveying.{UsedIs, UsedFrom, BlockIs, EndingIs, BlocksIs, SurveyIs};
+ghost use Rattle.blif_form.specs.Surveying.{UsedIs, UsedFrom, BlockIs, EndingIs, BlocksIs, SurveyIs};
 
 // A block: what it defines, how many rows it has, one more than the largest variable it names, and the place after it.
-pub struct Found {
-    pub is: bool,
-    pub name: Label,
-    pub rows: usize,
-    pub top: usize,
-    pub next: usize,
+struct Found {
+    is: bool,
+    name: Label,
+    rows: usize,
+    top: usize,
+    next: usize,
 }
 
 // All blocks: their rows, as far as a network may have cubes and one more, and one more than the largest variable.
-pub struct Blocks {
-    pub are: bool,
-    pub rows: usize,
-    pub top: usize,
+struct Blocks {
+    are: bool,
+    rows: usize,
+    top: usize,
 }
 
 // A text of the form: inputs, outputs, rows, one more than the largest variable, and where the blocks begin.
@@ -82,7 +82,7 @@ fn is_used(s: &[u8], at: usize, r: usize, base: usize, k: usize, marks: &mut [u8
 }
 
 // Whether each of r columns has a `0` or `1` in some of the rows here.
-pub fn all_used(s: &[u8], at: usize, r: usize, marks: &mut [u8]) -> bool
+fn all_used(s: &[u8], at: usize, r: usize, marks: &mut [u8]) -> bool
     requires { ⌜ Window (now marks) ⌝ }
     ensures { λ a. ⌜ UsedIs (now (s .entry)) at r a × (length (now (marks .exit)) ≡ length (now (marks .entry))) ⌝ }
 {
@@ -121,7 +121,7 @@ fn no_block(at: usize) -> Found
 }
 
 // The block here, after `.names` and its space; an output is one of m.
-pub fn read_block(s: &[u8], at: usize, m: usize, marks: &mut [u8]) -> Found
+fn read_block(s: &[u8], at: usize, m: usize, marks: &mut [u8]) -> Found
     requires { ⌜ Window (now marks) ⌝ }
     ensures { λ r. ⌜ BlockIs (now (s .entry)) at m r × (length (now (marks .exit)) ≡ length (now (marks .entry))) ⌝ }
 {
@@ -203,7 +203,7 @@ fn walk(s: &[u8], at: usize, m: usize, marks: &mut [u8]) -> Blocks
 }
 
 // The blocks here, and `.end`.
-pub fn read_blocks(s: &[u8], at: usize, m: usize) -> Blocks
+fn read_blocks(s: &[u8], at: usize, m: usize) -> Blocks
     ensures { λ r. ⌜ BlocksIs (now (s .entry)) at m r ⌝ }
 {
     let mut marks = [0u8; blif_lines::WINDOW];

@@ -1,4 +1,4 @@
--- `blif_read::form::is_used` meets its contract: the marks are cleared, the rows raise them, and those that are met are the columns used.
+-- `blif_form::is_used` meets its contract: the marks are cleared, the rows raise them, and those that are met are the columns used.
 -- Assumes nothing.
 use Prim.Native.Nat.{ℕ}
 use mathlib.Core.Path.{_≡_, _∙_, subst}
@@ -8,9 +8,9 @@ use borrow.Author.Needs.{needs}
 use borrow.Author.Tests.{not-true, not-false}
 use lib.ListN.{length}
 use Rattle.blif_lines.specs.Lining.{RowsBy}
-use Rattle.blif_read.proofs.Columns.{window-used, window-none}
-use Rattle.blif_read.proofs.form.is_used.Statement.{statement}
-use Rattle.blif_read.proofs.form.is_used.Tie as tie
+use Rattle.blif_form.proofs.Columns.{window-used, window-none}
+use Rattle.blif_form.proofs.is_used.Statement.{statement}
+use Rattle.blif_form.proofs.is_used.Tie as tie
 
 -- the states: the marks cleared, the rows read
 abbrev cleared : tie.After-read-rows → tie.After-clear

@@ -25,11 +25,11 @@ use Rattle.blif_laws.proofs.Rowing.{cube-over, signs-back}
 use Rattle.network_reads.proofs.Reading.{reads-asc}
 use Rattle.blif_lines.specs.Lining.{Signs, signed, signedIn, RowsGot, RowsNot}
 use Rattle.blif_lines.specs.Marking.{times, Cleared}
-use Rattle.blif_read.specs.Surveying.{UsedIs, UsedFrom}
+use Rattle.blif_form.specs.Surveying.{UsedIs, UsedFrom}
 use Rattle.blif_lines.specs.declared.Rows.{Rows}
-use Rattle.blif_read.proofs.Written.{rows-one}
-use Rattle.blif_read.proofs.Blocking.{signsFor}
-use Rattle.blif_read.proofs.Windows.{in-row, row-in, windows-on, windows-stop, windows-done, window-all, times-mem}
+use Rattle.blif_form.proofs.Written.{rows-one}
+use Rattle.blif_form.proofs.Blocking.{signsFor}
+use Rattle.blif_lines.proofs.Windows.{in-row, row-in, windows-on, windows-stop, windows-done, window-all, times-mem}
 
 -- ---- the columns of a row
 

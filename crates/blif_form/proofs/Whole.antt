@@ -20,11 +20,11 @@ use Rattle.blif_laws.proofs.{Naming.names-clear, Naming.names-length, Forming.m
 use Rattle.blif_scan.specs.Scanning.{left}
 use Rattle.blif_scan.specs.Heading.{Headed}
 use Rattle.blif_lines.specs.Lining.{topOf}
-use Rattle.blif_read.specs.Surveying.{BlocksOf, namedBy, SmallBlocks, BlocksGot, BlocksNot, SurveyGot, SurveyNot}
-use Rattle.blif_read.specs.declared.form.Blocks.{Blocks}
-use Rattle.blif_read.proofs.Ending.{ended-more, closes-in, closes-out}
-use Rattle.blif_read.proofs.Written.{words-line}
-use Rattle.blif_read.proofs.Surveying.{top-append}
+use Rattle.blif_form.specs.Surveying.{BlocksOf, namedBy, SmallBlocks, BlocksGot, BlocksNot, SurveyGot, SurveyNot}
+use Rattle.blif_form.specs.declared.Blocks.{Blocks}
+use Rattle.blif_form.proofs.Ending.{ended-more, closes-in, closes-out}
+use Rattle.blif_form.proofs.Written.{words-line}
+use Rattle.blif_form.proofs.Surveying.{top-append}
 
 -- ---- the head
 

@@ -1,4 +1,4 @@
--- `blif_read::form::take_survey` meets its contract: the head and the blocks that are found make the text, and where one is not found no text of the
+-- `blif_form::take_survey` meets its contract: the head and the blocks that are found make the text, and where one is not found no text of the
 -- form without a gap is there. Assumes nothing.
 use Prim.Native.Nat.{ℕ, _≤_}
 use mathlib.Core.Path.{_≡_, sym, subst}
@@ -10,12 +10,12 @@ use borrow.Author.Tests.{not-true, not-false}
 use lib.ListN.{length}
 use Rattle.sets.specs.Word.{largest}
 use Rattle.blif_scan.specs.Heading.{HeadIs}
-use Rattle.blif_read.specs.Surveying.{BlocksBy, SurveyBy, SurveyNot}
+use Rattle.blif_form.specs.Surveying.{BlocksBy, SurveyBy, SurveyNot}
 use Rattle.blif_scan.specs.declared.Head.{Head}
-use Rattle.blif_read.specs.declared.form.Survey.{Survey}
-use Rattle.blif_read.proofs.Whole.{surveyed, headless, blockless}
-use Rattle.blif_read.proofs.form.take_survey.Statement.{statement}
-use Rattle.blif_read.proofs.form.take_survey.Tie as tie
+use Rattle.blif_form.specs.declared.Survey.{Survey}
+use Rattle.blif_form.proofs.Whole.{surveyed, headless, blockless}
+use Rattle.blif_form.proofs.take_survey.Statement.{statement}
+use Rattle.blif_form.proofs.take_survey.Tie as tie
 
 -- the states: the head read, the blocks read
 abbrev headed : tie.After-read-blocks → tie.After-h

@@ -24,9 +24,9 @@ use Rattle.blif_laws.proofs.Blocking.{reads-cover, reads-below, block-lines}
 use Rattle.network_reads.proofs.Reading.{reads-asc}
 use Rattle.blif_scan.specs.Scanning.{Small}
 use Rattle.blif_lines.specs.Lining.{wordsOf, variableIn, numbersIn, Ascends, Signs, rowLine, RowsOf}
-use Rattle.blif_read.specs.Surveying.{BlockOf, SmallBlock, BlocksOf, namedBy, SmallBlocks}
-use Rattle.blif_read.proofs.Ending.{ended-more, Closes, closes-in, closes-out, closes-point}
-use Rattle.blif_read.proofs.Written.{names-one, rows-one}
+use Rattle.blif_form.specs.Surveying.{BlockOf, SmallBlock, BlocksOf, namedBy, SmallBlocks}
+use Rattle.blif_form.proofs.Ending.{ended-more, Closes, closes-in, closes-out, closes-point}
+use Rattle.blif_form.proofs.Written.{names-one, rows-one}
 
 -- ---- the lines of a block
 

@@ -14,14 +14,14 @@ use Rattle.blif_laws.specs.Text.{Block, ended}
 use Rattle.blif_laws.specs.Reading.{Named, namedIn}
 use Rattle.blif_scan.specs.Scanning.{left, Forth, EndedIs, bySpace, labelOf}
 use Rattle.blif_lines.specs.Lining.{numbersIn, NamesGot, NamesNot, NamesIs, NamesBy, RowsOf, RowsGot, RowsNot, RowsIs, RowsBy}
-use Rattle.blif_read.specs.Surveying.{BlockOf, BlocksOf, SmallBlocks}
+use Rattle.blif_form.specs.Surveying.{BlockOf, BlocksOf, SmallBlocks}
 use Rattle.blif_scan.specs.declared.Ended.{Ended}
 use Rattle.blif_lines.specs.declared.Names.{Names}
 use Rattle.blif_lines.specs.declared.Rows.{Rows}
 use Rattle.blif_scan.specs.declared.Ended.the-variants as Ended
-use Rattle.blif_read.proofs.Ending.{Closes}
-use Rattle.blif_read.proofs.Written.{names-one, rows-one}
-use Rattle.blif_read.proofs.Blocking.{namedFor, signsFor, numbers-named, Blocked, block-blocked, block-begins, block-ascends, blocks-first, small-first}
+use Rattle.blif_form.proofs.Ending.{Closes}
+use Rattle.blif_form.proofs.Written.{names-one, rows-one}
+use Rattle.blif_form.proofs.Blocking.{namedFor, signsFor, numbers-named, Blocked, block-blocked, block-begins, block-ascends, blocks-first, small-first}
 
 -- ---- the word that begins a block
 

@@ -1,0 +1,8 @@
+pub mod Ending
+pub mod Written
+pub mod Blocking
+pub mod Passing
+pub mod Columns
+pub mod Taking
+pub mod Surveying
+pub mod Whole
