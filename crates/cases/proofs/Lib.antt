@@ -2,3 +2,4 @@ pub mod Opening
 pub mod Testing
 pub mod Cases
 pub mod Texts
+pub mod Blif

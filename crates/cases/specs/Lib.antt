@@ -2,3 +2,4 @@ pub mod Tests
 pub mod Cases
 pub mod Meaning
 pub mod Texts
+pub mod Blif
