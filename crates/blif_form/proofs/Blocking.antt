@@ -2,8 +2,7 @@
 -- `.end`. Assumes nothing.
 use Prim.Native.Nat.{ℕ, _<_, _≤_}
 use mathlib.Core.Path.{_≡_, refl, sym, ap, ap₂, _∙_, subst}
-use mathlib.Core.Logic.{inl, inr}
-use mathlib.Core.Bool.{true}
+use mathlib.Core.{Logic.inl, Logic.inr, Bool.true}
 use mathlib.Core.List.{List, [], _∷_, _++_, map, append-nil, append-assoc, append-cancel-left, List·Memᴰ·head as here, List·Memᴰ·tail as there}
 use mathlib.Core.List.{List·Memᴰ·cases-cons, List·Memᴰ·eq-of-singleton, Memᴰ·append-left, Memᴰ·append-right}
 use native.Mathlib.Omega.{arith}
@@ -15,13 +14,11 @@ use Rattle.letters.specs.Letters.{nameText}
 use Rattle.letters_products.specs.Spelled.{spelled}
 use Rattle.expression.specs.Expression.{reach}
 use Rattle.network.specs.Handed.{flat}
-use Rattle.network_reads.specs.Reading.{readsOf}
+use Rattle.network_reads.{specs.Reading.readsOf, proofs.Reading.reads-asc}
 use Rattle.blif_laws.specs.Text.{Name, variable, output, nameWord, spaced, ended, signOf, rowWords, Block, namesWords, blockLines}
 use Rattle.blif_laws.specs.Reading.{pointed, Named, cubeIn, namedIn}
-use Rattle.blif_laws.specs.Meaning.{FormedBlock}
-use Rattle.blif_laws.proofs.Rowing.{signs-place, signs-cube}
+use Rattle.blif_laws.{specs.Meaning.FormedBlock, proofs.Rowing.signs-place, proofs.Rowing.signs-cube}
 use Rattle.blif_laws.proofs.Blocking.{reads-cover, reads-below, block-lines}
-use Rattle.network_reads.proofs.Reading.{reads-asc}
 use Rattle.blif_scan.specs.Scanning.{Small}
 use Rattle.blif_lines.specs.Lining.{wordsOf, variableIn, numbersIn, Ascends, Signs, rowLine, RowsOf}
 use Rattle.blif_form.specs.Surveying.{BlockOf, SmallBlock, BlocksOf, namedBy, SmallBlocks}

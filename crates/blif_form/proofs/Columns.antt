@@ -9,26 +9,18 @@ use native.Mathlib.Omega.{arith}
 use lib.Dec.{eqb, leb}
 use lib.ListN.{length, getD, take, length-map}
 use borrow.Author.Tests.{eq-eqb, ne-eqb, le-leb, lt-ltb, leb-true}
-use Rattle.sets.specs.Lists.{all, from}
-use Rattle.sets.specs.Literal.{plainOf, negatedOf}
-use Rattle.sets.specs.Sets.{mem, asc}
-use Rattle.sets.proofs.Truth.{iff, refuted}
+use Rattle.sets.specs.{Lists.all, Lists.from, Literal.plainOf, Literal.negatedOf, Sets.mem, Sets.asc}
+use Rattle.sets.proofs.{Truth.iff, Truth.refuted, Rows.getD-map, Places.at-in, Places.in-at}
 use Rattle.sets.proofs.Lists.{_∈_, map-out, map-map, map-fixed}
 use Rattle.sets.proofs.Sets.{mem-of, of-mem, union-mem, mem-append, all-mem, mem-all, ext}
-use Rattle.sets.proofs.Rows.{getD-map}
-use Rattle.sets.proofs.Places.{at-in, in-at}
 use Rattle.network_reads.specs.Reading.{variablesOf, readsOf}
 use Rattle.network_reads.proofs.Reading.{variable-is, reads-out}
-use Rattle.blif_laws.specs.Text.{signOf}
-use Rattle.blif_laws.specs.Reading.{cubeIn}
-use Rattle.blif_laws.proofs.Rowing.{cube-over, signs-back}
+use Rattle.blif_laws.{specs.Text.signOf, specs.Reading.cubeIn, proofs.Rowing.cube-over, proofs.Rowing.signs-back}
 use Rattle.network_reads.proofs.Reading.{reads-asc}
 use Rattle.blif_lines.specs.Lining.{Signs, signed, signedIn, RowsGot, RowsNot}
-use Rattle.blif_lines.specs.Marking.{times, Cleared}
+use Rattle.blif_lines.specs.{Marking.times, Marking.Cleared, declared.Rows.Rows}
 use Rattle.blif_form.specs.Surveying.{UsedIs, UsedFrom}
-use Rattle.blif_lines.specs.declared.Rows.{Rows}
-use Rattle.blif_form.proofs.Written.{rows-one}
-use Rattle.blif_form.proofs.Blocking.{signsFor}
+use Rattle.blif_form.proofs.{Written.rows-one, Blocking.signsFor}
 use Rattle.blif_lines.proofs.Windows.{in-row, row-in, windows-on, windows-stop, windows-done, window-all, times-mem}
 
 -- ---- the columns of a row

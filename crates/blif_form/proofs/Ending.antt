@@ -7,12 +7,9 @@ use mathlib.Core.Bool.{Bool, true, false, not, _&&_}
 use mathlib.Core.List.{List, [], _∷_, _++_, append-nil, append-assoc, append-cancel-left, append-cancel-right}
 use lib.Dec.{eqb}
 use borrow.Author.Tests.{not-true}
-use Rattle.sets.specs.Lists.{all}
-use Rattle.sets.proofs.Truth.{both, clash}
+use Rattle.sets.{specs.Lists.all, proofs.Truth.both, proofs.Truth.clash}
 use Rattle.table_lines.specs.Meaning.{lacks}
-use Rattle.blif_laws.specs.Text.{ended}
-use Rattle.blif_laws.specs.Reading.{cutAt, pointed}
-use Rattle.blif_laws.proofs.Cutting.{cut-more}
+use Rattle.blif_laws.{specs.Text.ended, specs.Reading.cutAt, specs.Reading.pointed, proofs.Cutting.cut-more}
 
 -- ---- lines, and what comes after them
 

@@ -2,25 +2,21 @@
 -- comes after them are the others; `.end` is no block. Assumes nothing.
 use Prim.Native.Nat.{ℕ, _≤_}
 use mathlib.Core.Path.{_≡_, refl, sym, ap, _∙_, subst}
-use mathlib.Core.Logic.{inl, inr}
-use mathlib.Core.Bool.{true, false}
+use mathlib.Core.{Logic.inl, Logic.inr, Bool.true, Bool.false}
 use mathlib.Core.List.{List, [], _∷_, _++_}
 use native.Mathlib.Omega.{arith}
 use lib.ListN.{length}
 use Rattle.sets.specs.Word.{largest}
 use Rattle.letters_products.specs.Spelled.{spelled}
 use Rattle.network_reads.specs.Reading.{readsOf}
-use Rattle.blif_laws.specs.Text.{Block, ended}
-use Rattle.blif_laws.specs.Reading.{Named, namedIn}
+use Rattle.blif_laws.specs.{Text.Block, Text.ended, Reading.Named, Reading.namedIn}
 use Rattle.blif_scan.specs.Scanning.{left, Forth, EndedIs, bySpace, labelOf}
 use Rattle.blif_lines.specs.Lining.{numbersIn, NamesGot, NamesNot, NamesIs, NamesBy, RowsOf, RowsGot, RowsNot, RowsIs, RowsBy}
 use Rattle.blif_form.specs.Surveying.{BlockOf, BlocksOf, SmallBlocks}
 use Rattle.blif_scan.specs.declared.Ended.{Ended}
-use Rattle.blif_lines.specs.declared.Names.{Names}
-use Rattle.blif_lines.specs.declared.Rows.{Rows}
+use Rattle.blif_lines.specs.declared.{Names.Names, Rows.Rows}
 use Rattle.blif_scan.specs.declared.Ended.the-variants as Ended
-use Rattle.blif_form.proofs.Ending.{Closes}
-use Rattle.blif_form.proofs.Written.{names-one, rows-one}
+use Rattle.blif_form.proofs.{Ending.Closes, Written.names-one, Written.rows-one}
 use Rattle.blif_form.proofs.Blocking.{namedFor, signsFor, numbers-named, Blocked, block-blocked, block-begins, block-ascends, blocks-first, small-first}
 
 -- ---- the word that begins a block

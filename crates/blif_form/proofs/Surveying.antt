@@ -10,13 +10,11 @@ use lib.ListN.{length}
 use Rattle.sets.proofs.Lists.{_∈_, total-append}
 use Rattle.letters_products.specs.Spelled.{spelled}
 use Rattle.network.specs.{Held.mostCubes}
-use Rattle.blif_laws.specs.Text.{Block, ended}
-use Rattle.blif_laws.specs.Reading.{namedIn}
+use Rattle.blif_laws.specs.{Text.Block, Text.ended, Reading.namedIn}
 use Rattle.blif_scan.specs.Scanning.{left, NextIs, byLine, byEnd, EndedIs}
 use Rattle.blif_lines.specs.Lining.{topOf}
 use Rattle.blif_form.specs.Surveying.{BlockOf, BlockGot, BlockNot, EndingIs, BlocksOf, namedBy, SmallBlocks, rowsBy, BlocksBy, BlocksNot}
-use Rattle.blif_scan.specs.declared.Next.{Next}
-use Rattle.blif_scan.specs.declared.Ended.{Ended}
+use Rattle.blif_scan.specs.declared.{Next.Next, Ended.Ended}
 use Rattle.blif_form.specs.declared.Found.{Found}
 use Rattle.blif_scan.specs.declared.Next.the-variants as Next
 use Rattle.blif_scan.specs.declared.Ended.the-variants as Ended

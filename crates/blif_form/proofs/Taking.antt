@@ -13,14 +13,12 @@ use Rattle.expression.specs.Expression.{isCube}
 use Rattle.network_reads.specs.Reading.{readsOf}
 use Rattle.blif_laws.specs.Text.{Name, variable, spaced, Block}
 use Rattle.blif_laws.specs.Reading.{cubeIn, among, namedIn}
-use Rattle.blif_laws.specs.Meaning.{FormedBlock}
-use Rattle.blif_laws.proofs.Rowing.{cube-read}
+use Rattle.blif_laws.{specs.Meaning.FormedBlock, proofs.Rowing.cube-read}
 use Rattle.blif_laws.proofs.Blocking.{below-reads, among-in, among-out}
 use Rattle.blif_scan.specs.Scanning.{left, labelOf}
 use Rattle.blif_lines.specs.Lining.{wordsOf, variableIn, numbersIn, topOf, NamesGot, NamesNot, RowsOf, RowsGot, RowsNot}
 use Rattle.blif_form.specs.Surveying.{UsedIs, BlockGot, BlockNot}
-use Rattle.blif_lines.specs.declared.Names.{Names}
-use Rattle.blif_lines.specs.declared.Rows.{Rows}
+use Rattle.blif_lines.specs.declared.{Names.Names, Rows.Rows}
 use Rattle.blif_form.proofs.Blocking.{namedFor, signsFor, Blocked, block-blocked, blocked-block, numbers-named, block-ascends}
 use Rattle.blif_form.proofs.Passing.{name-own, count-own, rows-own}
 use Rattle.blif_form.proofs.Columns.{allUsed, block-used, signs-rows, used-reads}

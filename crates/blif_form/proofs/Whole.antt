@@ -7,9 +7,7 @@ use mathlib.Core.List.{List, [], _∷_, _++_, map, Memᴰ·append-right}
 use native.Mathlib.Omega.{arith}
 use lib.Dec.{eqb}
 use lib.ListN.{length}
-use Rattle.sets.specs.{Lists.from, Word.largest}
-use Rattle.sets.proofs.Truth.{together, refuted}
-use Rattle.sets.proofs.Sets.{mem-of}
+use Rattle.sets.{specs.Lists.from, specs.Word.largest, proofs.Truth.together, proofs.Truth.refuted, proofs.Sets.mem-of}
 use Rattle.letters_products.specs.Spelled.{spelled}
 use Rattle.network.specs.Handed.{flat}
 use Rattle.blif_laws.specs.Text.{spaced, ended, firstNames, blockLines, headLines, Model, modelLines, modelText}
@@ -17,14 +15,12 @@ use Rattle.blif_laws.specs.Reading.{wordsIn, joined, gapless}
 use Rattle.blif_laws.specs.Meaning.{isClear, InForm}
 use Rattle.blif_laws.proofs.Cutting.{words-spaced, clear-words}
 use Rattle.blif_laws.proofs.{Naming.names-clear, Naming.names-length, Forming.model-iff, Bounding.standing-below}
-use Rattle.blif_scan.specs.Scanning.{left}
-use Rattle.blif_scan.specs.Heading.{Headed}
+use Rattle.blif_scan.specs.{Scanning.left, Heading.Headed}
 use Rattle.blif_lines.specs.Lining.{topOf}
 use Rattle.blif_form.specs.Surveying.{BlocksOf, namedBy, SmallBlocks, BlocksGot, BlocksNot, SurveyGot, SurveyNot}
 use Rattle.blif_form.specs.declared.Blocks.{Blocks}
 use Rattle.blif_form.proofs.Ending.{ended-more, closes-in, closes-out}
-use Rattle.blif_form.proofs.Written.{words-line}
-use Rattle.blif_form.proofs.Surveying.{top-append}
+use Rattle.blif_form.proofs.{Written.words-line, Surveying.top-append}
 
 -- ---- the head
 

@@ -15,11 +15,9 @@ use Rattle.letters_products.specs.Spelled.{spelled}
 use Rattle.table_lines.specs.Meaning.{lacks}
 use Rattle.table_rows.specs.Lines.{isPlace}
 use Rattle.blif_laws.specs.Text.{Name, variable, nameWord, spaced}
-use Rattle.blif_laws.specs.Reading.{wordsIn, Named}
-use Rattle.blif_laws.specs.Meaning.{isClear}
+use Rattle.blif_laws.{specs.Reading.wordsIn, specs.Reading.Named, specs.Meaning.isClear, proofs.Rowing.place-clear}
 use Rattle.blif_laws.proofs.Cutting.{words-spaced, clear-out, clear-words, clear-line}
 use Rattle.blif_laws.proofs.Naming.{name-one, name-clear, text-clear}
-use Rattle.blif_laws.proofs.Rowing.{place-clear}
 use Rattle.blif_lines.specs.Lining.{wordsOf, Signs, rowLine, RowsOf}
 use Rattle.blif_form.proofs.Ending.{line-one, isPlain, lines-one}
 

@@ -7,14 +7,12 @@ use lib.ListN.{length}
 use Rattle.sets.specs.{Lists.all, Lists.total, Lists.from, Sets.mem, Word.largest}
 use Rattle.letters_products.specs.Spelled.{spelled}
 use Rattle.network.specs.{Held.mostCubes, Handed.flat}
-use Rattle.blif_laws.specs.Text.{Name, Block, Model, ended, blockLines}
+use Rattle.blif_laws.specs.Text.{Block, Model, ended, blockLines}
 use Rattle.blif_laws.specs.Reading.{joined, pointed, namedIn, standing, gapless}
 use Rattle.blif_laws.specs.Meaning.{FormedBlock, InForm}
 use Rattle.blif_scan.specs.Scanning.{left, Forth, labelOf}
 use Rattle.blif_lines.specs.Lining.{topOf, RowsOf, signedIn}
-use Rattle.blif_form.specs.declared.Found.{Found}
-use Rattle.blif_form.specs.declared.Blocks.{Blocks}
-use Rattle.blif_form.specs.declared.Survey.{Survey}
+use Rattle.blif_form.specs.declared.{Found.Found, Blocks.Blocks, Survey.Survey}
 
 -- whether every column of the rows has a `0` or `1`, whatever the rows are
 abbrev pub UsedIs : List ℕ → ℕ → ℕ → Bool → Type 0

@@ -17,15 +17,12 @@ use Rattle.letters.proofs.Numbers.{decimal-value, decimal-digits}
 use Rattle.blif_laws.specs.Text.{Name, variable, output, nameWord, spaced}
 use Rattle.blif_laws.specs.{Reading.Named, Meaning.isClear}
 use Rattle.blif_scan.specs.Scanning.{left, Forth, labelOf, Small, Starts, bySpace, byLine, CalledIs, CalledBy}
-use Rattle.blif_lines.specs.Marking.{Raised}
+use Rattle.blif_lines.specs.{Marking.Raised, declared.Turn.Turn}
 use Rattle.blif_lines.specs.Lining.{wordsOf, variableIn, numbersIn, topOf, Ascends, NamesGot, NamesNot, isNext, readTurn, lastTurn, turnBy, turnOf}
 use Rattle.blif_lines.specs.Lining.{Follows, Comes, LineFrom, TurnIs, topAfter, LastMarked}
-use Rattle.blif_scan.specs.declared.Ended.{Ended}
-use Rattle.blif_scan.specs.declared.Label.{Label}
-use Rattle.blif_scan.specs.declared.Called.{Called}
+use Rattle.blif_scan.specs.declared.{Ended.Ended, Label.Label, Called.Called}
 use Rattle.blif_scan.specs.declared.Ended.the-variants as Ended
 use Rattle.blif_scan.specs.declared.Label.the-variants as Label
-use Rattle.blif_lines.specs.declared.Turn.{Turn}
 use Rattle.blif_lines.specs.declared.Turn.the-variants as Turn
 use Rattle.blif_lines.proofs.Marking.{raised-none, raised-on}
 
@@ -306,7 +303,8 @@ module _ {s : List ℕ} {at p least reads base : ℕ} {o m : List ℕ} (x : Pass
     size = x .marks .size;
     none = λ d r a e.
         let k = passed (x .got) (left s p) (d .reads) (d .name) r (sym (x .text) ∙ e ∙ line-of (d .reads) (d .name) r) in
-        let n : numbersIn d ≡ x .got ++ (k .0 ++ variableIn (d .name)) = ap (_++ variableIn (d .name)) (k .1) ∙ append-assoc (x .got) (k .0) (variableIn (d .name)) in
+        let n : numbersIn d ≡ x .got ++ (k .0 ++ variableIn (d .name)) =
+        ap (_++ variableIn (d .name)) (k .1) ∙ append-assoc (x .got) (k .0) (variableIn (d .name)) in
         let b = asc-rest (x .got) (k .0 ++ variableIn (d .name)) (ap asc (sym n) ∙ a .order) in
         f (named (k .0) (d .name)) r (record {
           ascends = record {

@@ -2,8 +2,7 @@
 -- Assumes nothing.
 use Prim.Native.Nat.{ℕ, zero, suc, _+_, _<_, _≤_}
 use mathlib.Core.Path.{_≡_, refl, sym, _∙_, ap, subst}
-use mathlib.Core.Logic.{inl, inr}
-use mathlib.Core.Bool.{true, false}
+use mathlib.Core.{Logic.inl, Logic.inr, Bool.true, Bool.false}
 use mathlib.Core.List.{List, [], _∷_, _++_, map, map-append, append-assoc, List·Memᴰ·head as here, List·Memᴰ·tail as there}
 use mathlib.Core.List.{List·Memᴰ·not-nil, List·Memᴰ·eq-of-singleton, List·Memᴰ·append-cases, Memᴰ·append-right}
 use native.Mathlib.Omega.{arith}
@@ -18,14 +17,12 @@ use Rattle.table_rows.specs.Lines.{isPlace}
 use Rattle.network.{proofs.Handing.flat-last}
 use Rattle.blif_laws.specs.{Text.ended, Reading.pointed}
 use Rattle.blif_scan.specs.Scanning.{left, byLine, NextIs, EndedIs}
-use Rattle.blif_lines.specs.Marking.{Raised}
+use Rattle.blif_lines.specs.{Marking.Raised, declared.Row.Row}
 use Rattle.blif_lines.specs.Lining.{Signs, rowLine, rowEnd, signed, signedIn, SignIs, SignsGot, SignsNot, spaceAfter, SpaceIs, EndIs}
 use Rattle.blif_lines.specs.Lining.{RowGot, RowNot, RowIs, RowsGot, RowsNot}
-use Rattle.blif_scan.specs.declared.Next.{Next}
-use Rattle.blif_scan.specs.declared.Ended.{Ended}
+use Rattle.blif_scan.specs.declared.{Next.Next, Ended.Ended}
 use Rattle.blif_scan.specs.declared.Next.the-variants as Next
 use Rattle.blif_scan.specs.declared.Ended.the-variants as Ended
-use Rattle.blif_lines.specs.declared.Row.{Row}
 use Rattle.blif_lines.specs.declared.Row.the-variants as Row
 use Rattle.blif_lines.proofs.Marking.{raised-none, raised-on}
 

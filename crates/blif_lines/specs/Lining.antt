@@ -13,17 +13,11 @@ use Rattle.network.specs.Handed.{flat}
 use Rattle.blif_laws.specs.Text.{Name, variable, output, nameWord, spaced, ended}
 use Rattle.blif_laws.specs.Reading.{Named, pointed}
 use Rattle.blif_scan.specs.Scanning.{left, Forth, labelOf, Small}
-use Rattle.blif_lines.specs.Marking.{Raised}
-use Rattle.blif_scan.specs.declared.Next.{Next}
-use Rattle.blif_scan.specs.declared.Ended.{Ended}
-use Rattle.blif_scan.specs.declared.Label.{Label}
-use Rattle.blif_scan.specs.declared.Called.{Called}
+use Rattle.blif_lines.specs.{Marking.Raised, declared.Names.Names, declared.Row.Row, declared.Rows.Rows}
+use Rattle.blif_scan.specs.declared.{Next.Next, Ended.Ended, Label.Label, Called.Called}
 use Rattle.blif_scan.specs.declared.Next.the-variants as Next
 use Rattle.blif_scan.specs.declared.Ended.the-variants as Ended
 use Rattle.blif_scan.specs.declared.Label.the-variants as Label
-use Rattle.blif_lines.specs.declared.Names.{Names}
-use Rattle.blif_lines.specs.declared.Row.{Row}
-use Rattle.blif_lines.specs.declared.Rows.{Rows}
 use Rattle.blif_lines.specs.declared.Turn.{Turn}
 use Rattle.blif_lines.specs.declared.Turn.the-variants as Turn
 use Rattle.blif_lines.specs.declared.Row.the-variants as Row

@@ -13,7 +13,8 @@ ghost use Rattle.blif_lines.specs.Marking.{Raised, Cleared};
 ghost use Rattle.table_rows.specs.Lines.{isPlace};
 ghost use Rattle.blif_laws.specs.Reading.{pointed};
 ghost use Rattle.blif_scan.specs.Scanning.{left, labelOf};
-ghost use Rattle.blif_lines.specs.Lining.{NamesIs, RowIs, RowsIs, isNext, readTurn, lastTurn, turnOf, TurnIs, Follows, LastMarked, signed, SignIs, SignsIs, SpaceIs, EndIs};
+ghost use Rattle.blif_lines.specs.Lining.{NamesIs, RowIs, RowsIs, isNext, readTurn, lastTurn, turnOf, TurnIs, Follows, LastMarked, signed};
+ghost use Rattle.blif_lines.specs.Lining.{SignIs, SignsIs, SpaceIs, EndIs};
 
 // How many numbers a window has.
 pub const WINDOW: usize = 65536;

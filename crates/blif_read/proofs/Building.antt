@@ -2,10 +2,9 @@
 -- room for all cubes. Assumes nothing.
 use Prim.Native.Nat.{ℕ, _+_, _-_, _/_, _<_, _≤_, min}
 use mathlib.Core.Path.{_≡_, refl, sym, ap, ap₂, _∙_}
-use mathlib.Core.Logic.{inl, inr}
+use mathlib.Core.{Logic.inl, Logic.inr, List.List·Memᴰ·not-nil, List.Memᴰ·append-right}
 use mathlib.Core.Bool.{Bool, true, false, cond, not}
 use mathlib.Core.List.{List, [], _∷_, _++_, map, map-append, append-nil, List·Memᴰ·head as here, List·Memᴰ·tail as there}
-use mathlib.Core.List.{List·Memᴰ·not-nil, Memᴰ·append-right}
 use native.Mathlib.Omega.{arith}
 use lib.Dec.{eqb, ltb}
 use lib.ListN.{length, getD, take, set, length-append, length-map, List·getD-append}
@@ -18,8 +17,7 @@ use Rattle.sets.proofs.Lists.{_∈_, all-in, all-out, keep-in, keep-out, map-ou
 use Rattle.sets.proofs.Lists.{ahead, pairwise-append, pairwise-map}
 use Rattle.sets.proofs.Sets.{of-mem, from-asc}
 use Rattle.expression.{specs.Expression.sort, specs.Expression.reach, specs.Words.cubesOf, proofs.Sorting.sort-length}
-use Rattle.network.specs.Net.{Net, nodes}
-use Rattle.network.specs.Held.{mostVariables, mostCubes}
+use Rattle.network.specs.{Net.Net, Net.nodes, Held.mostVariables, Held.mostCubes}
 use Rattle.network.specs.{Handed.flat, Handed.Holds, Handed.LaidNodes, Handed.cubeSlots, Parts.heldIn}
 use Rattle.network.proofs.{Handing.flat-length, Laying.laid-holds, Laying.laid-more, Laying.laid-all, Numbering.numbered-length, Numbering.numbered-cubes}
 use Rattle.network_reads.specs.Reading.{readsOf}
@@ -225,7 +223,11 @@ module _ (n m k : ℕ) (bs : List Block) (many : divisorsIn (modelBy n m bs) ≡
         let r = there-is v h l in
         let i : v ∈ standing (modelBy n m bs) = Memᴰ·append-right (from 0 n) (gathered-in namedIn (r .1) (named-own (r .0) v (r .2))) in
         let z : inputTimes n (variable v) ≡ 0 = ap (λ t. cond t 1 0) (le-ltb v n h) in
-        omega (arith, eqb-true (timesDefined (modelBy n m bs) (variable v)) 1 (all-out (λ u. eqb (timesDefined (modelBy n m bs) (variable u)) 1) i (once-each .0)))
+        omega (
+          arith,
+          eqb-true (timesDefined (modelBy n m bs) (variable v)) 1
+              (all-out (λ u. eqb (timesDefined (modelBy n m bs) (variable u)) 1) i (once-each .0)),
+        )
 
     pub node-one : (i : ℕ) → n + k ≤ mostVariables → i < m + k → length (blocksFor (nameAt n m i) bs) ≡ 1
     node-one i s h = elim (decided (ltb i m)) [

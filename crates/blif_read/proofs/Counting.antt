@@ -6,20 +6,15 @@ use mathlib.Core.List.{List, [], _∷_, _++_, map, append-nil, append-assoc, map
 use Rattle.sets.{specs.Word.largest, proofs.Truth.clash}
 use Rattle.letters_products.specs.Spelled.{spelled}
 use Rattle.network.{specs.Handed.flat, proofs.Handing.flat-last}
-use Rattle.blif_laws.specs.Text.{Block}
-use Rattle.blif_laws.specs.Reading.{namedIn}
+use Rattle.blif_laws.specs.{Text.Block, Reading.namedIn}
 use Rattle.blif_scan.specs.Scanning.{left, EndedIs, labelOf}
-use Rattle.blif_lines.specs.Marking.{Raised}
+use Rattle.blif_lines.{specs.Marking.Raised, specs.declared.Names.Names, specs.declared.Rows.Rows, proofs.Marking.raised-none, proofs.Marking.raised-on}
 use Rattle.blif_form.specs.Surveying.{BlocksOf, SmallBlocks}
 use Rattle.blif_read.specs.Defining.{FirstIs, PassedNot, PassedIs}
 use Rattle.blif_lines.specs.Lining.{NamesGot, NamesNot, RowsGot, RowsNot}
-use Rattle.blif_scan.specs.declared.Label.{Label}
-use Rattle.blif_scan.specs.declared.Ended.{Ended}
-use Rattle.blif_lines.specs.declared.Names.{Names}
-use Rattle.blif_lines.specs.declared.Rows.{Rows}
+use Rattle.blif_scan.specs.declared.{Label.Label, Ended.Ended}
 use Rattle.blif_read.specs.declared.defining.Passed.{Passed}
 use Rattle.blif_scan.specs.declared.Ended.the-variants as Ended
-use Rattle.blif_lines.proofs.Marking.{raised-none, raised-on}
 use Rattle.blif_form.proofs.Passing.{pass-none, pass-some, pass-unnamed, pass-rowless, pass-forth, pass-name, pass-numbers, pass-rest}
 
 -- ---- one pass

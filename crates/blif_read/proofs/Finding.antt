@@ -2,9 +2,8 @@
 -- name stands is found. Assumes nothing.
 use Prim.Native.Nat.{ℕ, _≤_}
 use mathlib.Core.Path.{_≡_, refl, sym, ap, _∙_, subst}
-use mathlib.Core.Logic.{inl, inr}
+use mathlib.Core.{Logic.inl, Logic.inr, List.Memᴰ·append-right, List.List·Memᴰ·not-nil}
 use mathlib.Core.List.{List, [], _∷_, _++_, append-nil, append-assoc, List·Memᴰ·head as here, List·Memᴰ·append-cases, List·Memᴰ·eq-of-singleton}
-use mathlib.Core.List.{Memᴰ·append-right, List·Memᴰ·not-nil}
 use Rattle.sets.{specs.Word.largest, proofs.Lists._∈_}
 use Rattle.letters_products.specs.Spelled.{spelled}
 use Rattle.blif_laws.specs.Text.{Name, Block}
@@ -12,10 +11,8 @@ use Rattle.blif_scan.specs.Scanning.{left, EndedIs, labelOf}
 use Rattle.blif_form.specs.Surveying.{BlockOf, BlocksOf, SmallBlocks}
 use Rattle.blif_read.specs.Defining.{FirstIs, PassedGot, PassedNot}
 use Rattle.blif_read.specs.Building.{BeginsAt, StandsAt, FoundIs}
-use Rattle.blif_scan.specs.declared.Label.{Label}
-use Rattle.blif_read.specs.declared.defining.Passed.{Passed}
-use Rattle.blif_read.specs.declared.build.Place.{Place}
-use Rattle.blif_scan.specs.declared.Ended.{Ended}
+use Rattle.blif_scan.specs.declared.{Label.Label, Ended.Ended}
+use Rattle.blif_read.specs.declared.{defining.Passed.Passed, build.Place.Place}
 use Rattle.blif_scan.specs.declared.Ended.the-variants as Ended
 use Rattle.blif_read.specs.declared.build.Place.the-variants as Place
 use Rattle.blif_form.proofs.Blocking.{block-begins, blocks-first, small-others}

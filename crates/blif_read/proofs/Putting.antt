@@ -29,14 +29,12 @@ use Rattle.blif_laws.specs.Text.{Block, ended, signOf}
 use Rattle.blif_laws.proofs.Blocking.{reads-below}
 use Rattle.blif_laws.{specs.Reading.cubeIn, specs.Reading.pointed, proofs.Rowing.cube-over}
 use Rattle.blif_scan.specs.Scanning.{left}
-use Rattle.blif_lines.specs.Marking.{times, Raised}
+use Rattle.blif_lines.specs.{Marking.times, Marking.Raised, declared.Names.Names}
 use Rattle.blif_lines.specs.Lining.{variableIn, NamesGot, Signs, rowLine, RowGot, RowNot, RowsOf}
 use Rattle.blif_read.specs.Building.{markedIn, Columns, SignsAre, RowsPut}
-use Rattle.blif_form.specs.Surveying.{BlockOf}
-use Rattle.blif_lines.specs.declared.Names.{Names}
+use Rattle.blif_form.{specs.Surveying.BlockOf, proofs.Written.row-plain}
 use Rattle.blif_lines.proofs.Windows.{in-row, row-in, times-mem}
 use Rattle.blif_form.proofs.Ending.{ended-more, line-one, plain-front}
-use Rattle.blif_form.proofs.Written.{row-plain}
 use Rattle.blif_form.proofs.Blocking.{signsFor, Blocked, block-blocked, signs-cubes}
 use Rattle.blif_form.proofs.Passing.{reads-own, count-own, rows-own}
 
@@ -248,7 +246,8 @@ module _ {s : List ℕ} {p : ℕ} {vs old new : List ℕ} {at i : ℕ} {ws : Lis
 
       go : (ls : List (List ℕ)) → k .rest ≡ ls → Going old new at (at + i) (map (cubeIn vs) ls) (map (cubeIn vs) ws) → RowsTo s q vs old next at (i + 1) ws more
       go [] e d = clash (k .rows .point)
-          (ap pointed (sym (k .rows .text ∙ ap (λ x. ended (map rowLine x) ++ more) e) ∙ r .text) ∙ plain-front (rowLine (r .word)) (left s q) (row-plain (r .word) (r .signs .each)))
+          (ap pointed (sym (k .rows .text ∙ ap (λ x. ended (map rowLine x) ++ more) e) ∙ r .text)
+          ∙ plain-front (rowLine (r .word)) (left s q) (row-plain (r .word) (r .signs .each)))
       go (w ∷ ls) e d =
           let x = row-signs w ls e in
           let l = line-one (rowLine w) (rowLine (r .word)) (ended (map rowLine ls) ++ more) (left s q)

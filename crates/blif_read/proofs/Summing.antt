@@ -1,26 +1,24 @@
 -- Sums over the blocks of a model: what stands below the top, how many variables are defined, how many cubes there are. Assumes nothing.
-use Prim.Native.Nat.{ℕ, zero, suc, _+_, _-_, _/_, _≤_, _<_, max}
+use Prim.Native.Nat.{ℕ, zero, suc, _+_, _-_, _/_, _≤_, _<_}
 use mathlib.Core.Path.{_≡_, refl, sym, ap, ap₂, _∙_, subst}
-use mathlib.Core.Logic.{inl, inr, _⊎_}
+use mathlib.Core.Logic.{inl, inr}
 use mathlib.Core.Bool.{Bool, true, false, cond, _&&_}
 use mathlib.Core.List.{List, [], _∷_, _++_, map, List·Memᴰ·head as here, List·Memᴰ·tail as there, Memᴰ·append-left, Memᴰ·append-right}
 use native.Mathlib.Omega.{arith}
 use lib.Dec.{eqb, leb, ltb}
 use lib.ListN.{length}
-use borrow.Author.Tests.{eq-eqb, ne-eqb, eqb-true, eqb-false, lt-ltb, le-ltb, ltb-true, ltb-false, le-leb, lt-leb, leb-true}
+use borrow.Author.Tests.{eq-eqb, eqb-true, eqb-false, lt-ltb, le-ltb, ltb-true, ltb-false, le-leb, lt-leb, leb-true}
 use Rattle.sets.specs.{Lists.all, Lists.keep, Lists.total, Lists.from, Sets.mem, Sets.readsBelow, Literal.variableOf}
-use Rattle.sets.proofs.Truth.{iff, both, together, decided, clash, refuted}
-use Rattle.sets.proofs.Lists.{_∈_, all-in, all-out, keep-in, keep-out, total-cong, total-sum, total-ones, total-append, total-map, keep-all}
-use Rattle.sets.proofs.Sets.{mem-of, of-mem, all-mem, mem-all, from-mem, mem-append}
+use Rattle.sets.proofs.Truth.{iff, both, together, decided, clash}
+use Rattle.sets.proofs.Lists.{_∈_, all-in, all-out, keep-in, keep-out, total-cong, total-sum, total-ones, total-append, total-map}
+use Rattle.sets.proofs.Sets.{mem-of, of-mem, all-mem, mem-all, from-mem}
 use Rattle.sets.proofs.Rows.{from-length}
 use Rattle.blif_laws.specs.Text.{Name, variable, output, Block, Model}
-use Rattle.network.specs.{Net.Net, Net.Node, Net.cubeCount, Handed.flat}
-use Rattle.network.proofs.{Numbering.numbered-cubes, Handing.flat-length}
+use Rattle.network.{specs.Net.cubeCount, specs.Handed.flat, proofs.Numbering.numbered-cubes, proofs.Handing.flat-length}
 use Rattle.network_reads.{specs.Reading.readsOf, proofs.Reading.reads-in}
-use Rattle.expression.{specs.Expression.sort, specs.Expression.reach, proofs.Sorting.sort-length}
-use Rattle.blif_laws.specs.Meaning.{Formed}
-use Rattle.blif_laws.proofs.Modelling.{gathered-in}
-use Rattle.blif_laws.specs.Reading.{namedIn, cubesFor, netIn, standing, gapless, sameName, blocksFor, inputTimes, timesDefined, definedOnce, isVariable, divisorsIn}
+use Rattle.expression.{specs.Expression.reach, proofs.Sorting.sort-length}
+use Rattle.blif_laws.{specs.Meaning.Formed, proofs.Modelling.gathered-in}
+use Rattle.blif_laws.specs.Reading.{namedIn, cubesFor, netIn, standing, gapless, sameName, blocksFor, timesDefined, definedOnce, isVariable, divisorsIn}
 use Rattle.blif_lines.specs.Lining.{topOf}
 
 -- ---- the top
@@ -102,7 +100,8 @@ one-hit k (suc m) x c = elim (decided (eqb k x)) [
   where
     other : (k ≡ x → ⊥) → cond (leb (suc k) x && ltb x (suc k + m)) c 0 ≡ cond (leb k x && ltb x (k + suc m)) c 0
     other h = elim (decided (ltb k x)) [
-      | inl l ↦ let i : k < x = ltb-true k x l in ap (λ (b : Bool). cond b c 0) (ap₂ _&&_ (le-leb (suc k) x (omega arith) ∙ sym (le-leb k x (omega arith))) (let e : suc k + m ≡ k + suc m = omega arith in ap (ltb x) e))
+      | inl l ↦ let i : k < x = ltb-true k x l in ap (λ (b : Bool). cond b c 0)
+          (ap₂ _&&_ (le-leb (suc k) x (omega arith) ∙ sym (le-leb k x (omega arith))) (let e : suc k + m ≡ k + suc m = omega arith in ap (ltb x) e))
       | inr l ↦ let i : x < k = omega (arith, ltb-false k x l, h) in rw (lt-leb (suc k) x (omega arith), lt-leb k x i)
     ]
 
@@ -123,7 +122,8 @@ one-name n k m c a (isOutput {j} h) =
 one-name n k m c a (isDivisor {v} h i) =
     rw (one-hit n k v c, total-zero (from 0 m), le-leb n v h, lt-ltb v (n + k) i) (omega arith)
 
-total-block : (g : Block → ℕ) (a : Name) (b : Block) (bs : List Block) → total g (blocksFor a (b ∷ bs)) ≡ cond (sameName a (b .name)) (g b) 0 + total g (blocksFor a bs)
+total-block : (g : Block → ℕ) (a : Name) (b : Block) (bs : List Block)
+    → total g (blocksFor a (b ∷ bs)) ≡ cond (sameName a (b .name)) (g b) 0 + total g (blocksFor a bs)
 total-block g a b bs = go (sameName a (b .name))
   where
     go : (e : Bool) → total g (cond e (b ∷ blocksFor a bs) (blocksFor a bs)) ≡ cond e (g b) 0 + total g (blocksFor a bs)
@@ -135,8 +135,10 @@ pub by-names : (n k m : ℕ) (g : Block → ℕ) (bs : List Block) → ((b : Blo
     → total (λ j. total g (blocksFor (output j) bs)) (from 0 m) + total (λ v. total g (blocksFor (variable v) bs)) (from n k) ≡ total g bs
 by-names n k m g [] h = ap₂ _+_ (total-zero (from 0 m)) (total-zero (from n k))
 by-names n k m g (b ∷ bs) h =
-    let x = total-sum (λ j. total g (blocksFor (output j) (b ∷ bs))) (λ j. cond (sameName (output j) (b .name)) (g b) 0) (λ j. total g (blocksFor (output j) bs)) (from 0 m) (λ j i. total-block g (output j) b bs) in
-    let y = total-sum (λ v. total g (blocksFor (variable v) (b ∷ bs))) (λ v. cond (sameName (variable v) (b .name)) (g b) 0) (λ v. total g (blocksFor (variable v) bs)) (from n k) (λ v i. total-block g (variable v) b bs) in
+    let x = total-sum (λ j. total g (blocksFor (output j) (b ∷ bs))) (λ j. cond (sameName (output j) (b .name)) (g b) 0)
+    (λ j. total g (blocksFor (output j) bs)) (from 0 m) (λ j i. total-block g (output j) b bs) in
+    let y = total-sum (λ v. total g (blocksFor (variable v) (b ∷ bs))) (λ v. cond (sameName (variable v) (b .name)) (g b) 0)
+    (λ v. total g (blocksFor (variable v) bs)) (from n k) (λ v i. total-block g (variable v) b bs) in
     let z = one-name n k m (g b) (b .name) (h b (here refl)) in
     let w = by-names n k m g bs (λ c i. h c (there i)) in
     omega (arith, x, y, z, w)
@@ -175,14 +177,16 @@ abbrev ones : Block → ℕ
 ones b = cond (isVariable (b .name)) 1 0
 
 none-for : (j : ℕ) (bs : List Block) → total ones (blocksFor (output j) bs) ≡ 0
-none-for j bs = total-cong ones (λ b. 0) (blocksFor (output j) bs) (λ b i. go (b .name) (keep-out (λ (c : Block). sameName (output j) (c .name)) bs i .1)) ∙ total-zero (blocksFor (output j) bs)
+none-for j bs = total-cong ones (λ b. 0) (blocksFor (output j) bs) (λ b i. go (b .name) (keep-out (λ (c : Block). sameName (output j) (c .name)) bs i .1))
+    ∙ total-zero (blocksFor (output j) bs)
   where
     go : (a : Name) → sameName (output j) a ≡ true → _≡_ {A = ℕ} (cond (isVariable a) 1 0) 0
     go (variable v) e = clash e refl
     go (output k) e = refl
 
 all-for : (v : ℕ) (bs : List Block) → total ones (blocksFor (variable v) bs) ≡ length (blocksFor (variable v) bs)
-all-for v bs = total-cong ones (λ b. 1) (blocksFor (variable v) bs) (λ b i. go (b .name) (keep-out (λ (c : Block). sameName (variable v) (c .name)) bs i .1)) ∙ total-ones (blocksFor (variable v) bs)
+all-for v bs = total-cong ones (λ b. 1) (blocksFor (variable v) bs) (λ b i. go (b .name) (keep-out (λ (c : Block). sameName (variable v) (c .name)) bs i .1))
+    ∙ total-ones (blocksFor (variable v) bs)
   where
     go : (a : Name) → sameName (variable v) a ≡ true → _≡_ {A = ℕ} (cond (isVariable a) 1 0) 1
     go (variable u) e = refl
@@ -212,7 +216,11 @@ module _ (d : Model) (f : Formed d) (g : gapless d ≡ true) (o : definedOnce d 
     where
       go : (n : ℕ) → d .inputs ≡ n → n ≤ top
       go zero e = omega arith
-      go (suc n) e = omega (arith, top-above (standing d) n (Memᴰ·append-left (flat (map namedIn (d .blocks))) (of-mem n (from 0 (d .inputs)) (below-in (d .inputs) n (omega arith)))))
+      go (suc n) e = omega (
+        arith,
+        top-above (standing d) n
+            (Memᴰ·append-left (flat (map namedIn (d .blocks))) (of-mem n (from 0 (d .inputs)) (below-in (d .inputs) n (omega arith)))),
+      )
 
   -- what a block defines is an output, or a variable from the inputs on and below the top
   pub block-listed : (b : Block) → b ∈ d .blocks → Listed (d .inputs) (top - d .inputs) (d .outputs) (b .name)
@@ -256,7 +264,8 @@ module _ (d : Model) (f : Formed d) (g : gapless d ≡ true) (o : definedOnce d 
   unfolding netIn
   cubes-sum =
       total-append length (map (λ j. cubesFor (output j) (d .blocks)) (from 0 (d .outputs))) _
-      ∙ ap₂ _+_ (total-map length (λ j. cubesFor (output j) (d .blocks)) (from 0 (d .outputs)) ∙ total-cong _ _ (from 0 (d .outputs)) (λ j i. cubes-for (output j) (d .blocks)))
+      ∙ ap₂ _+_ (total-map length (λ j. cubesFor (output j) (d .blocks)) (from 0 (d .outputs))
+      ∙ total-cong _ _ (from 0 (d .outputs)) (λ j i. cubes-for (output j) (d .blocks)))
       (ap (total length) (numbered-cubes (d .inputs) (map (λ v. cubesFor (variable v) (d .blocks)) (from (d .inputs) (divisorsIn d))))
       ∙ total-map length (λ v. cubesFor (variable v) (d .blocks)) (from (d .inputs) (divisorsIn d))
       ∙ total-cong _ _ (from (d .inputs) (divisorsIn d)) (λ v i. cubes-for (variable v) (d .blocks))

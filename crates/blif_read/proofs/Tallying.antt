@@ -8,15 +8,13 @@ use borrow.Author.Tests.{le-ltb}
 use lib.Dec.{eqb, ltb}
 use lib.ListN.{length}
 use Rattle.sets.specs.{Lists.all, Lists.from, Sets.mem}
-use Rattle.sets.proofs.Truth.{or-left, refuted}
-use Rattle.sets.proofs.Lists.{all-cong, total-append}
+use Rattle.sets.proofs.{Truth.or-left, Truth.refuted, Lists.all-cong, Lists.total-append}
 use Rattle.sets.proofs.Sets.{mem-of, all-mem, mem-append}
 use Rattle.blif_laws.specs.Text.{Name, variable, output, Block}
 use Rattle.blif_laws.specs.Reading.{standing, sameName, blocksFor, timesDefined}
-use Rattle.blif_lines.specs.Marking.{times}
+use Rattle.blif_lines.{specs.Marking.times, proofs.Windows.row-in}
 use Rattle.blif_form.specs.Surveying.{namedBy}
 use Rattle.blif_read.specs.Defining.{numberIf, definedBy, timesIn, modelBy}
-use Rattle.blif_lines.proofs.Windows.{row-in}
 
 -- ---- what is counted, for a model
 

@@ -1,9 +1,8 @@
 -- What is told of a text: 14 for the form and a gap, then 15, then 10, by what the passes over it found. Assumes nothing.
-use Prim.Native.Nat.{ℕ, suc, _+_, _-_, _≤_, _<_, min}
+use Prim.Native.Nat.{ℕ, suc, _+_, _-_, _≤_, min}
 use mathlib.Core.Path.{_≡_, refl, sym, ap, ap₂, _∙_, subst}
-use mathlib.Core.Logic.{inl, inr}
-use mathlib.Core.Bool.{Bool, true, false, cond, _&&_, and-assoc}
-use mathlib.Core.List.{List, map}
+use mathlib.Core.{Logic.inl, Logic.inr, List.List, List.map}
+use mathlib.Core.Bool.{Bool, true, false, cond, _&&_}
 use mathlib.Core.Option.{Option, none, some}
 use native.Mathlib.Omega.{arith}
 use lib.Dec.{eqb, leb}
@@ -12,28 +11,25 @@ use borrow.Author.Tests.{leb-true, leb-false, le-leb, lt-leb}
 use Rattle.sets.specs.{Lists.all, Lists.total, Lists.from, Sets.mem, Word.largest}
 use Rattle.sets.proofs.{Truth.both, Truth.decided, Truth.clash, Truth.refuted, Rows.from-length}
 use Rattle.expression.specs.declared.Verdict.the-variants.{Accepted, Refused}
-use Rattle.network.specs.Held.{numbered, rules, ruled, netOf, upTo, mostInputs, mostOutputs, mostVariables, mostCubes}
-use Rattle.network.specs.{Net.Net, Net.variables, Net.cubeCount, Rules.Lawful, Answers.judged, declared.Network.Network, declared.Handed.Handed}
-use Rattle.network.specs.Handed.{Return, gives, refuses, Told, Shaped, Holds, Carries}
+use Rattle.network.specs.Held.{numbered, ruled, netOf, upTo, mostInputs, mostOutputs, mostVariables, mostCubes}
+use Rattle.network.specs.{Net.variables, Net.cubeCount, Rules.Lawful, Answers.judged, declared.Network.Network, declared.Handed.Handed}
+use Rattle.network.specs.Handed.{gives, refuses, Told, Shaped, Holds, Carries}
 use Rattle.network.proofs.{Numbering.numbered-length, Handing.holds-net, Holding.up-out}
 use Rattle.network.proofs.Ruling.{rules-lawful, holds-lawful, accepted-rules, refused-rules}
 use Rattle.blif_laws.specs.Text.{variable, output, Block, Model}
 use Rattle.blif_laws.specs.Reading.{joined, modelIn, standing, gapless, timesDefined, definedOnce, divisorsIn, netIn, keepsRules, judgeModel, readBlif}
 use Rattle.blif_laws.specs.Reading.{cubesFor, isBlif}
-use Rattle.blif_laws.specs.Meaning.{Formed, InForm}
 use Rattle.blif_laws.proofs.Judging.{in-turn, lawful-iff}
-use Rattle.blif_laws.proofs.Beginning.{blif-iff}
+use Rattle.blif_laws.proofs.{Beginning.blif-iff, Forming.model-iff}
 use Rattle.letters_products.specs.Spelled.{spelled}
 use Rattle.blif_scan.specs.Scanning.{left, EndedIs, bySpace, byLine, byEnd}
 use Rattle.blif_scan.specs.declared.Ended.{Ended}
 use Rattle.blif_scan.specs.declared.Ended.the-variants as Ended
 use Rattle.blif_form.specs.Surveying.{SurveyGot, SurveyNot, SurveyBy, SurveyIs}
 use Rattle.blif_read.specs.Defining.{modelBy, GaplessIs, OnceIs}
-use Rattle.blif_read.specs.Building.{Buildable}
-use Rattle.blif_read.specs.Reading.{few, FinishedIs}
+use Rattle.blif_read.specs.{Building.Buildable, Reading.few, Reading.FinishedIs}
 use Rattle.blif_form.specs.declared.Survey.{Survey}
 use Rattle.blif_lines.specs.Lining.{topOf}
-use Rattle.blif_laws.proofs.Forming.{model-iff}
 use Rattle.blif_read.proofs.Summing.{gapless-top, once-top, divisors-top, inputs-top, cubes-sum, reads-top, divisor-there}
 
 -- tests put together otherwise
@@ -125,11 +121,13 @@ module _ {s : List ℕ} {v : Survey} (g : SurveyGot s v) (small : v .outputs ≤
       unfolding netIn
       variables-are =
           let fs = map (λ (u : ℕ). cubesFor (variable u) (model .blocks)) (from (model .inputs) (divisorsIn model)) in
-          let l : length (numbered (model .inputs) fs) ≡ divisorsIn model = numbered-length (model .inputs) fs ∙ length-map (from (model .inputs) (divisorsIn model)) _ ∙ from-length (model .inputs) (divisorsIn model) in
+          let l : length (numbered (model .inputs) fs) ≡ divisorsIn model =
+          numbered-length (model .inputs) fs ∙ length-map (from (model .inputs) (divisorsIn model)) _ ∙ from-length (model .inputs) (divisorsIn model) in
           omega (arith, l, divisors-are, inputs-below, g .inputs)
 
       cubes-are : leb (cubeCount (netIn model)) mostCubes ≡ leb (v .rows) mostCubes
-      cubes-are = ap (λ n. leb n mostCubes) (cubes-sum model (g .form .formed) gapless-is once-is) ∙ capped (total (λ (c : Block). length (c .cubes)) (model .blocks)) ∙ ap (λ n. leb n mostCubes) (sym (g .rows))
+      cubes-are = ap (λ n. leb n mostCubes) (cubes-sum model (g .form .formed) gapless-is once-is)
+          ∙ capped (total (λ (c : Block). length (c .cubes)) (model .blocks)) ∙ ap (λ n. leb n mostCubes) (sym (g .rows))
         where
           capped : (n : ℕ) → leb n mostCubes ≡ leb (min n (suc mostCubes)) mostCubes
           capped n = elim (decided (leb n mostCubes)) [
@@ -145,13 +143,15 @@ module _ {s : List ℕ} {v : Survey} (g : SurveyGot s v) (small : v .outputs ≤
       keeps-are : keepsRules (netIn model) ≡ (few (v .inputs) (v .outputs) (v .top) (v .rows) && ruled (netIn model))
       unfolding keepsRules
       keeps-are =
-          regroup (ap (upTo mostInputs) inputs-are) (ap (upTo mostOutputs) outputs-are) (ap (λ n. leb n mostVariables) variables-are) cubes-are (ruled (netIn model))
+          regroup (ap (upTo mostInputs) inputs-are) (ap (upTo mostOutputs) outputs-are) (ap (λ n. leb n mostVariables) variables-are) cubes-are
+          (ruled (netIn model))
 
       pub many-told : {r : Handed} (x : Bool) → x ≡ few (v .inputs) (v .outputs) (v .top) (v .rows) → x ≡ false → Told (refuses 10) r → Told (readBlif s) r
       many-told x f n t = rw (left-to-judge, keeps-are, sym f ∙ n) t
 
       module _ (x : Bool) (f : x ≡ few (v .inputs) (v .outputs) (v .top) (v .rows)) (y : x ≡ true) where
-        limits : (upTo mostInputs (v .inputs) ≡ true) × (upTo mostOutputs (v .outputs) ≡ true) × (leb (v .top) mostVariables ≡ true) × (leb (v .rows) mostCubes ≡ true)
+        limits : (upTo mostInputs (v .inputs) ≡ true) × (upTo mostOutputs (v .outputs) ≡ true) × (leb (v .top) mostVariables ≡ true)
+            × (leb (v .rows) mostCubes ≡ true)
         limits =
             let p = both (upTo mostInputs (v .inputs)) _ (sym f ∙ y) in
             let w = both (upTo mostOutputs (v .outputs)) _ (p .1) in

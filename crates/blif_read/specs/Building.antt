@@ -1,7 +1,6 @@
 -- The network of a text, whatever its blocks are, where every name is defined once and the limits are kept.
 use Prim.Native.Nat.{ℕ, _+_, _-_, _<_, _≤_, min, max}
-use mathlib.Core.Path.{_≡_}
-use mathlib.Core.Bool.{true, cond}
+use mathlib.Core.{Path._≡_, Bool.true, Bool.cond}
 use mathlib.Core.List.{List, _++_, map, List·Memᴰ}
 use lib.Dec.{leb, ltb}
 use lib.ListN.{length, getD}
@@ -17,9 +16,8 @@ use Rattle.blif_laws.specs.Reading.{cubeIn, blocksFor, cubesFor, definedOnce, d
 use Rattle.blif_scan.specs.Scanning.{left, Forth, labelOf}
 use Rattle.blif_lines.specs.Lining.{RowsOf}
 use Rattle.blif_form.specs.Surveying.{BlockOf, BlocksOf, SmallBlock, SmallBlocks}
-use Rattle.blif_read.specs.Defining.{modelBy}
+use Rattle.blif_read.specs.{Defining.modelBy, declared.build.Place.Place}
 use Rattle.blif_scan.specs.declared.Label.{Label}
-use Rattle.blif_read.specs.declared.build.Place.{Place}
 use Rattle.blif_read.specs.declared.build.Place.the-variants as Place
 
 -- ---- finding a block

@@ -1,8 +1,7 @@
 -- What is answered once the text is in the form, without a gap, and every name is defined once.
 use Prim.Native.Nat.{ℕ, _+_, _<_, _≤_}
-use mathlib.Core.Path.{_≡_}
+use mathlib.Core.{Path._≡_, List.List, List.List·Memᴰ}
 use mathlib.Core.Bool.{Bool, true, cond, _&&_}
-use mathlib.Core.List.{List, List·Memᴰ}
 use lib.Dec.{leb}
 use lib.ListN.{length}
 use Rattle.sets.specs.Lists.{total}

@@ -16,12 +16,9 @@ use Rattle.network.{specs.Handed.flat, proofs.Handing.flat-last}
 use Rattle.blif_laws.specs.Text.{spaced, ended, firstNames, headLines}
 use Rattle.blif_scan.specs.Scanning.{left, NextIs, Starts, bySpace, byLine, EndedIs}
 use Rattle.blif_scan.specs.Heading.{led, TurnsAre, ListIs, isPlain, Titled, Lined, WordIs, modelLine, ModelIs, Headed, HeadIs}
-use Rattle.blif_scan.specs.declared.Next.{Next}
-use Rattle.blif_scan.specs.declared.Ended.{Ended}
+use Rattle.blif_scan.specs.declared.{Next.Next, Ended.Ended, Count.Count, Place.Place}
 use Rattle.blif_scan.specs.declared.Next.the-variants as Next
 use Rattle.blif_scan.specs.declared.Ended.the-variants as Ended
-use Rattle.blif_scan.specs.declared.Count.{Count}
-use Rattle.blif_scan.specs.declared.Place.{Place}
 use Rattle.blif_scan.specs.declared.Head.{Head}
 use Rattle.blif_scan.specs.declared.Count.the-variants as Count
 use Rattle.blif_scan.specs.declared.Place.the-variants as Place

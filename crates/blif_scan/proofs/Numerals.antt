@@ -11,9 +11,7 @@ use Rattle.letters.specs.{Letters.decimal, Meaning.readBack, Meaning.isDigit}
 use Rattle.letters.proofs.Numbers.{decimal-one, decimal-more, decimal-value, decimal-digits, decimal-some, decimal-lead}
 use Rattle.blif_laws.specs.{Text.Name, Text.variable, Text.output, Text.nameWord, Meaning.isClear}
 use Rattle.blif_scan.specs.Scanning.{left, NextIs, Starts, bySpace, byLine, byEnd, EndedIs, DigitIs, NumeralBy, CalledBy}
-use Rattle.blif_scan.specs.declared.Next.{Next}
-use Rattle.blif_scan.specs.declared.Ended.{Ended}
-use Rattle.blif_scan.specs.declared.Digit.{Digit}
+use Rattle.blif_scan.specs.declared.{Next.Next, Ended.Ended, Digit.Digit}
 use Rattle.blif_scan.specs.declared.Next.the-variants as Next
 use Rattle.blif_scan.specs.declared.Ended.the-variants as Ended
 use Rattle.blif_scan.specs.declared.Digit.the-variants as Digit

@@ -12,8 +12,7 @@ use borrow.Author.Tests.{eqb-true, eqb-false, eq-eqb, ne-eqb, ltb-true, ltb-fals
 use Rattle.sets.proofs.{Truth.both, Truth.decided, Truth.clash, Places.drop-next, Rows.take-next}
 use Rattle.blif_laws.specs.{Reading.joined, Meaning.isClear}
 use Rattle.blif_scan.specs.Scanning.{left, isJoint, NextIs, Starts, bySpace, byLine, byEnd, EndedIs}
-use Rattle.blif_scan.specs.declared.Next.{Next}
-use Rattle.blif_scan.specs.declared.Ended.{Ended}
+use Rattle.blif_scan.specs.declared.{Next.Next, Ended.Ended}
 use Rattle.blif_scan.specs.declared.Next.the-variants as Next
 use Rattle.blif_scan.specs.declared.Ended.the-variants as Ended
 

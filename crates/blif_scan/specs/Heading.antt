@@ -9,9 +9,7 @@ use Rattle.letters_products.specs.Spelled.{spelled}
 use Rattle.network.specs.Handed.{flat}
 use Rattle.blif_laws.specs.Text.{spaced, ended, firstNames, headLines}
 use Rattle.blif_laws.specs.{Reading.isModelName, Meaning.isClear}
-use Rattle.blif_scan.specs.Scanning.{left, Forth}
-use Rattle.blif_scan.specs.declared.Count.{Count}
-use Rattle.blif_scan.specs.declared.Place.{Place}
+use Rattle.blif_scan.specs.{Scanning.left, Scanning.Forth, declared.Count.Count, declared.Place.Place}
 use Rattle.blif_scan.specs.declared.Head.{Head}
 use Rattle.blif_scan.specs.declared.Count.the-variants as Count
 use Rattle.blif_scan.specs.declared.Place.the-variants as Place

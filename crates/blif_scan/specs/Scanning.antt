@@ -1,7 +1,6 @@
 -- What the joined text holds from a place on, byte by byte and word by word.
 use Prim.Native.Nat.{ℕ, _+_, _<_, _≤_}
-use mathlib.Core.Path.{_≡_}
-use mathlib.Core.Bool.{Bool, _&&_}
+use mathlib.Core.{Path._≡_, Bool.Bool, Bool._&&_}
 use mathlib.Core.List.{List, [], _∷_, _++_}
 use lib.Dec.{eqb}
 use lib.ListN.{length, getD, drop}
@@ -10,12 +9,8 @@ use Rattle.letters.specs.Letters.{decimal}
 use Rattle.blif_laws.specs.Text.{Name, variable, output, nameWord}
 use Rattle.blif_laws.specs.Reading.{joined}
 pub use Rattle.blif_laws.specs.Meaning.{Starts, bySpace, byLine, byEnd}
-use Rattle.blif_scan.specs.declared.Next.{Next}
-use Rattle.blif_scan.specs.declared.Ended.{Ended}
-use Rattle.blif_scan.specs.declared.Label.{Label}
-use Rattle.blif_scan.specs.declared.Called.{Called}
-use Rattle.blif_scan.specs.declared.Digit.{Digit}
-use Rattle.blif_scan.specs.declared.Numeral.{Numeral}
+use Rattle.blif_scan.specs.declared.{Next.Next, Ended.Ended, Label.Label}
+use Rattle.blif_scan.specs.declared.{Called.Called, Digit.Digit, Numeral.Numeral}
 use Rattle.blif_scan.specs.declared.Next.the-variants as Next
 use Rattle.blif_scan.specs.declared.Ended.the-variants as Ended
 use Rattle.blif_scan.specs.declared.Label.the-variants as Label

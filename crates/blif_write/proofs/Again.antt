@@ -7,9 +7,8 @@ use lib.Seq.{take-at}
 use Rattle.expression.specs.declared.Verdict.the-variants.{Accepted}
 use Rattle.letters.specs.{Told.Told, declared.Wrote.the-variants.Bytes}
 use Rattle.network.specs.{Held.netOf, Held.rules, Evaluation.evaluate, declared.Network.Network, declared.Handed.Handed}
-use Rattle.network.specs.Handed.{Shaped, Holds, gives}
+use Rattle.network.{specs.Handed.Shaped, specs.Handed.Holds, proofs.Handing.holds-net, proofs.Ruling.rules-lawful}
 use Rattle.network.specs.Handed as handed
-use Rattle.network.proofs.{Handing.holds-net, Ruling.rules-lawful}
 use Rattle.image_laws.{specs.Renumber.renumbered, proofs.Renumbering.renumbered-lawful, proofs.Renumbering.renumbered-evaluate}
 use Rattle.image_write.{specs.Answers.refusedBy, proofs.Again.told-bytes}
 use Rattle.blif_laws.{specs.Text.blifOf, specs.Reading.readBlif, proofs.Trips.read-of-blif}

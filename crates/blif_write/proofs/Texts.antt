@@ -6,8 +6,7 @@ use mathlib.Core.List.{List, [], _∷_, _++_, map, map-append, append-assoc, app
 use native.Mathlib.Omega.{arith}
 use lib.ListN.{length, getD, take, drop, drop-of-length-le, length-drop}
 use lib.Seq.{take-take, length-take-le, getD-take, getD-drop}
-use Rattle.sets.specs.Lists.{isNil}
-use Rattle.sets.proofs.{Places.drop-next, Rows.drop-take}
+use Rattle.sets.{specs.Lists.isNil, proofs.Places.drop-next, proofs.Rows.drop-take}
 use Rattle.cube.specs.{Cube.lits, declared.Cube.Cube}
 use Rattle.letters.specs.Letters.{nameText}
 use Rattle.letters_products.specs.Spelled.{spelled}

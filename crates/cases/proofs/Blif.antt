@@ -1,9 +1,7 @@
 -- All rows of the table of BLIF texts hold: the test is computed. Assumes nothing.
 use Prim.Native.Nat.{ℕ}
 use mathlib.Core.Path.{_≡_, refl, ap}
-use mathlib.Core.Bool.{Bool, true, true≢false}
-use mathlib.Core.List.{List}
-use lib.Dec.{eqb}
+use mathlib.Core.{Bool.true, List.List}
 use borrow.Author.Tests.{eqb-true}
 use Rattle.sets.{specs.Lists.all, specs.Lists.from, proofs.Lists._∈_, proofs.Lists.all-out, proofs.Sets.same-eq, proofs.Truth.clash}
 use Rattle.sets.specs.Sets.{mem, sub, apart, proper, insert, union, without, meet, same, before}
@@ -15,7 +13,8 @@ use Rattle.network.specs.Listing.{ready, nextReady, listMore, listing}
 use Rattle.network.specs.{Held.numbered, Held.ruled, Handed.Return, Handed.gives, Handed.refuses}
 use Rattle.network_reads.specs.Reading.{variablesOf, readsOf}
 use Rattle.image_laws.specs.Renumber.{indexOf, newNumber, newLiteral, newCube, newNode, renumbered}
-use Rattle.blif_laws.specs.Text.{spaced, ended, nameWord, signOf, rowWords, namesWords, blockLines, headLines, modelLines, modelText, outputBlocks, modelOf, blifOf}
+use Rattle.blif_laws.specs.Text.{spaced, ended, nameWord, signOf, rowWords, namesWords, blockLines, headLines, modelLines, modelText, outputBlocks}
+use Rattle.blif_laws.specs.Text.{modelOf, blifOf}
 use Rattle.blif_laws.specs.Reading.{joined, cutAt, partsOf, numberIn, nameIn, inTurn, namesIn, isRow, cubeIn, blockFrom, blockIn, blocksIn, isModel, listIn}
 use Rattle.blif_laws.specs.Reading.{modelParts, modelIn, gapless, timesDefined, definedOnce, cubesFor, netIn, keepsRules, readBlif}
 use Rattle.cases.specs.Blif.{Spelling, writes, reads, refused, hasText, hasNumber, isSpelt, Spells, spellings}
@@ -23,7 +22,8 @@ use Rattle.cases.specs.Blif.{Spelling, writes, reads, refused, hasText, 
 pub blif-holds : all isSpelt spellings ≡ true
 unfolding isSpelt spellings
 blif-holds = unfold
-    spelled mem sub apart proper insert union without meet same before has place sort loose from digits decimal readBack cubesAt ready nextReady listMore listing
+    spelled mem sub apart proper insert union without meet same before has place sort loose from digits decimal readBack cubesAt ready nextReady listMore
+    listing
     numbered ruled variablesOf readsOf indexOf newNumber newLiteral newCube newNode renumbered
     spaced ended nameWord signOf rowWords namesWords blockLines headLines modelLines modelText outputBlocks modelOf blifOf
     joined cutAt partsOf numberIn nameIn inTurn namesIn isRow cubeIn blockFrom blockIn blocksIn isModel listIn

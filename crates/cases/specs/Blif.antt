@@ -62,9 +62,9 @@ spellings =
     ∷ writes turned ".model net\n.inputs x0\n.outputs y0 y1 y2\n.names x0 x1\n1 1\n.names x0 x1 x2\n01 1\n.names y0\n.names y1\n1\n.names x2 y2\n0 1\n.end\n"
     -- any model name, any order of blocks and rows, no last LF, broken lines
     ∷ reads ".model a\\b\n.inputs x0\n.outputs y0 y1\n.names x1 y1\n0 1\n.names y0\n1\n.names x0 x1\n1 1\n.end"
-        ".model net\n.inputs x0\n.outputs y0 y1\n.names x0 x1\n1 1\n.names y0\n1\n.names x1 y1\n0 1\n.end\n"
+    ".model net\n.inputs x0\n.outputs y0 y1\n.names x0 x1\n1 1\n.names y0\n1\n.names x1 y1\n0 1\n.end\n"
     ∷ reads ".model net\n.inputs x0 \\\nx1\n.outputs y\\\n\\\n0\n.names x0 x1 y0\n-1 1\n1- \\\n1\n.end\n\\\n"
-        ".model net\n.inputs x0 x1\n.outputs y0\n.names x0 x1 y0\n1- 1\n-1 1\n.end\n"
+    ".model net\n.inputs x0 x1\n.outputs y0\n.names x0 x1 y0\n1- 1\n-1 1\n.end\n"
     -- 14: outside the form
     ∷ refused "" 14
     ∷ refused ".model n\n.inputs x0\n.outputs y0\n.names y0\n" 14

@@ -35,7 +35,8 @@ module _ (bytes : List ℕ) (n : Net) (p : Network) (small : (b : ℕ) → b ∈
 -- ---- written, then read
 
 -- bytes are told of a network by the rules alone: its image, whole
-pub told-bytes : (b : Bool) (t o o′ : List ℕ) (k : ℕ) → Told (cond b none (some 10)) t o o′ (Bytes k) → (b ≡ true) × (k ≡ length t) × (o′ ≡ t ++ drop (length t) o)
+pub told-bytes : (b : Bool) (t o o′ : List ℕ) (k : ℕ) → Told (cond b none (some 10)) t o o′ (Bytes k) → (b ≡ true) × (k ≡ length t)
+    × (o′ ≡ t ++ drop (length t) o)
 unfolding orLong
 told-bytes false t o o′ k h = let e = h .0 in let z : _≡_ {A = ℕ} 0 1 = cc in absurd (omega arith)
 told-bytes true t o o′ k h = go (ltb (length o) (length t)) h

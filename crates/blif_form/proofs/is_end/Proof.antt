@@ -1,11 +1,9 @@
 -- `blif_form::is_end` meets its contract: the word `.end` and what comes after it tell. Assumes nothing.
 use Prim.Native.Nat.{ℕ}
-use mathlib.Core.Path.{_≡_, subst}
-use mathlib.Core.List.{List}
+use mathlib.Core.{Path._≡_, Path.subst, List.List}
 use borrow.Author.Needs.{needs}
 use Rattle.letters_products.specs.Spelled.{spelled}
-use Rattle.blif_scan.specs.Scanning.{NextIs, EndedIs}
-use Rattle.blif_scan.specs.declared.Ended.{Ended}
+use Rattle.blif_scan.specs.{Scanning.NextIs, Scanning.EndedIs, declared.Ended.Ended}
 use Rattle.blif_form.proofs.Surveying.{end-space, end-byte, end-line, end-finish, end-other}
 use Rattle.blif_form.proofs.is_end.Statement.{statement}
 use Rattle.blif_form.proofs.is_end.Tie as tie

@@ -8,8 +8,7 @@ use borrow.Author.Needs.{needs}
 use borrow.Author.Tests.{not-true, not-false}
 use lib.ListN.{length}
 use Rattle.blif_lines.specs.Lining.{RowsBy}
-use Rattle.blif_form.proofs.Columns.{window-used, window-none}
-use Rattle.blif_form.proofs.is_used.Statement.{statement}
+use Rattle.blif_form.proofs.{Columns.window-used, Columns.window-none, is_used.Statement.statement}
 use Rattle.blif_form.proofs.is_used.Tie as tie
 
 -- the states: the marks cleared, the rows read

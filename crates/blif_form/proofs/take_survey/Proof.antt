@@ -9,9 +9,8 @@ use borrow.Author.Needs.{needs}
 use borrow.Author.Tests.{not-true, not-false}
 use lib.ListN.{length}
 use Rattle.sets.specs.Word.{largest}
-use Rattle.blif_scan.specs.Heading.{HeadIs}
+use Rattle.blif_scan.specs.{Heading.HeadIs, declared.Head.Head}
 use Rattle.blif_form.specs.Surveying.{BlocksBy, SurveyBy, SurveyNot}
-use Rattle.blif_scan.specs.declared.Head.{Head}
 use Rattle.blif_form.specs.declared.Survey.{Survey}
 use Rattle.blif_form.proofs.Whole.{surveyed, headless, blockless}
 use Rattle.blif_form.proofs.take_survey.Statement.{statement}

@@ -2,17 +2,15 @@
 -- text. Assumes nothing.
 use Prim.Native.Nat.{ℕ, _-_}
 use mathlib.Core.Path.{_≡_, refl, _∙_, subst}
-use mathlib.Core.Logic.{inl, inr}
+use mathlib.Core.{Logic.inl, Logic.inr, List.List}
 use mathlib.Core.Bool.{Bool, true, false}
-use mathlib.Core.List.{List}
 use native.Mathlib.Omega.{arith}
 use borrow.Author.Needs.{needs}
 use borrow.Author.Tests.{not-true, not-false}
 use lib.ListN.{length}
 use Rattle.letters_products.specs.Spelled.{spelled}
-use Rattle.blif_scan.specs.Scanning.{EndedIs}
+use Rattle.blif_scan.specs.{Scanning.EndedIs, declared.Ended.Ended}
 use Rattle.blif_form.specs.Surveying.{BlockBy}
-use Rattle.blif_scan.specs.declared.Ended.{Ended}
 use Rattle.blif_scan.specs.declared.Ended.the-variants as Ended
 use Rattle.blif_form.proofs.Surveying.{Passed, passed-none, passed-more, passed-few, walked, walked-not}
 use Rattle.blif_form.proofs.walk.Statement.{statement}

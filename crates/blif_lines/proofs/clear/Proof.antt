@@ -33,4 +33,5 @@ returns c = let h = c .before in
 
 pub clear-spec : {M : Type 1} → statement M
 clear-spec =
-    tie.close (tie.spec Inv-loop μ-loop (λ c κs. search needs) loop-holds slice-write-marks (λ c. search needs) (λ c. search needs) loop-again same-length returns)
+    tie.close (tie.spec Inv-loop μ-loop (λ c κs. search needs) loop-holds slice-write-marks (λ c. search needs)
+    (λ c. search needs) loop-again same-length returns)

@@ -5,9 +5,7 @@ use mathlib.Core.Logic.{_⊎_, inl, inr}
 use native.Mathlib.Omega.{arith}
 use denote.Enum.Declared.{tagOf}
 use borrow.Author.Needs.{needs}
-use Rattle.blif_scan.specs.declared.Ended.{Ended}
-use Rattle.blif_scan.specs.declared.Ended.the-variants.{Line}
-use Rattle.blif_scan.proofs.Ended.{the-type}
+use Rattle.blif_scan.{specs.declared.Ended.Ended, specs.declared.Ended.the-variants.Line, proofs.Ended.the-type}
 use Rattle.blif_lines.proofs.Rowing.{end-spaceless, end-got, end-other}
 use Rattle.blif_lines.proofs.end_row.Statement.{statement}
 use Rattle.blif_lines.proofs.end_row.Tie as tie

@@ -1,7 +1,6 @@
 -- `blif_lines::is_point` meets its contract. Assumes nothing.
 use borrow.Author.Needs.{needs}
-use Rattle.blif_lines.proofs.Rowing.{point-byte, point-end}
-use Rattle.blif_lines.proofs.is_point.Statement.{statement}
+use Rattle.blif_lines.proofs.{Rowing.point-byte, Rowing.point-end, is_point.Statement.statement}
 use Rattle.blif_lines.proofs.is_point.Tie as tie
 
 returns : tie.Need-returns

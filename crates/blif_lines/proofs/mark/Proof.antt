@@ -3,8 +3,7 @@ use native.Mathlib.Omega.{arith}
 use borrow.Author.Needs.{needs}
 use mathlib.Core.Path.{_≡_, refl}
 use Prim.Native.Nat.{_-_}
-use Rattle.blif_lines.proofs.Marking.{raised-kept, raised-one}
-use Rattle.blif_lines.proofs.mark.Statement.{statement}
+use Rattle.blif_lines.proofs.{Marking.raised-kept, Marking.raised-one, mark.Statement.statement}
 use Rattle.blif_lines.proofs.mark.Tie as tie
 
 returns : tie.Need-returns

@@ -2,8 +2,7 @@
 use mathlib.Core.Path.{refl}
 use native.Mathlib.Omega.{arith}
 use borrow.Author.Needs.{needs}
-use Rattle.blif_lines.proofs.Marking.{raised-none}
-use Rattle.blif_lines.proofs.mark_last.Statement.{statement}
+use Rattle.blif_lines.proofs.{Marking.raised-none, mark_last.Statement.statement}
 use Rattle.blif_lines.proofs.mark_last.Tie as tie
 
 add-result : tie.Need-add-result

@@ -1,7 +1,6 @@
 -- `blif_lines::mark_sign` meets its contract. Assumes nothing.
 use borrow.Author.Needs.{needs}
-use Rattle.blif_lines.proofs.Rowing.{sign-none, sign-some}
-use Rattle.blif_lines.proofs.mark_sign.Statement.{statement}
+use Rattle.blif_lines.proofs.{Rowing.sign-none, Rowing.sign-some, mark_sign.Statement.statement}
 use Rattle.blif_lines.proofs.mark_sign.Tie as tie
 
 returns : tie.Need-returns

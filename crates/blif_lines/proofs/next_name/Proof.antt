@@ -1,7 +1,6 @@
 -- `blif_lines::next_name` meets its contract. Assumes nothing.
 use borrow.Author.Needs.{needs}
-use Rattle.blif_lines.proofs.Lining.{turn-is}
-use Rattle.blif_lines.proofs.next_name.Statement.{statement}
+use Rattle.blif_lines.proofs.{Lining.turn-is, next_name.Statement.statement}
 use Rattle.blif_lines.proofs.next_name.Tie as tie
 
 returns : tie.Need-returns

@@ -1,7 +1,6 @@
 -- `blif_lines::read_row` meets its contract. Assumes nothing.
 use borrow.Author.Needs.{needs}
-use Rattle.blif_lines.proofs.Rowing.{row-signless, row-is}
-use Rattle.blif_lines.proofs.read_row.Statement.{statement}
+use Rattle.blif_lines.proofs.{Rowing.row-signless, Rowing.row-is, read_row.Statement.statement}
 use Rattle.blif_lines.proofs.read_row.Tie as tie
 
 returns : tie.Need-returns

@@ -45,7 +45,8 @@ returns-2 : tie.Need-returns-2 Inv-loop μ-loop
 returns-2 c =
     let h = c .before in
     let a = h .before .before .before .args in
-    subst (λ (k : ℕ). SignsGot (a .s .now) (a .at) k (a .base) (a .marks .now) (h .loop .marks) (h .loop .p)) (omega (arith, h .loop .inv .0, c .loop-test .left))
+    subst (λ (k : ℕ). SignsGot (a .s .now) (a .at) k (a .base) (a .marks .now) (h .loop .marks) (h .loop .p))
+    (omega (arith, h .loop .inv .0, c .loop-test .left))
     (h .loop .inv .1)
 
 pub read-signs-spec : {M : Type 1} → statement M

@@ -1,12 +1,8 @@
 -- `blif_read::finish` meets its contract: what is built is judged by the rules. Assumes nothing.
-use mathlib.Core.Path.{_≡_, sym, _∙_}
-use lib.ListN.{length}
+use mathlib.Core.Path.{sym, _∙_}
 use borrow.Author.Needs.{needs}
-use Rattle.network.specs.Handed.{Shaped, nodeSlots, wordSlots}
-use Rattle.network.proofs.Handing.{shape-of}
-use Rattle.blif_read.specs.Defining.{modelBy}
-use Rattle.blif_read.proofs.Telling.{ruled-told, unruled-told}
-use Rattle.blif_read.proofs.finish.Statement.{statement}
+use Rattle.network.{specs.Handed.Shaped, proofs.Handing.shape-of}
+use Rattle.blif_read.proofs.{Telling.ruled-told, Telling.unruled-told, finish.Statement.statement}
 use Rattle.blif_read.proofs.finish.Tie as tie
 
 -- what was built has the arrays of a network

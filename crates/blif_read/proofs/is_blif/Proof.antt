@@ -1,13 +1,11 @@
 -- `blif_read::is_blif` meets its contract: whether the keyword was found tells. Assumes nothing.
-use mathlib.Core.Path.{_≡_, subst}
-use mathlib.Core.List.{List}
+use mathlib.Core.{Path._≡_, Path.subst, List.List}
 use Prim.Native.Nat.{ℕ}
 use borrow.Author.Needs.{needs}
 use Rattle.letters_products.specs.Spelled.{spelled}
 use Rattle.blif_laws.specs.Reading.{isBlif}
 use Rattle.blif_scan.specs.{Scanning.EndedIs, declared.Ended.Ended}
-use Rattle.blif_read.proofs.Telling.{begun, begun-told}
-use Rattle.blif_read.proofs.is_blif.Statement.{statement}
+use Rattle.blif_read.proofs.{Telling.begun, Telling.begun-told, is_blif.Statement.statement}
 use Rattle.blif_read.proofs.is_blif.Tie as tie
 
 abbrev text : tie.After-keyword → List ℕ

@@ -12,16 +12,32 @@ returns-2 : tie.Need-returns-2
 returns-2 c = let a = c .before .before .args in rw (le-leb 1 (a .n) (omega arith), lt-leb (a .n) mostInputs (omega arith))
 
 returns-3 : tie.Need-returns-3
-returns-3 c = let a = c .before .before .before .args in rw (le-leb 1 (a .n) (omega arith), le-leb (a .n) mostInputs (omega arith), lt-leb 1 (a .m) (omega arith))
+returns-3 c = let a = c .before .before .before .args in
+    rw (le-leb 1 (a .n) (omega arith), le-leb (a .n) mostInputs (omega arith), lt-leb 1 (a .m) (omega arith))
 
 returns-4 : tie.Need-returns-4
-returns-4 c = let a = c .before .before .before .before .args in rw (le-leb 1 (a .n) (omega arith), le-leb (a .n) mostInputs (omega arith), le-leb 1 (a .m) (omega arith), lt-leb (a .m) mostOutputs (omega arith))
+returns-4 c = let a = c .before .before .before .before .args in
+    rw (le-leb 1 (a .n) (omega arith), le-leb (a .n) mostInputs (omega arith), le-leb 1 (a .m) (omega arith), lt-leb (a .m) mostOutputs (omega arith))
 
 returns-5 : tie.Need-returns-5
-returns-5 c = let a = c .before .before .before .before .before .args in rw (le-leb 1 (a .n) (omega arith), le-leb (a .n) mostInputs (omega arith), le-leb 1 (a .m) (omega arith), le-leb (a .m) mostOutputs (omega arith), lt-leb (a .top) mostVariables (omega arith))
+returns-5 c = let a = c .before .before .before .before .before .args in
+    rw (
+      le-leb 1 (a .n) (omega arith),
+      le-leb (a .n) mostInputs (omega arith),
+      le-leb 1 (a .m) (omega arith),
+      le-leb (a .m) mostOutputs (omega arith),
+      lt-leb (a .top) mostVariables (omega arith),
+    )
 
 returns-6 : tie.Need-returns-6
-returns-6 c = let a = c .before .before .before .before .before .args in rw (le-leb 1 (a .n) (omega arith), le-leb (a .n) mostInputs (omega arith), le-leb 1 (a .m) (omega arith), le-leb (a .m) mostOutputs (omega arith), le-leb (a .top) mostVariables (omega arith))
+returns-6 c = let a = c .before .before .before .before .before .args in
+    rw (
+      le-leb 1 (a .n) (omega arith),
+      le-leb (a .n) mostInputs (omega arith),
+      le-leb 1 (a .m) (omega arith),
+      le-leb (a .m) mostOutputs (omega arith),
+      le-leb (a .top) mostVariables (omega arith),
+    )
 
 pub is-few-spec : {M : Type 1} → statement M
 is-few-spec = tie.close (tie.spec returns returns-2 returns-3 returns-4 returns-5 returns-6)

@@ -1,6 +1,5 @@
 -- `blif_read::read` meets its contract: 14 for the form and a gap, then 15, then 10, by what the passes found. Assumes nothing.
-use mathlib.Core.Path.{_≡_}
-use mathlib.Core.Bool.{true}
+use mathlib.Core.{Path._≡_, Bool.true}
 use Prim.Native.Nat.{_≤_}
 use Rattle.sets.specs.Word.{largest}
 use borrow.Author.Needs.{needs}
@@ -44,7 +43,8 @@ returns-3 : tie.Need-returns-3
 returns-3 c =
     let o = c .before .before in
     let g = o .before .before in
-    once-told (got (g .before)) (small (g .before)) _ (g .is-gapless .ensures) (gapless (o .before)) _ (o .is-once .ensures) (not-true _ (c .before .if3 .taken))
+    once-told (got (g .before)) (small (g .before)) _ (g .is-gapless .ensures) (gapless (o .before)) _ (o .is-once .ensures)
+    (not-true _ (c .before .if3 .taken))
     (c .refuse3 .ensures)
 
 returns-4 : tie.Need-returns-4
@@ -52,7 +52,8 @@ returns-4 c =
     let f = c .before .before in
     let o = f .before .before in
     let g = o .before .before in
-    many-told (got (g .before)) (small (g .before)) _ (g .is-gapless .ensures) (gapless (o .before)) _ (o .is-once .ensures) (once (f .before)) _ (f .is-few .ensures)
+    many-told (got (g .before)) (small (g .before)) _ (g .is-gapless .ensures) (gapless (o .before)) _ (o .is-once .ensures) (once (f .before)) _
+    (f .is-few .ensures)
     (not-true _ (c .before .if4 .taken)) (c .refuse4 .ensures)
 
 sub-finish : tie.Need-sub-finish
@@ -67,7 +68,8 @@ finish-requires c κs =
     let f = c .before .before in
     let o = f .before .before in
     let g = o .before .before in
-    buildable (got (g .before)) (small (g .before)) _ (g .is-gapless .ensures) (gapless (o .before)) _ (o .is-once .ensures) (once (f .before)) _ (f .is-few .ensures)
+    buildable (got (g .before)) (small (g .before)) _ (g .is-gapless .ensures) (gapless (o .before)) _ (o .is-once .ensures) (once (f .before)) _
+    (f .is-few .ensures)
     (few (c .before))
 
 returns-5 : tie.Need-returns-5
@@ -76,7 +78,8 @@ returns-5 c =
     let f = e .before in
     let o = f .before .before in
     let g = o .before .before in
-    finish-told (got (g .before)) (small (g .before)) _ (g .is-gapless .ensures) (gapless (o .before)) _ (o .is-once .ensures) (once (f .before)) _ (f .is-few .ensures) (few e) _
+    finish-told (got (g .before)) (small (g .before)) _ (g .is-gapless .ensures) (gapless (o .before)) _ (o .is-once .ensures) (once (f .before)) _
+    (f .is-few .ensures) (few e) _
     (c .finish .ensures)
 
 pub read-spec : {M : Type 1} → statement M

@@ -35,7 +35,8 @@ module _ (k : tie.After-known-told) where
 returns : tie.Need-returns
 returns c =
     let s = c .before .before .before .before in
-    lettered-cut (s .args .s .now) (s .args .at) (rw (c .enum-told .given .1) at (c .before .before .read-byte .ensures)) (s .args .letter) (decimal (s .args .k))
+    lettered-cut (s .args .s .now) (s .args .at) (rw (c .enum-told .given .1) at (c .before .before .read-byte .ensures)) (s .args .letter)
+    (decimal (s .args .k))
 
 returns-2 : tie.Need-returns-2
 returns-2 c =
@@ -49,7 +50,8 @@ returns-3 c =
     let k = n .before .before in
     let s = start k .args in
     lettered (text k) (s .at) (byte k) (after k) (next k) (s .letter) (decimal (s .k)) Ended.No (n .before .if1 .left)
-    (numeral-other (text k) (after k) (n .read-number .result .value) (s .k) (small k) (c .if2 .taken) (n .read-number .result .ended) (n .read-number .ensures))
+    (numeral-other (text k) (after k) (n .read-number .result .value) (s .k) (small k) (c .if2 .taken) (n .read-number .result .ended)
+    (n .read-number .ensures))
 
 returns-4 : tie.Need-returns-4
 returns-4 c =

@@ -7,8 +7,7 @@ use native.Mathlib.Omega.{arith}
 use lib.ListN.{length}
 use borrow.Author.Needs.{needs}
 use Rattle.sets.specs.Word.{largest}
-use Rattle.letters.specs.Letters.{decimal}
-use Rattle.letters.proofs.Numbers.{decimal-one}
+use Rattle.letters.{specs.Letters.decimal, proofs.Numbers.decimal-one}
 use Rattle.blif_scan.specs.Scanning.{left, DigitIs}
 use Rattle.blif_scan.specs.declared.Digit.the-variants as Digit
 use Rattle.blif_scan.proofs.Numerals.{numeral-none, numeral-zero, numeral-stop, numeral-next, numeral-large}

@@ -1,7 +1,6 @@
 -- `blif_scan::word` meets its contract. The loop's invariant: what was read may stand in a model's name. Assumes nothing.
 use Prim.Native.Nat.{ℕ, _-_}
-use mathlib.Core.Path.{sym, _∙_}
-use mathlib.Core.List.{List}
+use mathlib.Core.{Path.sym, Path._∙_, List.List}
 use native.Mathlib.Omega.{arith}
 use lib.ListN.{length}
 use borrow.Author.Needs.{needs}

@@ -8,8 +8,7 @@ use Rattle.cube.specs.Cube.{lits}
 use Rattle.expression.specs.Words.{cubesOf}
 use Rattle.letters.proofs.Laying.{Due, due-all, due-as, due-next, due-done}
 use Rattle.blif_write.specs.Parts.{plainsOf, rowsText}
-use Rattle.blif_write.proofs.Texts.{rows-next, rows-none}
-use Rattle.blif_write.proofs.put_rows.Statement.{statement}
+use Rattle.blif_write.proofs.{Texts.rows-next, Texts.rows-none, put_rows.Statement.statement}
 use Rattle.blif_write.proofs.put_rows.Tie as tie
 
 abbrev Inv-loop : tie.InvT-loop

@@ -12,8 +12,7 @@ use Rattle.network.specs.Held.{netOf}
 use Rattle.network.proofs.{Handing.shape-of, Telling.told-accepted, Telling.told-refused}
 use Rattle.blif_laws.specs.Text.{blifOf}
 use Rattle.image_write.proofs.Telling.{Renewed}
-use Rattle.blif_write.proofs.Renewing.{renewed-limited, renewed-text}
-use Rattle.blif_write.proofs.write.Statement.{statement}
+use Rattle.blif_write.proofs.{Renewing.renewed-limited, Renewing.renewed-text, write.Statement.statement}
 use Rattle.blif_write.proofs.write.Tie as tie
 
 -- the states of the walk: at the entry, after the network is renumbered, after the text is counted in no room

@@ -4,9 +4,8 @@ use mathlib.Core.Path.{_≡_, sym, _∙_}
 use native.Mathlib.Omega.{arith}
 use borrow.Author.Needs.{needs}
 use Rattle.letters_products.specs.Spelled.{spelled}
-use Rattle.blif_read.proofs.Finding.{begin-space}
+use Rattle.blif_read.proofs.{Finding.begin-space, build.begin.Statement.statement}
 use Rattle.blif_form.proofs.Passing.{names-other}
-use Rattle.blif_read.proofs.build.begin.Statement.{statement}
 use Rattle.blif_read.proofs.build.begin.Tie as tie
 
 abbrev start : tie.After-keyword → tie.Start

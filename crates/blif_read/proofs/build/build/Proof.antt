@@ -1,8 +1,7 @@
 -- `blif_read::build::build` meets its contract. The loop's invariant: whatever the blocks are, the nodes passed stand one after the other, their
 -- counts beside them. Assumes nothing.
 use Prim.Native.Nat.{ℕ, _+_, _-_, _≤_}
-use mathlib.Core.Path.{_≡_}
-use mathlib.Core.List.{List}
+use mathlib.Core.{Path._≡_, List.List}
 use native.Mathlib.Omega.{arith}
 use borrow.Author.Needs.{needs}
 use lib.ListN.{length, take, length-replicate}
@@ -52,7 +51,8 @@ returns c =
     let h = c .before in
     let a = start h .args in
     λ bs blocks small once many known few defined.
-    let w : Whole (a .s .now) (a .first) (a .n) (a .m) (a .k) bs = record { blocks = blocks; small = small; once = once; many = many; known = known; few = few; defined = defined } in
+    let w : Whole (a .s .now) (a .first) (a .n) (a .m) (a .k) bs =
+    record { blocks = blocks; small = small; once = once; many = many; known = known; few = few; defined = defined } in
     built-all (start h .pre) w {i = h .loop .i} (omega arith) (h .loop .inv .3 bs w)
 
 pub build-spec : {M : Type 1} → statement M

@@ -8,13 +8,11 @@ use borrow.Author.Needs.{needs}
 use borrow.Author.Tests.{not-true, not-false}
 use lib.ListN.{length}
 use Rattle.sets.{specs.Word.largest, proofs.Truth.clash}
-use Rattle.blif_laws.specs.Text.{Block}
-use Rattle.blif_laws.specs.Reading.{sameName}
+use Rattle.blif_laws.specs.{Text.Block, Reading.sameName}
 use Rattle.blif_scan.specs.Scanning.{left, labelOf}
 use Rattle.blif_form.specs.Surveying.{BlocksOf, SmallBlocks}
-use Rattle.blif_read.proofs.Building.{name-eq, name-self}
+use Rattle.blif_read.proofs.{Building.name-eq, Building.name-self, build.find.Statement.statement}
 use Rattle.blif_read.proofs.Finding.{Left, left-first, left-next, left-none, found-here}
-use Rattle.blif_read.proofs.build.find.Statement.{statement}
 use Rattle.blif_read.proofs.build.find.Tie as tie
 
 abbrev Inv-loop : tie.InvT-loop

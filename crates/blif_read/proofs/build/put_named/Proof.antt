@@ -28,7 +28,8 @@ returns-2 c =
           let g = r m bs h k l in
           let e = one-cubes _ bs (g .block) one (g .inside) (g .name) in
           let q = sort-length (g .block .cubes) in
-          let a = n .put-node .ensures .0 m (g .block) (g .more) h (small-in bs l (g .inside)) (g .is) (small (g .block) (g .inside)) (omega (arith, ap length e)) in
+          let a = n .put-node .ensures .0 m (g .block) (g .more) h (small-in bs l (g .inside)) (g .is) (small (g .block) (g .inside))
+          (omega (arith, ap length e)) in
           (a .0 ∙ sym q ∙ ap length (sym e), placed-as (sym e) (a .1)),
       n .put-node .ensures .1,
     )

@@ -42,7 +42,8 @@ returns c =
 returns-2 : tie.Need-returns-2
 returns-2 c =
     let n = named (c .before) in
-    let g = names-are (start n .args .s .now) (start n .args .from) 0 _ _ (n .read-names .result) (n .read-names .ensures) (not-false _ (c .before .if1 .left)) in
+    let g = names-are (start n .args .s .now) (start n .args .from) 0 _ _ (n .read-names .result) (n .read-names .ensures)
+    (not-false _ (c .before .if1 .left)) in
     (λ m b more l d h w k. absurd (omega (arith, node-few g h w, c .if2 .taken)), omega arith)
 
 returns-3 : tie.Need-returns-3

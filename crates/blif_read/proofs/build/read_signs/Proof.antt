@@ -1,8 +1,7 @@
 -- `blif_read::build::read_signs` meets its contract. The loop's invariant: whatever the signs are, those passed have their literals in the cube, and
 -- the others are left. Assumes nothing.
 use Prim.Native.Nat.{_-_, _≤_}
-use mathlib.Core.Path.{_≡_, subst}
-use mathlib.Core.List.{List, _++_}
+use mathlib.Core.{Path._≡_, Path.subst, List.List, List._++_}
 use native.Mathlib.Omega.{arith}
 use borrow.Author.Needs.{needs}
 use lib.ListN.{length}

@@ -1,9 +1,8 @@
 -- `blif_read::does_stand` meets its contract: a number of the window stands where its mark, at first zero, is not. Assumes nothing.
 use mathlib.Core.Path.{_∙_}
 use borrow.Author.Needs.{needs}
-use Rattle.blif_lines.specs.Marking.{window}
+use Rattle.blif_lines.{specs.Marking.window, proofs.Windows.window-met}
 use Rattle.blif_form.specs.Surveying.{namedBy}
-use Rattle.blif_lines.proofs.Windows.{window-met}
 use Rattle.blif_read.proofs.defining.does_stand.Statement.{statement}
 use Rattle.blif_read.proofs.defining.does_stand.Tie as tie
 

@@ -1,9 +1,8 @@
 -- `blif_read::is_defined` meets its contract: blocks and inputs are counted in marks that are zero at first. Assumes nothing.
 use mathlib.Core.Path.{_∙_}
 use borrow.Author.Needs.{needs}
-use Rattle.blif_lines.specs.Marking.{window}
+use Rattle.blif_lines.{specs.Marking.window, proofs.Windows.window-once}
 use Rattle.blif_read.specs.Defining.{definedBy}
-use Rattle.blif_lines.proofs.Windows.{window-once}
 use Rattle.blif_read.proofs.defining.is_defined.Statement.{statement}
 use Rattle.blif_read.proofs.defining.is_defined.Tie as tie
 

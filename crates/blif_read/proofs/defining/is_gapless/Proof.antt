@@ -1,8 +1,7 @@
 -- `blif_read::is_gapless` meets its contract. The loop's invariant: every number below the window stands. Assumes nothing.
 use Prim.Native.Nat.{ℕ, _-_, _≤_}
 use mathlib.Core.Path.{_≡_, sym, _∙_}
-use mathlib.Core.Bool.{true}
-use mathlib.Core.List.{List}
+use mathlib.Core.{Bool.true, List.List}
 use native.Mathlib.Omega.{arith}
 use borrow.Author.Needs.{needs}
 use borrow.Author.Tests.{not-true, not-false}
@@ -12,8 +11,7 @@ use Rattle.blif_scan.specs.Scanning.{left}
 use Rattle.blif_read.specs.Defining.{modelBy}
 use Rattle.blif_form.specs.Surveying.{BlocksOf, SmallBlocks}
 use Rattle.blif_lines.proofs.Windows.{windows-on, windows-stop, windows-done}
-use Rattle.blif_read.proofs.Tallying.{inputs-stand, others-stand}
-use Rattle.blif_read.proofs.defining.is_gapless.Statement.{statement}
+use Rattle.blif_read.proofs.{Tallying.inputs-stand, Tallying.others-stand, defining.is_gapless.Statement.statement}
 use Rattle.blif_read.proofs.defining.is_gapless.Tie as tie
 
 abbrev Inv-loop : tie.InvT-loop

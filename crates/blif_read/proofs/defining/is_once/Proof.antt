@@ -4,8 +4,7 @@ use native.Mathlib.Omega.{arith}
 use borrow.Author.Needs.{needs}
 use borrow.Author.Tests.{not-true, not-false}
 use Rattle.sets.specs.Word.{largest}
-use Rattle.blif_read.proofs.Tallying.{once-none, once-both}
-use Rattle.blif_read.proofs.defining.is_once.Statement.{statement}
+use Rattle.blif_read.proofs.{Tallying.once-none, Tallying.once-both, defining.is_once.Statement.statement}
 use Rattle.blif_read.proofs.defining.is_once.Tie as tie
 
 fit : (s : tie.Start) → s .args .m ≤ largest

@@ -5,8 +5,7 @@ use native.Mathlib.Omega.{arith}
 use native.Mathlib.Numerals.{add-one}
 use borrow.Author.Needs.{needs}
 use Rattle.sets.{specs.Lists.from, proofs.Rows.from-snoc}
-use Rattle.blif_lines.specs.Marking.{Raised}
-use Rattle.blif_lines.proofs.Marking.{raised-none, raised-on}
+use Rattle.blif_lines.{specs.Marking.Raised, proofs.Marking.raised-none, proofs.Marking.raised-on}
 use Rattle.blif_read.proofs.defining.mark_inputs.Statement.{statement}
 use Rattle.blif_read.proofs.defining.mark_inputs.Tie as tie
 
@@ -30,7 +29,8 @@ loop-again c =
     let s = h .before .before .before in (
       omega arith,
       subst (λ l. Raised (s .args .base) l (s .args .marks .now) (m .mark .last .0))
-          (sym (from-snoc (s .args .base) (h .loop .i)) ∙ ap (from (s .args .base)) (sym (add-one (h .loop .i)))) (raised-on (h .loop .inv .1) (m .mark .ensures)),
+          (sym (from-snoc (s .args .base) (h .loop .i)) ∙ ap (from (s .args .base)) (sym (add-one (h .loop .i))))
+          (raised-on (h .loop .inv .1) (m .mark .ensures)),
     )
 
 same-length : tie.Need-same-length Inv-loop μ-loop

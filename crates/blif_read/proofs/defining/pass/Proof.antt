@@ -7,10 +7,7 @@ use denote.Enum.Declared.{tagOf}
 use borrow.Author.Needs.{needs}
 use borrow.Author.Tests.{not-true, not-false}
 use Rattle.letters_products.specs.Spelled.{spelled}
-use Rattle.blif_scan.specs.Scanning.{EndedIs}
-use Rattle.blif_scan.specs.declared.Ended.{Ended}
-use Rattle.blif_scan.specs.declared.Ended.the-variants.{Space}
-use Rattle.blif_scan.proofs.Ended.{the-type}
+use Rattle.blif_scan.{specs.Scanning.EndedIs, specs.declared.Ended.Ended, specs.declared.Ended.the-variants.Space, proofs.Ended.the-type}
 use Rattle.blif_form.proofs.Passing.{names-are, names-none, rows-are, rows-none}
 use Rattle.blif_read.proofs.Counting.{passed-end, passed-unnamed, passed-rowless, passed-one}
 use Rattle.blif_read.proofs.defining.pass.Statement.{statement}
