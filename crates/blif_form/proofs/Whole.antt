@@ -44,7 +44,7 @@ pub head-one : {t r u : List ℕ} {n m k j : ℕ} → Headed t n m r → Headed 
 unfolding headLines spelled
 head-one {t} {r} {u} {n} {m} {k} {j} p q =
     let a = words-line (model (p .name)) (model (q .name)) (line (ins n) (line (outs m) r)) (line (ins k) (line (outs j) u))
-    (together (isClear (p .name)) true (p .clear) refl) (together (isClear (q .name)) true (q .clear) refl)
+    (together (isClear (p .name)) true (p .titled .clear) refl) (together (isClear (q .name)) true (q .titled .clear) refl)
     (sym (three-lines (spaced (model (p .name))) (spaced (ins n)) (spaced (outs m)) r)
     ∙ sym (p .text)
     ∙ q .text
@@ -73,7 +73,7 @@ unfolding modelText modelLines
 form-head {t} {d} f =
     let w = f .writes in
     let c = closes-out t (headLines (w .name) (d .inputs) (d .outputs)) (flat (map blockLines (d .blocks))) (spelled ".end") (w .text) in
-    (c .0, record { name = w .name; good = w .good; clear = w .clear; text = c .1 }, record { each = f .formed; text = c .2 })
+    (c .0, record { name = w .name; titled = w .titled; text = c .1 }, record { each = f .formed; text = c .2 })
 
 pub head-form : {t r : List ℕ} {d : Model} → Headed t (d .inputs) (d .outputs) r → BlocksOf r (d .outputs) (d .blocks) → InForm t d
 unfolding modelText modelLines
@@ -81,8 +81,7 @@ head-form {t} {r} {d} h b = record {
   formed = b .each;
   writes = record {
     name = h .name;
-    good = h .good;
-    clear = h .clear;
+    titled = h .titled;
     text = closes-in t r (headLines (h .name) (d .inputs) (d .outputs)) (flat (map blockLines (d .blocks)) ++ (spelled ".end" ∷ [])) (h .text) (b .text);
   };
 }

@@ -3,7 +3,7 @@ use Prim.Native.Nat.{ℕ}
 use mathlib.Core.Path.{_≡_, refl, sym, ap, ap₂, _∙_, subst}
 use mathlib.Core.Logic.{inl, inr, _↔_}
 use mathlib.Core.Bool.{Bool, true, false, not, _&&_}
-use mathlib.Core.List.{List, [], _∷_, _++_, append-assoc}
+use mathlib.Core.List.{List, [], _∷_, _++_}
 use native.Mathlib.Omega.{arith}
 use lib.Dec.{eqb}
 use borrow.Author.Tests.{eqb-true, not-true}
@@ -12,10 +12,10 @@ use Rattle.letters_products.specs.Spelled.{spelled}
 use Rattle.network.specs.{Net.Net, Handed.gives}
 use Rattle.blif_laws.specs.Text.{Model, modelText, modelLines, headLines, ended, spaced}
 use Rattle.blif_laws.specs.Reading.{joined, onto, cutAt, linesIn, wordsIn, first, isBlif, readBlif}
-use Rattle.blif_laws.specs.Meaning.{isClear, Starts, bySpace, byLine, byEnd, Writes, BlifAnswer, taken}
-use Rattle.blif_laws.proofs.Judging.{answer-iff}
+use Rattle.blif_laws.specs.Meaning.{isClear, Starts, bySpace, byLine, byEnd, Writes}
+use Rattle.blif_laws.proofs.Judging.{given-iff}
 
--- the first piece of what is cut at b, and what is cut from there
+-- the first word of the first line
 abbrev word : List ℕ → List ℕ
 word t = first (wordsIn (first (linesIn t)))
 
@@ -54,21 +54,30 @@ first-more b w r c =
 rest-clear : (b : ℕ) (w : List ℕ) → isClear (b ∷ w) ≡ true → isClear w ≡ true
 rest-clear b w c = both (not (eqb b 32) && not (eqb b 10)) (isClear w) c .1
 
+-- one byte more at the front of both
+starts-more : {x y : ℕ} {t w : List ℕ} → x ≡ y → Starts t w → Starts (x ∷ t) (y ∷ w)
+starts-more h (bySpace r e) = bySpace r (ap₂ (λ (z : ℕ) (l : List ℕ). z ∷ l) h e)
+starts-more h (byLine r e) = byLine r (ap₂ (λ (z : ℕ) (l : List ℕ). z ∷ l) h e)
+starts-more h (byEnd e) = byEnd (ap₂ (λ (z : ℕ) (l : List ℕ). z ∷ l) h e)
+
+-- and one less
+starts-less : {b : ℕ} {w t : List ℕ} → Starts t (b ∷ w) → (r : List ℕ) × (t ≡ b ∷ r) × Starts r w
+starts-less {w = w} (bySpace r e) = (w ++ (32 ∷ r), e, bySpace r refl)
+starts-less {w = w} (byLine r e) = (w ++ (10 ∷ r), e, byLine r refl)
+starts-less {w = w} (byEnd e) = (w, e, byEnd refl)
+
 -- every text begins with its first word
 word-starts : (t : List ℕ) → Starts t (word t)
 unfolding cutAt
 word-starts [] = byEnd refl
 word-starts (b ∷ t) = go (eqb b 32) refl (eqb b 10) refl (word-starts t)
   where
-    more : {w : List ℕ} → Starts t w → Starts (b ∷ t) (b ∷ w)
-    more (bySpace r e) = bySpace r (ap (λ (x : List ℕ). b ∷ x) e)
-    more (byLine r e) = byLine r (ap (λ (x : List ℕ). b ∷ x) e)
-    more (byEnd e) = byEnd (ap (λ (x : List ℕ). b ∷ x) e)
-
     go : (x : Bool) → eqb b 32 ≡ x → (y : Bool) → eqb b 10 ≡ y → Starts t (word t) → Starts (b ∷ t) (word (b ∷ t))
-    go true p y q s = let e = eqb-true b 32 p in subst (λ (z : ℕ). Starts (z ∷ t) (word (z ∷ t))) (sym e) (subst (Starts (32 ∷ t)) (sym (word-space t)) (bySpace t refl))
+    go true p y q s =
+        let e = eqb-true b 32 p in
+        subst (λ (z : ℕ). Starts (z ∷ t) (word (z ∷ t))) (sym e) (subst (Starts (32 ∷ t)) (sym (word-space t)) (bySpace t refl))
     go false p true q s = let e = eqb-true b 10 q in subst (λ (z : ℕ). Starts (z ∷ t) (word (z ∷ t))) (sym e) (byLine t refl)
-    go false p false q s = subst (Starts (b ∷ t)) (sym (word-more b t p q)) (more s)
+    go false p false q s = subst (Starts (b ∷ t)) (sym (word-more b t p q)) (starts-more refl s)
 
 -- a word without space and LF that a text begins with is its first
 starts-word : (w t : List ℕ) → isClear w ≡ true → Starts t w → word t ≡ w
@@ -76,9 +85,9 @@ unfolding cutAt
 starts-word [] t c (bySpace r e) = ap word e ∙ word-space r
 starts-word [] t c (byLine r e) = ap word e ∙ word-line r
 starts-word [] t c (byEnd e) = ap word e
-starts-word (b ∷ w) t c (bySpace r e) = ap word e ∙ first-more b w (w ++ (32 ∷ r)) c ∙ ap (λ (x : List ℕ). b ∷ x) (starts-word w (w ++ (32 ∷ r)) (rest-clear b w c) (bySpace r refl))
-starts-word (b ∷ w) t c (byLine r e) = ap word e ∙ first-more b w (w ++ (10 ∷ r)) c ∙ ap (λ (x : List ℕ). b ∷ x) (starts-word w (w ++ (10 ∷ r)) (rest-clear b w c) (byLine r refl))
-starts-word (b ∷ w) t c (byEnd e) = ap word e ∙ first-more b w w c ∙ ap (λ (x : List ℕ). b ∷ x) (starts-word w w (rest-clear b w c) (byEnd refl))
+starts-word (b ∷ w) t c s =
+    let q = starts-less s in
+    ap word (q .1) ∙ first-more b w (q .0) c ∙ ap (λ (x : List ℕ). b ∷ x) (starts-word w (q .0) (rest-clear b w c) (q .2))
 
 model-clear : isClear (spelled ".model") ≡ true
 unfolding spelled
@@ -109,12 +118,7 @@ starts-short (x ∷ w) [] r e = absurd (nil-more w (let h : [] ≡ w ++ (32 ∷ 
 starts-short (x ∷ w) (b ∷ t) r e =
     let h : b ≡ x = cc in
     let k : t ++ (10 ∷ []) ≡ w ++ (32 ∷ r) = cc in
-    longer (starts-short w t r k) h
-  where
-    longer : {u v : List ℕ} → Starts u v → b ≡ x → Starts (b ∷ u) (x ∷ v)
-    longer (bySpace s q) h = bySpace s (ap₂ (λ (y : ℕ) (l : List ℕ). y ∷ l) h q)
-    longer (byLine s q) h = byLine s (ap₂ (λ (y : ℕ) (l : List ℕ). y ∷ l) h q)
-    longer (byEnd q) h = byEnd (ap₂ (λ (y : ℕ) (l : List ℕ). y ∷ l) h q)
+    starts-more h (starts-short w t r k)
 
 starts-text : {t : List ℕ} {d : Model} → Writes t d → Starts t (spelled ".model")
 starts-text {t} {d} w = elim (w .text) [
@@ -124,7 +128,4 @@ starts-text {t} {d} w = elim (w .text) [
 
 -- what is accepted is told so
 pub read-told : (t : List ℕ) (n : Net) → readBlif t ≡ gives n → isBlif t ≡ true
-read-told t n e = blif-iff t .1 (go (answer-iff t (gives n) .0 e))
-  where
-    go : {m : Net} → BlifAnswer t (gives m) → Starts (joined t) (spelled ".model")
-    go (taken f g o l) = starts-text (f .writes)
+read-told t n e = let q = given-iff t n .0 e .2 in blif-iff t .1 (starts-text (q .1 .writes))

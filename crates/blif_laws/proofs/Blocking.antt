@@ -1,7 +1,6 @@
 -- Blocks: a formed block is read as it is written, and what is read is formed and written so, row by row and name by name. Assumes nothing.
 use Prim.Native.Nat.{ℕ, _/_, _<_}
 use mathlib.Core.Path.{_≡_, refl, sym, ap, ap₂, _∙_, subst}
-use mathlib.Core.Logic.{_↔_}
 use mathlib.Core.Bool.{true, not, _&&_}
 use mathlib.Core.List.{List, [], _∷_, _++_, map}
 use mathlib.Core.Option.{some}
@@ -9,10 +8,7 @@ use native.Mathlib.Omega.{arith}
 use lib.Dec.{ltb}
 use lib.ListN.{length}
 use borrow.Author.Tests.{lt-ltb, ltb-true}
-use Rattle.sets.specs.Lists.{all}
-use Rattle.sets.specs.Literal.{variableOf}
-use Rattle.sets.specs.Sets.{mem, same, asc}
-use Rattle.sets.proofs.Truth.{both, together}
+use Rattle.sets.{specs.Lists.all, specs.Literal.variableOf, specs.Sets.mem, specs.Sets.same, proofs.Truth.both, proofs.Truth.together}
 use Rattle.sets.proofs.Lists.{_∈_, all-in, all-out, all-append, map-out, map-map, map-fixed}
 use Rattle.sets.proofs.Sets.{mem-of, of-mem, same-eq, same-self}
 use Rattle.letters.specs.Letters.{nameText}
@@ -23,9 +19,9 @@ use Rattle.network.proofs.Numbering.{read-passes, passes-read}
 use Rattle.network_reads.{specs.Reading.readsOf, proofs.Reading.reads-in, proofs.Reading.reads-out, proofs.Reading.reads-asc}
 use Rattle.blif_laws.specs.Text.{spaced, Name, variable, output, nameWord, rowWords, Block, namesWords, blockLines}
 use Rattle.blif_laws.specs.Reading.{andThen, wordsIn, Part, pointed, Named, namesIn, isRow, cubeIn, cubesIn, among, blockFrom, after, blockIn}
-use Rattle.blif_laws.specs.Meaning.{isClear, FormedBlock}
+use Rattle.blif_laws.specs.Meaning.{NamesLine, isClear, FormedBlock}
 use Rattle.blif_laws.proofs.Cutting.{words-spaced, spaced-words, clear-words, clear-line}
-use Rattle.blif_laws.proofs.Naming.{then-out, then-in, passed, passes, name-clear, text-clear, Lists, names-iff}
+use Rattle.blif_laws.proofs.Naming.{then-out, then-in, passed, passes, name-clear, text-clear, names-iff}
 use Rattle.blif_laws.proofs.Rowing.{cube-read, row-clear, row-plain, row-in, row-cube, row-out}
 use Rattle.blif_laws.proofs.Parting.{isPart}
 
@@ -130,7 +126,7 @@ module _ (m : ℕ) (b : Block) (h : FormedBlock m b) where
       (then-in (namesIn 0 ws) _ named-in from-in)
 
 -- and back: what is read is formed, and written so
-module _ (m : ℕ) (p : Part) (d : Named) (ws : List (List ℕ)) (ls : Lists ws d) where
+module _ (m : ℕ) (p : Part) (d : Named) (ws : List (List ℕ)) (ls : NamesLine ws d) where
   abbrev blockRead : Block
   blockRead = record { name = d .name; cubes = cubesIn (d .reads) (p .rows) }
 
@@ -173,7 +169,3 @@ block-out m p b e =
     let r = then-out (after (spelled ".names") (wordsIn (p .head))) (λ ws. andThen (namesIn 0 ws) (blockFrom m (p .rows))) b e in
     let s = then-out (namesIn 0 (r .0)) (blockFrom m (p .rows)) b (r .2) in
     from-out m p (s .0) (r .0) (names-iff (r .0) (s .0) .0 (s .1)) b (after-out (spelled ".names") (wordsIn (p .head)) (r .0) (r .1)) (s .2)
-
--- a part is read as the block b exactly where b is formed and the part is written for it
-pub block-iff : (m : ℕ) (p : Part) (b : Block) → (blockIn m p ≡ some b) ↔ ((p ≡ blockPart b) × FormedBlock m b)
-block-iff m p b = (block-out m p b, λ r. ap (blockIn m) (r .0) ∙ block-in m b (r .1))

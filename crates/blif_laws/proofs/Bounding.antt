@@ -2,18 +2,16 @@
 use Prim.Native.Nat.{ℕ, zero, suc, _+_, _<_, _≤_}
 use mathlib.Core.Path.{_≡_, refl, ap, _∙_, subst}
 use mathlib.Core.Logic.{_⊎_, inl, inr}
-use mathlib.Core.Bool.{true, not}
+use mathlib.Core.{Bool.true, Bool.not, Option.some}
 use mathlib.Core.List.{List, [], _∷_, _++_, map}
-use mathlib.Core.Option.{some}
 use native.Mathlib.Omega.{arith}
 use lib.Dec.{eqb, leb, ltb}
 use lib.ListN.{length, length-append, length-map}
 use borrow.Author.Tests.{eq-eqb, ne-eqb, le-leb, lt-ltb}
 use Rattle.sets.specs.Lists.{all, keep, total, from}
-use Rattle.sets.specs.Sets.{mem}
+use Rattle.sets.{specs.Sets.mem, proofs.Rows.from-length}
 use Rattle.sets.proofs.Truth.{together, compared, below, equal, beyond}
 use Rattle.sets.proofs.Lists.{_∈_, keep-all, keep-fewer, all-in, total-append}
-use Rattle.sets.proofs.Rows.{from-length}
 use Rattle.sets.proofs.Sets.{of-mem, keep-mem, from-mem, mem-all}
 use Rattle.letters.specs.Letters.{nameText}
 use Rattle.letters_products.specs.Spelled.{spelled}
@@ -22,8 +20,7 @@ use Rattle.network_reads.specs.Reading.{readsOf}
 use Rattle.blif_laws.specs.Text.{spaced, ended, nameWord, Name, variable, output, firstNames, Block, namesWords, blockLines, Model, headLines, modelLines}
 use Rattle.blif_laws.specs.Text.{modelText}
 use Rattle.blif_laws.specs.Reading.{modelIn, namedIn, standing, gapless}
-use Rattle.blif_laws.proofs.Naming.{names-length}
-use Rattle.blif_laws.proofs.Forming.{model-iff}
+use Rattle.blif_laws.proofs.{Naming.names-length, Forming.model-iff}
 
 -- ---- the numbers below n, each in a list
 
@@ -118,12 +115,6 @@ module _ (t : List ℕ) (d : Model) (e : modelIn t ≡ some d) where
       go : (name : List ℕ) → (t ≡ modelText name d) ⊎ (t ++ (10 ∷ []) ≡ modelText name d) → length (standing d) + d .outputs < length t
       go name (inl q) = omega (arith, model-length name d, ap length q)
       go name (inr q) = omega (arith, model-length name d, ap length q, length-append t (10 ∷ []))
-
-  pub outputs-short : d .outputs < length t
-  outputs-short = omega (arith, standing-short)
-
-  pub inputs-short : d .inputs < length t
-  inputs-short = omega (arith, standing-short, length-append (from 0 (d .inputs)) (flat (map namedIn (d .blocks))), from-length 0 (d .inputs))
 
 -- where no number is left out, every number that stands is below the length
 below-in : (d : Model) (v : ℕ) → gapless d ≡ true → mem v (standing d) ≡ true → (u : ℕ) → u < suc v → mem u (standing d) ≡ true

@@ -1,8 +1,8 @@
--- Broken lines: a text means the same wherever a line is broken, one with no broken line stays, and what is joined byte by byte. Assumes nothing.
+-- Broken lines: a text means the same wherever lines are broken, one with no broken line stays, and what is joined byte by byte. Assumes nothing.
 use Prim.Native.Nat.{ℕ, _+_, _<_, _≤_}
-use mathlib.Core.Path.{_≡_, refl, sym, ap, ap₂, _∙_}
-use mathlib.Core.Logic.{inl, inr}
-use mathlib.Core.Bool.{_&&_}
+use mathlib.Core.Path.{_≡_, refl, sym, ap, ap₂, _∙_, subst}
+use mathlib.Core.Logic.{_⊎_, inl, inr}
+use mathlib.Core.Bool.{true, false, cond, _&&_}
 use mathlib.Core.List.{List, [], _∷_, _++_, head-eq-of-cons-eq}
 use native.Mathlib.Omega.{arith}
 use lib.Dec.{eqb}
@@ -10,7 +10,7 @@ use lib.ListN.{length, getD, drop, length-drop, drop-of-length-le}
 use borrow.Author.Tests.{eqb-true}
 use Rattle.sets.proofs.{Truth.both, Truth.decided, Places.drop-next}
 use Rattle.blif_laws.specs.Reading.{joined, modelIn, judgeModel, readBlif}
-use Rattle.blif_laws.specs.Meaning.{Broken, BreaksAcross}
+use Rattle.blif_laws.specs.Meaning.{Broken, BreaksAcross, Breaks, noMore, kept, put}
 
 -- ---- the first byte
 
@@ -51,6 +51,40 @@ unfolding joined
 unbroken [] h = refl
 unbroken (x ∷ t) h =
     first-byte x t (λ e u p. h ([], u, ap₂ _∷_ e p)) ∙ ap (x ∷_) (unbroken t (λ q. h (x ∷ q .0, q .1, ap (x ∷_) (q .2))))
+
+-- ---- breaks put in anywhere
+
+-- a text that begins with LF after breaks were put in began with it before
+breaks-first : {u t : List ℕ} → Breaks u (10 ∷ t) → (r : List ℕ) × (u ≡ 10 ∷ r)
+breaks-first (kept b {u = u} s) = (u, refl)
+
+-- a text with no broken line, with breaks put in anywhere, is joined to what it was
+pub breaks-joined : {u t : List ℕ} → Breaks u t → (Broken u → ⊥) → joined t ≡ u
+unfolding joined
+breaks-joined noMore h = refl
+breaks-joined (kept b {u = u} {t = t} s) h =
+    first-byte b t (λ e r p. let q = breaks-first (subst (Breaks u) p s) in h ([], q .0, ap₂ _∷_ e (q .1)))
+    ∙ ap (b ∷_) (breaks-joined s (λ q. h (b ∷ q .0, q .1, ap (b ∷_) (q .2))))
+breaks-joined (put {t = t} s) h = first-break t ∙ breaks-joined s h
+
+-- and so it is answered what it was
+pub breaks-read : {u t : List ℕ} → Breaks u t → (Broken u → ⊥) → readBlif t ≡ readBlif u
+unfolding readBlif
+breaks-read {u} s h = ap (λ r. judgeModel (modelIn r)) (breaks-joined s h ∙ sym (unbroken u h))
+
+-- every text is what it is joined to, with breaks put in
+pub joined-breaks : (t : List ℕ) → Breaks (joined t) t
+unfolding joined
+joined-breaks [] = noMore
+joined-breaks (b ∷ []) = kept b noMore
+joined-breaks (b ∷ d ∷ t) = go (decided (eqb b 92 && eqb d 10)) (joined-breaks t) (joined-breaks (d ∷ t))
+  where
+    go : ((eqb b 92 && eqb d 10) ≡ true) ⊎ ((eqb b 92 && eqb d 10) ≡ false) → Breaks (joined t) t → Breaks (joined (d ∷ t)) (d ∷ t)
+        → Breaks (cond (eqb b 92 && eqb d 10) (joined t) (b ∷ joined (d ∷ t))) (b ∷ d ∷ t)
+    go (inl e) s r =
+        let q = both (eqb b 92) (eqb d 10) e in
+        rw e (subst (Breaks (joined t)) (ap₂ (λ (x y : ℕ). x ∷ y ∷ t) (sym (eqb-true b 92 (q .0))) (sym (eqb-true d 10 (q .1)))) (put s))
+    go (inr e) s r = rw e (kept b r)
 
 -- ---- from place p on
 

@@ -1,21 +1,18 @@
 -- Cutting a text at a byte and putting its pieces together, each undoing the other, by induction on the text; lines and words follow. Assumes nothing.
 use Prim.Native.Nat.{ℕ, _≤_}
-use mathlib.Core.Path.{_≡_, refl, sym, ap, _∙_, subst}
-use mathlib.Core.Logic.{_↔_}
+use mathlib.Core.Path.{_≡_, refl, sym, ap, _∙_}
 use mathlib.Core.Bool.{Bool, true, false, cond, not, _&&_}
 use mathlib.Core.List.{List, [], _∷_, _++_, map, append-nil, append-assoc, append-cancel-right}
 use native.Mathlib.Omega.{arith}
 use lib.Dec.{eqb}
 use lib.ListN.{length}
 use borrow.Author.Tests.{eqb-true, eq-eqb, not-true}
-use Rattle.sets.specs.Lists.{all}
-use Rattle.sets.proofs.Truth.{both, together}
+use Rattle.sets.{specs.Lists.all, proofs.Truth.both, proofs.Truth.together}
 use Rattle.sets.proofs.Lists.{_∈_, all-in, all-out, all-append}
 use Rattle.table_lines.specs.Meaning.{lacks}
 use Rattle.network.specs.Handed.{flat}
-use Rattle.blif_laws.specs.Text.{spaced, ended}
+use Rattle.blif_laws.specs.{Text.spaced, Text.ended, Meaning.isClear}
 use Rattle.blif_laws.specs.Reading.{onto, cutAt, linesIn, wordsIn}
-use Rattle.blif_laws.specs.Meaning.{isClear}
 
 -- the first byte of what lacks b, and the others
 lacks-first : (b x : ℕ) (w : List ℕ) → lacks b (x ∷ w) ≡ true → (eqb x b ≡ false) × (lacks b w ≡ true)
@@ -47,27 +44,20 @@ cut-glued b w (u ∷ ws) h = let r = both (lacks b w) (all (lacks b) (u ∷ ws))
     cut-more b w (glued b (u ∷ ws)) (r .0) ∙ ap (w ∷_) (cut-glued b u ws (r .1))
 
 -- what is cut: pieces, one or more, none of which has b, and put together they are the text
-pub record Cut (b : ℕ) (t : List ℕ) (ws : List (List ℕ)) : Type 0 where
+pub record Pieces (b : ℕ) (t : List ℕ) (ws : List (List ℕ)) : Type 0 where
   pub one : 1 ≤ length ws
   pub each : all (lacks b) ws ≡ true
   pub text : glued b ws ≡ t
 
-pub cut-out : (b : ℕ) (t : List ℕ) → Cut b t (cutAt b t)
+pub cut-out : (b : ℕ) (t : List ℕ) → Pieces b t (cutAt b t)
 unfolding cutAt
 cut-out b [] = record { one = omega arith; each = refl; text = refl }
 cut-out b (x ∷ t) = go (eqb x b) refl (cutAt b t) (cut-out b t)
   where
-    go : (e : Bool) → eqb x b ≡ e → (ws : List (List ℕ)) → Cut b t ws → Cut b (x ∷ t) (cond e ([] ∷ ws) (onto x ws))
+    go : (e : Bool) → eqb x b ≡ e → (ws : List (List ℕ)) → Pieces b t ws → Pieces b (x ∷ t) (cond e ([] ∷ ws) (onto x ws))
     go e q [] r = absurd (omega (arith, r .one))
     go true q (w ∷ ws) r = record { one = omega arith; each = r .each; text = rw (eqb-true x b q) (ap (b ∷_) (r .text)) }
     go false q (w ∷ ws) r = record { one = omega arith; each = rw q (r .each); text = ap (x ∷_) (r .text) }
-
-pub cut-iff : (b : ℕ) (t : List ℕ) (ws : List (List ℕ)) → (cutAt b t ≡ ws) ↔ Cut b t ws
-cut-iff b t ws = (λ e. subst (Cut b t) e (cut-out b t), back ws)
-  where
-    back : (ws : List (List ℕ)) → Cut b t ws → cutAt b t ≡ ws
-    back [] r = absurd (omega (arith, r .one))
-    back (w ∷ ws) r = ap (cutAt b) (sym (r .text)) ∙ cut-glued b w ws (r .each)
 
 -- a last b begins one more piece, which is empty
 pub cut-last : (b : ℕ) (t : List ℕ) → cutAt b (t ++ (b ∷ [])) ≡ cutAt b t ++ ([] ∷ [])
@@ -75,7 +65,7 @@ unfolding cutAt
 cut-last b [] = rw (eq-eqb b b refl)
 cut-last b (x ∷ t) = go (eqb x b) (cutAt b t) (cut-out b t) (cut-last b t)
   where
-    go : (e : Bool) (ws : List (List ℕ)) → Cut b t ws → cutAt b (t ++ (b ∷ [])) ≡ ws ++ ([] ∷ [])
+    go : (e : Bool) (ws : List (List ℕ)) → Pieces b t ws → cutAt b (t ++ (b ∷ [])) ≡ ws ++ ([] ∷ [])
         → cond e ([] ∷ cutAt b (t ++ (b ∷ []))) (onto x (cutAt b (t ++ (b ∷ [])))) ≡ cond e ([] ∷ ws) (onto x ws) ++ ([] ∷ [])
     go e [] r q = absurd (omega (arith, r .one))
     go true (w ∷ ws) r q = ap ([] ∷_) q
@@ -160,7 +150,3 @@ module _ (ws : List (List ℕ)) (h : all isClear ws ≡ true) where
 
   pub clear-line : lacks 10 (spaced ws) ≡ true
   clear-line = lacks-spaced ws ∙ all-in (lacks 10) ws (λ u m. each-clear u m .1)
-
-pub line-clear : (l : List ℕ) → lacks 10 l ≡ true → all isClear (wordsIn l) ≡ true
-line-clear l h = all-in isClear (wordsIn l) (λ u m. clear-in u (all-out (lacks 32) m (words-lack l))
-    (all-out (lacks 10) m (sym (lacks-spaced (wordsIn l)) ∙ ap (lacks 10) (spaced-words l) ∙ h)))

@@ -8,18 +8,16 @@ use mathlib.Core.List.{List·Memᴰ·cases-cons}
 use mathlib.Core.Option.{Option, none, some}
 use native.Mathlib.Omega.{arith}
 use lib.ListN.{length}
-use Rattle.sets.specs.Lists.{all, isNil}
-use Rattle.sets.specs.Sets.{same}
+use Rattle.sets.{specs.Lists.all, specs.Lists.isNil, specs.Sets.same, proofs.Sets.same-eq, proofs.Sets.same-self}
 use Rattle.sets.proofs.Truth.{both, together, clash}
 use Rattle.sets.proofs.Lists.{_∈_, all-in, all-append, map-out}
-use Rattle.sets.proofs.Sets.{same-eq, same-self}
 use Rattle.letters_products.specs.Spelled.{spelled}
 use Rattle.table_lines.specs.Meaning.{lacks}
 use Rattle.network.specs.Handed.{flat}
-use Rattle.blif_laws.specs.Text.{spaced, ended, firstNames, Block, blockLines, Model, headLines, modelLines, modelText}
+use Rattle.blif_laws.specs.Text.{spaced, firstNames, Block, blockLines, Model, headLines, modelLines, modelText}
 use Rattle.blif_laws.specs.Reading.{andThen, linesIn, wordsIn, Part, partsOf, inTurn, after, blockIn, closed, blocksIn, isModelName, isModel, listIn}
 use Rattle.blif_laws.specs.Reading.{pointed, Parted, modelParts, modelIn}
-use Rattle.blif_laws.specs.Meaning.{isClear, FormedBlock, Formed, InForm}
+use Rattle.blif_laws.specs.Meaning.{isClear, Titled, FormedBlock, Formed, InForm}
 use Rattle.blif_laws.proofs.Cutting.{lines-ended, lines-short, lines-lack, ended-lines, short-lines, words-spaced, words-lack, spaced-words}
 use Rattle.blif_laws.proofs.Cutting.{clear-in, clear-out, clear-words, clear-line, lacks-spaced}
 use Rattle.blif_laws.proofs.Naming.{then-out, then-in, passed, passes, turn-iff, names-clear}
@@ -134,11 +132,11 @@ module _ (name : List ℕ) (d : Model) (r : List (List ℕ)) where
       ∷ alone (spaced (spelled ".outputs" ∷ firstNames 121 (d .outputs)))
       ∷ (map blockPart (d .blocks) ++ (endPart r ∷ []))
 
-  model-in : isModelName name ≡ true → isClear name ≡ true → closed r ≡ true → Formed d → modelParts partsFor ≡ some d
+  model-in : Titled name → closed r ≡ true → Formed d → modelParts partsFor ≡ some d
   unfolding modelParts spelled
-  model-in g c h f =
+  model-in g h f =
       passes _ (together _ true (ap isModel (words-spaced (spelled ".model") (name ∷ [])
-      (together (lacks 32 name) true (clear-out name c .0) refl)) ∙ word-model name g) refl)
+      (together (lacks 32 name) true (clear-out name (g .clear) .0) refl)) ∙ word-model name (g .good)) refl)
       (then-in (listIn (spelled ".inputs") 120 _) _ (list-in (spelled ".inputs") 120 (d .inputs) (names-clear 120 (d .inputs) refl))
       (then-in (listIn (spelled ".outputs") 121 _) _ (list-in (spelled ".outputs") 121 (d .outputs) (names-clear 121 (d .outputs) refl))
       (then-in (blocksIn (d .outputs) (map blockPart (d .blocks) ++ (endPart r ∷ []))) _ (blocks-in (d .outputs) r (d .blocks) h f) refl)))
@@ -173,12 +171,11 @@ module _ (name : List ℕ) (d : Model) (r : List (List ℕ)) where
       (together (isPart (endPart r)) true (end-part h) refl)
 
   -- so lines that are written for a formed model are read as it
-  lines-model : (t : List ℕ) → isModelName name ≡ true → isClear name ≡ true → closed r ≡ true → Formed d → linesIn t ≡ modelLines name d ++ r
-      → modelIn t ≡ some d
+  lines-model : (t : List ℕ) → Titled name → closed r ≡ true → Formed d → linesIn t ≡ modelLines name d ++ r → modelIn t ≡ some d
   unfolding modelIn
-  lines-model t g c h f e =
+  lines-model t g h f e =
       let p : partsOf (linesIn t) ≡ record { ahead = []; parts = partsFor } = ap partsOf (e ∙ sym parts-lines) ∙ parts-in partsFor (model-parts h) in
-      ap (λ (q : Parted). cond (isNil (q .ahead)) (modelParts (q .parts)) none) p ∙ model-in g c h f
+      ap (λ (q : Parted). cond (isNil (q .ahead)) (modelParts (q .parts)) none) p ∙ model-in g h f
 
 -- no line has LF
 model-lack : (name : List ℕ) (d : Model) → isClear name ≡ true → all (lacks 10) (modelLines name d) ≡ true
@@ -275,8 +272,7 @@ form-out t d e =
       formed = h .formed;
       writes = record {
         name = h .name;
-        good = h .good;
-        clear = clear-in (h .name) (h .single) (name-lack t (h .name) d (h .rest) (w .1));
+        titled = record { good = h .good; clear = clear-in (h .name) (h .single) (name-lack t (h .name) d (h .rest) (w .1)) };
         text = rest-text t (h .name) d (h .rest) (h .closes) (w .1);
       };
     }
@@ -289,11 +285,11 @@ form-in t d w = go (w .writes .text)
     name = w .writes .name
 
     lack : all (lacks 10) (modelLines name d) ≡ true
-    lack = model-lack name d (w .writes .clear)
+    lack = model-lack name d (w .writes .titled .clear)
 
     go : (t ≡ modelText name d) ⊎ (t ++ (10 ∷ []) ≡ modelText name d) → modelIn t ≡ some d
-    go (inl e) = lines-model name d ([] ∷ []) t (w .writes .good) (w .writes .clear) refl (w .formed) (ap linesIn e ∙ lines-ended (modelLines name d) lack)
-    go (inr e) = lines-model name d [] t (w .writes .good) (w .writes .clear) refl (w .formed)
+    go (inl e) = lines-model name d ([] ∷ []) t (w .writes .titled) refl (w .formed) (ap linesIn e ∙ lines-ended (modelLines name d) lack)
+    go (inr e) = lines-model name d [] t (w .writes .titled) refl (w .formed)
         (lines-short t (modelLines name d) lack e ∙ sym (append-nil (modelLines name d)))
 
 -- a text is read as a model exactly where it is in the form of it

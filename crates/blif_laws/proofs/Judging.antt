@@ -1,90 +1,28 @@
--- What the tests of a model say in the paper's words, and so what a text is answered: 14 for the form, then 15 for what is defined, then 10. Assumes nothing.
-use Prim.Native.Nat.{ℕ, _+_, _<_}
+-- What the test of the rules says in words, and what a text is answered: 14 for the form, then 15 for what is defined, then 10, each exactly when,
+-- by the tests of a model in words. Assumes nothing.
+use Prim.Native.Nat.{ℕ}
 use mathlib.Core.Path.{_≡_, refl, sym, ap, _∙_, subst}
-use mathlib.Core.Logic.{inl, inr, _↔_}
+use mathlib.Core.{Logic._↔_, List.List}
 use mathlib.Core.Bool.{Bool, true, false, cond}
-use mathlib.Core.List.{List}
 use mathlib.Core.Option.{Option, none, some, Option·none-ne-some}
 use native.Mathlib.Omega.{arith}
-use lib.Dec.{leb, ltb, eqb}
+use lib.Dec.{leb}
 use lib.ListN.{length}
-use borrow.Author.Tests.{leb-true, le-leb, ltb-true, lt-ltb, eqb-true, eqb-false, eq-eqb}
-use Rattle.sets.specs.{Lists.all, Lists.from, Sets.mem}
-use Rattle.sets.proofs.Truth.{both, together, decided, clash, refuted, compared, below, equal, beyond}
-use Rattle.sets.proofs.Lists.{_∈_, all-in, all-out, all-fails}
-use Rattle.sets.proofs.Sets.{mem-of, of-mem, from-mem}
+use borrow.Author.Tests.{leb-true, le-leb, eqb-true, eq-eqb}
+use Rattle.sets.{specs.Lists.all, proofs.Lists.all-in, proofs.Lists.all-out}
+use Rattle.sets.proofs.Truth.{both, together, clash, refuted}
 use Rattle.expression.specs.Expression.{expression}
 use Rattle.network.specs.Net.{Net, nodes, over, variables, cubeCount, literalCount}
 use Rattle.network.specs.{Listing.listing, Rules.InTurn, Rules.Lawful, Handed.Return, Handed.gives, Handed.refuses}
 use Rattle.network.specs.Held.{numbered, ruled, upTo, mostInputs, mostOutputs, mostVariables, mostCubes, mostLiterals}
 use Rattle.network.proofs.Numbering.{numbered-cubes, numbered-distinct, known-below, below-known, over-in, over-out}
 use Rattle.network.proofs.{Holding.up-out, Listings.listing-acyclic, Listings.good-sound}
-use Rattle.image_laws.proofs.Fielding.{divisorCubes}
-use Rattle.blif_laws.specs.Text.{Name, variable, output, Model}
-use Rattle.blif_laws.specs.Reading.{joined, modelIn, standing, gapless, timesDefined, definedOnce, netIn, keepsRules, judgeModel}
-use Rattle.blif_laws.specs.Reading.{readBlif}
-use Rattle.blif_laws.specs.Meaning.{InForm, NoGap, Stands, inText, putOut, Misdefined, never, twice}
-use Rattle.blif_laws.specs.Meaning.{BlifAnswer, formless, gap, misdefined, unruly, taken}
-use Rattle.blif_laws.proofs.Forming.{model-iff}
-
--- ---- the numbers below one
-
-below-in : {u v : ℕ} → u < v → u ∈ from 0 v
-below-in {u} {v} h = of-mem u (from 0 v) (from-mem 0 v u ∙ together (leb 0 u) (ltb u (0 + v)) (le-leb 0 u (omega arith)) (lt-ltb u (0 + v) (omega arith)))
-
-below-out : {u v : ℕ} → u ∈ from 0 v → u < v
-below-out {u} {v} m = omega (arith, ltb-true u (0 + v) ((both (leb 0 u) (ltb u (0 + v)) (sym (from-mem 0 v u) ∙ mem-of m)) .1))
-
--- ---- gaps
-
-pub gapless-iff : (d : Model) → (gapless d ≡ true) ↔ NoGap d
-unfolding gapless
-gapless-iff d = (
-  λ h v u m l. of-mem u (standing d) (all-out (λ x. mem x (standing d)) (below-in l) (all-out (λ x. all (λ y. mem y (standing d)) (from 0 x)) m h)),
-  λ k. all-in (λ x. all (λ y. mem y (standing d)) (from 0 x)) (standing d) (λ v m. all-in (λ y. mem y (standing d)) (from 0 v) (λ u i.
-      mem-of (k v u m (below-out i)))),
-)
-
--- ---- what is defined
-
-module _ (d : Model) where
-  once-each : definedOnce d ≡ true → (a : Name) → Stands d a → timesDefined d a ≡ 1
-  unfolding definedOnce
-  once-each h a s = go s
-    where
-      q : (all (λ v. eqb (timesDefined d (variable v)) 1) (standing d) ≡ true) × (all (λ j. eqb (timesDefined d (output j)) 1) (from 0 (d .outputs)) ≡ true)
-      q = both _ _ h
-
-      go : {a : Name} → Stands d a → timesDefined d a ≡ 1
-      go (inText {v = v} m) = eqb-true (timesDefined d (variable v)) 1 (all-out (λ x. eqb (timesDefined d (variable x)) 1) m (q .0))
-      go (putOut {j = j} l) = eqb-true (timesDefined d (output j)) 1 (all-out (λ x. eqb (timesDefined d (output x)) 1) (below-in l) (q .1))
-
-  not-once : (a : Name) → Stands d a → (timesDefined d a ≡ 1 → ⊥) → Misdefined d
-  not-once a s h = elim (compared (timesDefined d a) 1) [
-    | below l _ _ ↦ never a s (omega arith)
-    | equal e _ _ ↦ absurd (h e)
-    | beyond l _ _ ↦ twice a s (omega arith)
-  ]
-
-  once-into : definedOnce d ≡ true → Misdefined d → ⊥
-  once-into h (never a s e) = omega (arith, once-each h a s)
-  once-into h (twice a s e) = omega (arith, once-each h a s)
-
-  not-once-into : definedOnce d ≡ false → Misdefined d
-  unfolding definedOnce
-  not-once-into h = elim (decided (all (λ v. eqb (timesDefined d (variable v)) 1) (standing d))) [
-    | inl t ↦ let r = all-fails (λ j. eqb (timesDefined d (output j)) 1) (from 0 (d .outputs)) (rw t at h) in
-        not-once (output (r .0)) (putOut (below-out (r .1))) (eqb-false (timesDefined d (output (r .0))) 1 (r .2))
-    | inr t ↦ let r = all-fails (λ v. eqb (timesDefined d (variable v)) 1) (standing d) t in
-        not-once (variable (r .0)) (inText (r .1)) (eqb-false (timesDefined d (variable (r .0))) 1 (r .2))
-  ]
-
-  -- every name that stands is defined once exactly when none is misdefined
-  pub once-iff : (definedOnce d ≡ true) ↔ (Misdefined d → ⊥)
-  once-iff = (once-into, λ k. elim (decided (definedOnce d)) [ inl t ↦ t | inr t ↦ absurd (k (not-once-into t)) ])
-
-  pub misdefined-iff : (definedOnce d ≡ false) ↔ Misdefined d
-  misdefined-iff = (not-once-into, λ m. refuted (λ h. once-into h m))
+use Rattle.image_laws.{specs.Meaning.OneOrder, proofs.Fielding.divisorCubes}
+use Rattle.blif_laws.specs.Text.{Model, modelOf}
+use Rattle.blif_laws.specs.Reading.{joined, modelIn, gapless, definedOnce, netIn, keepsRules, judgeModel, readBlif}
+use Rattle.blif_laws.specs.Meaning.{InForm, Gap, Misdefined, SameModel, BlifAnswer, formless, gapped, illDefined, unruly, taken}
+use Rattle.blif_laws.proofs.{Forming.model-iff, Forming.form-one, Matching.models-iff}
+use Rattle.blif_laws.proofs.Standing.{gap-iff, gapless-iff, once-iff, misdefined-iff}
 
 -- ---- the rules
 
@@ -153,10 +91,12 @@ answered t = go (modelIn (joined t)) refl
 
         judge : (a b c : Bool) → gapless d ≡ a → definedOnce d ≡ b → keepsRules (netIn d) ≡ c
             → BlifAnswer t (cond a (cond b (cond c (gives (netIn d)) (refuses 10)) (refuses 15)) (refuses 14))
-        judge false b c p q r = gap f (λ k. clash (gapless-iff d .1 k) p)
-        judge true false c p q r = misdefined f (gapless-iff d .0 p) (misdefined-iff d .0 q)
-        judge true true false p q r = unruly f (gapless-iff d .0 p) (once-iff d .0 q) (λ w. clash (lawful-iff d .1 w) r)
-        judge true true true p q r = taken f (gapless-iff d .0 p) (once-iff d .0 q) (lawful-iff d .0 r)
+        judge false b c p q r = gapped f (gap-iff d .0 p)
+        judge true false c p q r = illDefined f (gapless-iff d .0 p) (misdefined-iff d (f .formed) .0 q)
+        judge true true false p q r = unruly f (gapless-iff d .0 p) (once-iff d (f .formed) .0 q)
+            (λ n m. clash (lawful-iff d .1 (models-iff d (f .formed) n .0 m .2)) r)
+        judge true true true p q r = taken f (models-iff d (f .formed) (netIn d) .1
+            (gapless-iff d .0 p, once-iff d (f .formed) .0 q, lawful-iff d .0 r, refl))
 
 answer-is : (t : List ℕ) {r : Return} → BlifAnswer t r → readBlif t ≡ r
 unfolding readBlif
@@ -165,11 +105,18 @@ answer-is t (formless k) = go (modelIn (joined t)) refl
     go : (o : Option Model) → modelIn (joined t) ≡ o → judgeModel o ≡ refuses 14
     go none e = refl
     go (some d) e = absurd (k d (model-iff (joined t) d .0 e))
-answer-is t (gap {d = d} f k) = rw (model-iff (joined t) d .1 f, refuted (λ h. k (gapless-iff d .0 h)))
-answer-is t (misdefined {d = d} f g m) = rw (model-iff (joined t) d .1 f, gapless-iff d .1 g, misdefined-iff d .1 m)
+answer-is t (gapped {d = d} f g) = rw (model-iff (joined t) d .1 f, gap-iff d .1 g)
+answer-is t (illDefined {d = d} f g m) = rw (model-iff (joined t) d .1 f, gapless-iff d .1 g, misdefined-iff d (f .formed) .1 m)
 answer-is t (unruly {d = d} f g k l) =
-    rw (model-iff (joined t) d .1 f, gapless-iff d .1 g, once-iff d .1 k, refuted (λ h. l (lawful-iff d .0 h)))
-answer-is t (taken {d = d} f g k l) = rw (model-iff (joined t) d .1 f, gapless-iff d .1 g, once-iff d .1 k, lawful-iff d .1 l)
+    rw (
+      model-iff (joined t) d .1 f,
+      gapless-iff d .1 g,
+      once-iff d (f .formed) .1 k,
+      refuted (λ h. l (netIn d) (models-iff d (f .formed) (netIn d) .1 (g, k, lawful-iff d .0 h, refl))),
+    )
+answer-is t (taken {d = d} {n = n} f m) =
+    let q = models-iff d (f .formed) n .0 m in
+    rw (model-iff (joined t) d .1 f, gapless-iff d .1 (q .0), once-iff d (f .formed) .1 (q .1), lawful-iff d .1 (q .2)) (ap gives (q .3))
 
 -- a text is answered what is told, and nothing else
 pub answer-iff : (t : List ℕ) (r : Return) → (readBlif t ≡ r) ↔ BlifAnswer t r
@@ -178,3 +125,52 @@ answer-iff t r = (λ e. subst (BlifAnswer t) e (answered t), answer-is t)
 -- no two answers fit
 pub answer-one : (t : List ℕ) (r s : Return) → BlifAnswer t r → BlifAnswer t s → r ≡ s
 answer-one t r s a b = sym (answer-is t a) ∙ answer-is t b
+
+-- ---- each answer
+
+module _ (t : List ℕ) where
+  pub refused-14-iff : (readBlif t ≡ refuses 14) ↔ ((d : Model) → InForm (joined t) d → Gap d)
+  refused-14-iff = (λ e. into (answered t) e, λ k. back k (answered t))
+    where
+      into : {r : Return} → BlifAnswer t r → r ≡ refuses 14 → (d : Model) → InForm (joined t) d → Gap d
+      into (formless k) e d f = absurd (k d f)
+      into (gapped g h) e d f = subst Gap (form-one (joined t) _ d g f) h
+      into (illDefined g h m) e d f = let z : _≡_ {A = ℕ} 15 14 = cc in absurd (omega arith)
+      into (unruly g h k l) e d f = let z : _≡_ {A = ℕ} 10 14 = cc in absurd (omega arith)
+      into (taken g m) e d f = let z : _≡_ {A = ℕ} 0 1 = cc in absurd (omega arith)
+
+      back : ((d : Model) → InForm (joined t) d → Gap d) → {r : Return} → BlifAnswer t r → r ≡ refuses 14
+      back k (formless h) = refl
+      back k (gapped f g) = refl
+      back k (illDefined f g m) = absurd (g (k _ f))
+      back k (unruly f g m l) = absurd (g (k _ f))
+      back k (taken {d = d} {n = n} f m) = absurd (models-iff d (f .formed) n .0 m .0 (k d f))
+
+  pub refused-15-iff : (readBlif t ≡ refuses 15) ↔ ((d : Model) × InForm (joined t) d × (Gap d → ⊥) × Misdefined d)
+  refused-15-iff = (λ e. into (answered t) e, λ (d, f, g, m). answer-is t (illDefined f g m))
+    where
+      into : {r : Return} → BlifAnswer t r → r ≡ refuses 15 → (d : Model) × InForm (joined t) d × (Gap d → ⊥) × Misdefined d
+      into (formless k) e = let z : _≡_ {A = ℕ} 15 14 = cc in absurd (omega arith)
+      into (gapped f g) e = let z : _≡_ {A = ℕ} 15 14 = cc in absurd (omega arith)
+      into (illDefined {d = d} f g m) e = (d, f, g, m)
+      into (unruly f g k l) e = let z : _≡_ {A = ℕ} 10 15 = cc in absurd (omega arith)
+      into (taken f m) e = let z : _≡_ {A = ℕ} 0 1 = cc in absurd (omega arith)
+
+  pub refused-10-iff : (readBlif t ≡ refuses 10)
+      ↔ ((d : Model) × InForm (joined t) d × (Gap d → ⊥) × (Misdefined d → ⊥) × ((n : Net) → Lawful n → OneOrder n → SameModel d (modelOf n) → ⊥))
+  refused-10-iff = (λ e. into (answered t) e, λ (d, f, g, k, l). answer-is t (unruly f g k (λ n m. l n (m .lawful) (m .order) (m .same))))
+    where
+      into : {r : Return} → BlifAnswer t r → r ≡ refuses 10
+          → (d : Model) × InForm (joined t) d × (Gap d → ⊥) × (Misdefined d → ⊥) × ((n : Net) → Lawful n → OneOrder n → SameModel d (modelOf n) → ⊥)
+      into (formless k) e = let z : _≡_ {A = ℕ} 10 14 = cc in absurd (omega arith)
+      into (gapped f g) e = let z : _≡_ {A = ℕ} 10 14 = cc in absurd (omega arith)
+      into (illDefined f g m) e = let z : _≡_ {A = ℕ} 10 15 = cc in absurd (omega arith)
+      into (unruly {d = d} f g k l) e = (d, f, g, k, λ n w o s. l n (record { lawful = w; order = o; same = s }))
+      into (taken f m) e = let z : _≡_ {A = ℕ} 0 1 = cc in absurd (omega arith)
+
+  -- any model name, any order of blocks and rows, else only this form
+  pub given-iff : (n : Net) → (readBlif t ≡ gives n) ↔ (Lawful n × OneOrder n × ((d : Model) × InForm (joined t) d × SameModel d (modelOf n)))
+  given-iff n = (λ e. into (answer-iff t (gives n) .0 e), λ (w, o, (d, f, s)). answer-is t (taken f (record { lawful = w; order = o; same = s })))
+    where
+      into : {m : Net} → BlifAnswer t (gives m) → Lawful m × OneOrder m × ((d : Model) × InForm (joined t) d × SameModel d (modelOf m))
+      into (taken {d = d} f m) = (m .lawful, m .order, (d, f, m .same))

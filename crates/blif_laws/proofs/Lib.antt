@@ -6,9 +6,11 @@ pub mod Blocking
 pub mod Forming
 pub mod Bounding
 pub mod Breaking
-pub mod Judging
 pub mod Shuffling
 pub mod Joining
 pub mod Modelling
+pub mod Standing
+pub mod Matching
+pub mod Judging
 pub mod Trips
 pub mod Beginning

@@ -22,22 +22,21 @@ use Rattle.network_reads.{specs.Reading.readsOf, proofs.Reading.reads-out}
 use Rattle.image_laws.{specs.Meaning.OneOrder, proofs.Fielding.divisorCubes}
 use Rattle.blif_laws.specs.Text.{Name, variable, output, Block, outputBlocks, divisorBlock, modelOf}
 use Rattle.blif_laws.specs.Reading.{namedIn, standing, gapless, sameName, blocksFor, inputTimes, timesDefined, definedOnce, cubesFor, isVariable}
-use Rattle.blif_laws.specs.Reading.{divisorsIn, netIn}
-use Rattle.blif_laws.specs.Meaning.{Formed}
+use Rattle.blif_laws.specs.{Reading.divisorsIn, Reading.netIn, Meaning.Formed}
 
 -- ---- blocks in turn
 
 -- blocks whose names c gives, numbered from k on
-unfoldable turnBlocks : (ℕ → Name) → ℕ → List (List (List ℕ)) → List Block
+unfoldable pub turnBlocks : (ℕ → Name) → ℕ → List (List (List ℕ)) → List Block
 turnBlocks c k [] = []
 turnBlocks c k (f ∷ fs) = record { name = c k; cubes = f } ∷ turnBlocks c (suc k) fs
 
-turn-divisors : (k : ℕ) (fs : List (List (List ℕ))) → map divisorBlock (numbered k fs) ≡ turnBlocks variable k fs
+pub turn-divisors : (k : ℕ) (fs : List (List (List ℕ))) → map divisorBlock (numbered k fs) ≡ turnBlocks variable k fs
 unfolding numbered turnBlocks
 turn-divisors k [] = refl
 turn-divisors k (f ∷ fs) = ap (record { name = variable k; cubes = f } ∷_) (turn-divisors (suc k) fs)
 
-turn-outputs : (k : ℕ) (fs : List (List (List ℕ))) → outputBlocks k fs ≡ turnBlocks output k fs
+pub turn-outputs : (k : ℕ) (fs : List (List (List ℕ))) → outputBlocks k fs ≡ turnBlocks output k fs
 unfolding outputBlocks turnBlocks
 turn-outputs k [] = refl
 turn-outputs k (f ∷ fs) = ap (record { name = output k; cubes = f } ∷_) (turn-outputs (suc k) fs)
@@ -100,10 +99,10 @@ unfolding from
 by-places g d k [] h = refl
 by-places g d k (x ∷ l) h = ap₂ _∷_ (ap g (omega arith) ∙ h 0 (omega arith)) (by-places g d (suc k) l (λ i q. ap g (omega arith) ∙ h (suc i) (omega arith)))
 
-from-below : (m z : ℕ) → z ∈ from 0 m → z < m
+pub from-below : (m z : ℕ) → z ∈ from 0 m → z < m
 from-below m z i = let h = ltb-true z (0 + m) ((both (leb 0 z) (ltb z (0 + m)) (sym (from-mem 0 m z) ∙ mem-of i)) .1) in omega arith
 
-below-from : (m z : ℕ) → z < m → z ∈ from 0 m
+pub below-from : (m z : ℕ) → z < m → z ∈ from 0 m
 below-from m z h = of-mem z (from 0 m) (from-mem 0 m z ∙ together (leb 0 z) (ltb z (0 + m)) (le-leb 0 z (omega arith)) (lt-ltb z (0 + m) (omega arith)))
 
 -- ---- the model of a network

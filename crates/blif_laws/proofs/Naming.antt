@@ -9,18 +9,16 @@ use native.Mathlib.Omega.{arith}
 use lib.Dec.{eqb, leb, ltb}
 use lib.ListN.{length, length-map}
 use borrow.Author.Tests.{eqb-true, ne-eqb, leb-true, le-leb}
-use Rattle.sets.specs.Lists.{all, from}
-use Rattle.sets.specs.Sets.{same, asc}
+use Rattle.sets.{specs.Lists.all, specs.Lists.from, specs.Sets.same, specs.Sets.asc, proofs.Rows.from-length}
 use Rattle.sets.proofs.Truth.{both, together, clash}
 use Rattle.sets.proofs.Lists.{all-in, all-out, all-append, pairwise-append, map-out}
-use Rattle.sets.proofs.Rows.{from-length}
 use Rattle.sets.proofs.Sets.{same-eq, same-self, eq-same}
 use Rattle.table_lines.specs.Meaning.{lacks}
 use Rattle.letters.specs.{Letters.decimal, Letters.nameText, Meaning.readBack, Meaning.isDigit}
 use Rattle.letters.proofs.Numbers.{decimal-value, decimal-digits}
 use Rattle.blif_laws.specs.Text.{Name, variable, output, nameWord, firstNames}
-use Rattle.blif_laws.specs.Reading.{andThen, pointed, numberIn, nameIn, inTurn, Named, readMore, lastName, readName, namesIn}
-use Rattle.blif_laws.specs.Meaning.{isClear}
+use Rattle.blif_laws.specs.Reading.{andThen, numberIn, nameIn, inTurn, Named, readMore, lastName, readName, namesIn}
+use Rattle.blif_laws.specs.Meaning.{isClear, NamesLine}
 use Rattle.blif_laws.proofs.Cutting.{clear-in}
 
 -- ---- what is read before going on
@@ -102,12 +100,6 @@ name-lacks b (output j) h p q = rw q (decimal-lacks b j h)
 
 pub name-clear : (a : Name) → isClear (nameWord a) ≡ true
 name-clear a = clear-in (nameWord a) (name-lacks 32 a refl refl refl) (name-lacks 10 a refl refl refl)
-
--- none begins with a point
-pub name-plain : (a : Name) → pointed (nameWord a) ≡ false
-unfolding nameWord
-name-plain (variable v) = refl
-name-plain (output j) = refl
 
 pub text-clear : (b n : ℕ) → isClear (b ∷ []) ≡ true → isClear (nameText b n) ≡ true
 text-clear b n h =
@@ -218,12 +210,6 @@ names-in k (v ∷ vs) a h l =
     (passes (andThen (namesIn (suc v) (ws ++ (nameWord a ∷ []))) (λ g. some (readMore v g))) (q .0)
     (then-in (namesIn (suc v) (ws ++ (nameWord a ∷ []))) (λ g. some (readMore v g)) (names-in (suc v) vs a (p .1) (p .0)) refl))
 
--- the variables that are read ascend, and a variable that is defined is greater than all of them
-pub record Lists (ws : List (List ℕ)) (d : Named) : Type 0 where
-  pub words : ws ≡ map (nameText 120) (d .reads) ++ (nameWord (d .name) ∷ [])
-  pub ascend : asc (d .reads) ≡ true
-  pub below : (v : ℕ) → d .name ≡ variable v → all (λ u. ltb u v) (d .reads) ≡ true
-
 upward-out : (vs : List ℕ) (a : Name) → asc (upward vs a) ≡ true → (asc vs ≡ true) × ((v : ℕ) → a ≡ variable v → all (λ u. ltb u v) vs ≡ true)
 upward-out [] a h = (refl, λ v e. refl)
 upward-out (u ∷ vs) a h =
@@ -243,12 +229,12 @@ upward-in vs (output j) h f = h
 upward-in vs (variable v) h f = pairwise-append ltb vs (v ∷ []) h refl
     (λ x y m i. subst (λ z. ltb x z ≡ true) (sym (List·Memᴰ·eq-of-singleton i)) (all-out (λ u. ltb u v) m (f v refl)))
 
-pub names-iff : (ws : List (List ℕ)) (d : Named) → (namesIn 0 ws ≡ some d) ↔ Lists ws d
+pub names-iff : (ws : List (List ℕ)) (d : Named) → (namesIn 0 ws ≡ some d) ↔ NamesLine ws d
 names-iff ws d = (into, back)
   where
-    into : namesIn 0 ws ≡ some d → Lists ws d
+    into : namesIn 0 ws ≡ some d → NamesLine ws d
     into e = let r = names-out 0 ws d e in let q = upward-out (d .reads) (d .name) (r .ascend) in record { words = r .words; ascend = q .0; below = q .1 }
 
-    back : Lists ws d → namesIn 0 ws ≡ some d
+    back : NamesLine ws d → namesIn 0 ws ≡ some d
     back r = ap (namesIn 0) (r .words) ∙ names-in 0 (d .reads) (d .name) (upward-in (d .reads) (d .name) (r .ascend) (r .below))
         (all-in (leb 0) (upward (d .reads) (d .name)) (λ x m. le-leb 0 x (omega arith)))

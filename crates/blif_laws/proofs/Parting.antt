@@ -4,8 +4,7 @@ use mathlib.Core.Bool.{Bool, true, false, cond, not, _&&_}
 use mathlib.Core.List.{List, [], _∷_, _++_, map, append-nil}
 use Prim.Native.Nat.{ℕ}
 use borrow.Author.Tests.{not-true}
-use Rattle.sets.specs.Lists.{all}
-use Rattle.sets.proofs.Truth.{both}
+use Rattle.sets.{specs.Lists.all, proofs.Truth.both}
 use Rattle.network.specs.Handed.{flat}
 use Rattle.blif_laws.specs.Reading.{Part, Parted, pointed, partsOf}
 

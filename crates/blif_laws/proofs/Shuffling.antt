@@ -2,24 +2,22 @@
 -- Assumes nothing.
 use Prim.Native.Nat.{ℕ, suc, _+_}
 use mathlib.Core.Path.{_≡_, refl, sym, ap, ap₂, _∙_, subst}
-use mathlib.Core.Logic.{inl, inr}
+use mathlib.Core.{Logic.inl, Logic.inr, Option.some}
 use mathlib.Core.Bool.{Bool, true, false, cond, _&&_, _||_, or-assoc, or-comm}
 use mathlib.Core.List.{List, [], _∷_, _++_, map, List·Memᴰ·head as here, List·Memᴰ·tail as there, List·Memᴰ·not-nil, List·Memᴰ·cases-cons}
-use mathlib.Core.Option.{some}
 use lib.Dec.{eqb}
 use lib.ListN.{length}
 use Rattle.sets.specs.Lists.{any, all, keep, from}
-use Rattle.sets.specs.Sets.{mem, asc, readsBelow}
-use Rattle.sets.proofs.Truth.{iff}
+use Rattle.sets.{specs.Sets.mem, specs.Sets.readsBelow, proofs.Truth.iff}
 use Rattle.sets.proofs.Lists.{_∈_, all-in, all-out, all-cong, map-cong}
 use Rattle.sets.proofs.Sets.{union-mem, mem-append, all-mem, mem-all, ext}
 use Rattle.expression.{specs.Expression.place, specs.Expression.sort, specs.Expression.isCube, proofs.Sorting.sort-middle}
 use Rattle.network.specs.{Held.numbered, Handed.flat}
 use Rattle.network_reads.{specs.Reading.variablesOf, specs.Reading.readsOf, proofs.Reading.reads-asc}
 use Rattle.blif_laws.specs.Text.{Name, variable, output, Block, Model, modelText}
-use Rattle.blif_laws.specs.Reading.{joined, isModelName, modelIn, namedIn, standing, gapless, sameName, blocksFor, inputTimes, timesDefined, definedOnce}
+use Rattle.blif_laws.specs.Reading.{joined, modelIn, namedIn, standing, gapless, sameName, blocksFor, inputTimes, timesDefined, definedOnce}
 use Rattle.blif_laws.specs.Reading.{cubesFor, isVariable, divisorsIn, netIn, judgeModel, readBlif}
-use Rattle.blif_laws.specs.Meaning.{isClear, FormedBlock, Formed, Writes, InForm, Shuffled, nothing, next, swap, trans, SameBlock, SameModel}
+use Rattle.blif_laws.specs.Meaning.{Titled, FormedBlock, Formed, Writes, InForm, Shuffled, nothing, next, swap, trans, SameBlock, SameModel}
 use Rattle.blif_laws.proofs.Forming.{model-iff}
 
 -- ---- what no exchange changes
@@ -32,7 +30,7 @@ module _ {A : Type 0} {r : A → A → Type 0} where
   any-shuffled f k (trans s t) = any-shuffled f k s ∙ any-shuffled f k t
 
   -- how many pass a test
-  count-shuffled : (p : A → Bool) → ((x y : A) → r x y → p x ≡ p y) → {l m : List A} → Shuffled r l m → length (keep p l) ≡ length (keep p m)
+  pub count-shuffled : (p : A → Bool) → ((x y : A) → r x y → p x ≡ p y) → {l m : List A} → Shuffled r l m → length (keep p l) ≡ length (keep p m)
   count-shuffled p k nothing = refl
   count-shuffled p k (next {x = x} {y = y} {l = l} {m = m} e s) =
       let i = count-shuffled p k s in
@@ -48,7 +46,7 @@ module _ {A : Type 0} {r : A → A → Type 0} where
   count-shuffled p k (trans s t) = count-shuffled p k s ∙ count-shuffled p k t
 
   module _ (self : (x : A) → r x x) where
-    shuffled-self : (l : List A) → Shuffled r l l
+    pub shuffled-self : (l : List A) → Shuffled r l l
     shuffled-self [] = nothing
     shuffled-self (x ∷ l) = next (self x) (shuffled-self l)
 
@@ -126,11 +124,14 @@ cubes-same a (trans s t) = cubes-same a s ∙ cubes-same a t
 
 -- ---- blocks
 
-block-self : (b : Block) → SameBlock b b
+pub block-self : (b : Block) → SameBlock b b
 block-self b = record { name = refl; cubes = shuffled-self (λ c. refl) (b .cubes) }
 
 block-then : (a b c : Block) → SameBlock a b → SameBlock b c → SameBlock a c
 block-then a b c p q = record { name = p .name ∙ q .name; cubes = trans (p .cubes) (q .cubes) }
+
+pub model-self : (d : Model) → SameModel d d
+model-self d = record { inputs = refl; outputs = refl; blocks = shuffled-self block-self (d .blocks) }
 
 -- the same rows are of the same form
 formed-block : (m : ℕ) (b c : Block) → SameBlock b c → FormedBlock m b → FormedBlock m c
@@ -163,7 +164,7 @@ module _ (d e : Model) (s : SameModel d e) where
       ∙ any-shuffled (λ b. mem v (namedIn b)) (λ x y q. ap (mem v) (named-same x y q)) (s .blocks) ∙ sym (flat-mem v namedIn (e .blocks)))
       ∙ sym (mem-append v (from 0 (e .inputs)) (flat (map namedIn (e .blocks))))
 
-  gapless-same : gapless d ≡ gapless e
+  pub gapless-same : gapless d ≡ gapless e
   unfolding gapless
   gapless-same =
       all-cong (λ v. all (λ u. mem u (standing d)) (from 0 v)) (λ v. all (λ u. mem u (standing e)) (from 0 v)) (standing d)
@@ -174,7 +175,7 @@ module _ (d e : Model) (s : SameModel d e) where
   unfolding timesDefined
   times-same a = ap₂ _+_ (ap (λ n. inputTimes n a) (s .inputs)) (count-shuffled (λ b. sameName a (b .name)) (λ x y q. ap (sameName a) (q .name)) (s .blocks))
 
-  once-same : definedOnce d ≡ definedOnce e
+  pub once-same : definedOnce d ≡ definedOnce e
   unfolding definedOnce
   once-same = ap₂ _&&_
       (all-cong (λ v. eqb (timesDefined d (variable v)) 1) (λ v. eqb (timesDefined e (variable v)) 1) (standing d)
@@ -212,7 +213,7 @@ module _ (d e : Model) (s : SameModel d e) where
 -- ---- texts
 
 -- models that differ in the order of blocks and rows alone are answered the same
-pub shuffled-read : (t u : List ℕ) (d e : Model) → modelIn (joined t) ≡ some d → modelIn (joined u) ≡ some e → SameModel d e → readBlif t ≡ readBlif u
+shuffled-read : (t u : List ℕ) (d e : Model) → modelIn (joined t) ≡ some d → modelIn (joined u) ≡ some e → SameModel d e → readBlif t ≡ readBlif u
 unfolding readBlif
 shuffled-read t u d e p q s = ap judgeModel p ∙ judged-same d e s ∙ sym (ap judgeModel q)
 
@@ -221,8 +222,8 @@ pub form-order : (t u : List ℕ) (d e : Model) → InForm (joined t) d → Writ
 form-order t u d e f w s =
     shuffled-read t u d e (model-iff (joined t) d .1 f) (model-iff (joined u) e .1 (record { formed = formed-same d e s (f .formed); writes = w })) s
 
-pub any-order : (t u a b : List ℕ) (d e : Model) → (isModelName a ≡ true) × (isClear a ≡ true) → (isModelName b ≡ true) × (isClear b ≡ true) → Formed d
-    → SameModel d e → joined t ≡ modelText a d → joined u ≡ modelText b e → readBlif t ≡ readBlif u
+pub any-order : (t u a b : List ℕ) (d e : Model) → Titled a → Titled b → Formed d → SameModel d e → joined t ≡ modelText a d → joined u ≡ modelText b e
+    → readBlif t ≡ readBlif u
 any-order t u a b d e g h f s p q =
-    form-order t u d e (record { formed = f; writes = record { name = a; good = g .0; clear = g .1; text = inl p } })
-    (record { name = b; good = h .0; clear = h .1; text = inl q }) s
+    form-order t u d e (record { formed = f; writes = record { name = a; titled = g; text = inl p } })
+    (record { name = b; titled = h; text = inl q }) s

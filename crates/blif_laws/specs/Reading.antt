@@ -5,7 +5,7 @@ use mathlib.Core.List.{List, [], _∷_, _++_, map}
 use mathlib.Core.Option.{Option, none, some}
 use lib.Dec.{eqb, leb, ltb}
 use lib.ListN.{length}
-use Rattle.sets.specs.Lists.{all, keep, total, isNil, from}
+use Rattle.sets.specs.Lists.{all, keep, isNil, from}
 use Rattle.sets.specs.{Literal.plainOf, Literal.negatedOf, Sets.mem, Sets.same}
 use Rattle.letters.specs.{Letters.decimal, Letters.nameText, Meaning.readBack}
 use Rattle.letters_products.specs.Spelled.{spelled}
@@ -244,11 +244,11 @@ definedOnce d =
 unfoldable pub cubesFor : Name → List Block → List (List ℕ)
 cubesFor a bs = sort (flat (map (λ (b : Block). b .cubes) (blocksFor a bs)))
 
--- how many blocks define a variable
 abbrev pub isVariable : Name → Bool
 isVariable (variable v) = true
 isVariable (output j) = false
 
+-- how many blocks define a variable
 abbrev pub divisorsIn : Model → ℕ
 divisorsIn d = length (keep (λ b. isVariable (b .name)) (d .blocks))
 

@@ -359,14 +359,13 @@ module _ (s : List ℕ) where
   pub head-model : ModelIs s Place.No → HeadIs s Head.No
   head-model h = λ n m r g.
       h (inputsLine n ++ (10 ∷ (outputsLine m ++ (10 ∷ r))))
-      (record { name = g .name; titled = record { good = g .good; clear = g .clear }; text = g .text ∙ head-apart (g .name) n m r })
+      (record { name = g .name; titled = g .titled; text = g .text ∙ head-apart (g .name) n m r })
 
   module _ (p : ℕ) (model : ModelIs s (Place.At p)) where
     after-model : (n m : ℕ) (r : List ℕ) → Headed (left s 0) n m r → left s p ≡ inputsLine n ++ (10 ∷ (outputsLine m ++ (10 ∷ r)))
     after-model n m r g =
-        let t : Titled (g .name) = record { good = g .good; clear = g .clear } in
         line-after (modelLine (model .0 .name)) (modelLine (g .name)) (left s p) (inputsLine n ++ (10 ∷ (outputsLine m ++ (10 ∷ r))))
-        (model-whole (model .0 .name) (model .0 .titled)) (model-whole (g .name) t)
+        (model-whole (model .0 .name) (model .0 .titled)) (model-whole (g .name) (g .titled))
         (sym (model .0 .text) ∙ g .text ∙ head-apart (g .name) n m r)
 
     pub head-inputs : ListIs (spelled ".inputs") 120 s p Count.No → HeadIs s Head.No
@@ -382,8 +381,7 @@ module _ (s : List ℕ) where
       head-is o r outputs = (
         record {
           name = model .0 .name;
-          good = model .0 .titled .good;
-          clear = model .0 .titled .clear;
+          titled = model .0 .titled;
           text = model .0 .text
               ∙ ap (λ (x : List ℕ). modelLine (model .0 .name) ++ (10 ∷ x)) (inputs .0 ∙ ap (λ (x : List ℕ). inputsLine i ++ (10 ∷ x)) (outputs .0))
               ∙ sym (head-apart (model .0 .name) i o (left s r));

@@ -1,14 +1,14 @@
 -- What the lines before the blocks hold.
 use Prim.Native.Nat.{ℕ, _≤_}
 use mathlib.Core.Path.{_≡_}
-use mathlib.Core.Bool.{Bool, true, not, _&&_}
+use mathlib.Core.Bool.{Bool, not, _&&_}
 use mathlib.Core.List.{List, [], _∷_, _++_, map}
 use lib.Dec.{eqb}
 use lib.ListN.{length}
 use Rattle.letters_products.specs.Spelled.{spelled}
 use Rattle.network.specs.Handed.{flat}
 use Rattle.blif_laws.specs.Text.{spaced, ended, firstNames, headLines}
-use Rattle.blif_laws.specs.{Reading.isModelName, Meaning.isClear}
+pub use Rattle.blif_laws.specs.Meaning.{Titled}
 use Rattle.blif_scan.specs.{Scanning.left, Scanning.Forth, declared.Count.Count, declared.Place.Place}
 use Rattle.blif_scan.specs.declared.Head.{Head}
 use Rattle.blif_scan.specs.declared.Count.the-variants as Count
@@ -32,11 +32,6 @@ ListIs w b s at Count.No = (k : ℕ) (r : List ℕ) → left s at ≡ spaced (w 
 -- neither space nor tab, CR or LF
 abbrev pub isPlain : ℕ → Bool
 isPlain b = not (eqb b 32) && (not (eqb b 9) && (not (eqb b 13) && not (eqb b 10)))
-
--- the name of a model
-pub record Titled (w : List ℕ) : Type 0 where
-  pub good : isModelName w ≡ true
-  pub clear : isClear w ≡ true
 
 -- a text is a line of some model name that `line` puts it in, and then r
 pub record Lined (line : List ℕ → List ℕ) (t r : List ℕ) : Type 0 where
@@ -63,8 +58,7 @@ ModelIs s = PlacedBy modelLine s 0
 -- the lines before the blocks, under some model name
 pub record Headed (t : List ℕ) (n m : ℕ) (r : List ℕ) : Type 0 where
   pub name : List ℕ
-  pub good : isModelName name ≡ true
-  pub clear : isClear name ≡ true
+  pub titled : Titled name
   pub text : t ≡ ended (headLines name n m) ++ r
 
 abbrev pub HeadIs : List ℕ → Head → Type 0
