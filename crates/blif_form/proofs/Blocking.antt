@@ -19,11 +19,11 @@ use Rattle.blif_laws.specs.Text.{Name, variable, output, nameWord, spaced, ende
 use Rattle.blif_laws.specs.Reading.{pointed, Named, cubeIn, namedIn}
 use Rattle.blif_laws.{specs.Meaning.FormedBlock, proofs.Rowing.signs-place, proofs.Rowing.signs-cube}
 use Rattle.blif_laws.proofs.Blocking.{reads-cover, reads-below, block-lines}
-use Rattle.blif_scan.specs.Scanning.{Small}
+use Rattle.blif_scan.{specs.Scanning.Small, proofs.Heading.ended-apart}
 use Rattle.blif_lines.specs.Lining.{wordsOf, variableIn, numbersIn, Ascends, Signs, rowLine, RowsOf}
 use Rattle.blif_form.specs.Surveying.{BlockOf, SmallBlock, BlocksOf, namedBy, SmallBlocks}
-use Rattle.blif_form.proofs.Ending.{ended-more, Closes, closes-in, closes-out, closes-point}
-use Rattle.blif_form.proofs.Written.{names-one, rows-one}
+use Rattle.blif_lines.proofs.{Lining.names-one, Rowing.rows-one}
+use Rattle.blif_form.proofs.Ending.{Closes, closes-in, closes-out, closes-point}
 
 -- ---- the lines of a block
 
@@ -55,7 +55,7 @@ block-text : (b : Block) (more : List ℕ) → ended (blockLines b) ++ more
     ≡ spelled ".names " ++ (spaced (wordsOf (namedFor b)) ++ (10 ∷ (ended (map rowLine (signsFor (readsOf (b .cubes)) (b .cubes))) ++ more)))
 block-text b more =
     ap (λ ls. ended ls ++ more) (block-lines b ∙ ap₂ _∷_ (names-line b) (rows-line (readsOf (b .cubes)) (b .cubes)))
-    ∙ ended-more (spelled ".names " ++ spaced (wordsOf (namedFor b))) (map rowLine (signsFor (readsOf (b .cubes)) (b .cubes))) more
+    ∙ ended-apart (spelled ".names " ++ spaced (wordsOf (namedFor b))) (map rowLine (signsFor (readsOf (b .cubes)) (b .cubes))) more
     ∙ append-assoc (spelled ".names ") (spaced (wordsOf (namedFor b))) _
 
 signs-each : (vs : List ℕ) (f : List (List ℕ)) (w : List ℕ) → w ∈ signsFor vs f → Signs (length vs) w

@@ -1,6 +1,6 @@
 -- Columns of rows: a column has a `0` or `1` exactly where its variable is read, so that all are used exactly where what is read is all that is named;
 -- and so far a window of marks tells. Assumes nothing.
-use Prim.Native.Nat.{ℕ, zero, suc, _+_, _<_, _≤_, min}
+use Prim.Native.Nat.{ℕ, zero, suc, _+_, _<_, _≤_}
 use mathlib.Core.Path.{_≡_, refl, sym, ap, ap₂, _∙_, subst}
 use mathlib.Core.Logic.{inl, inr}
 use mathlib.Core.Bool.{Bool, true, false, cond, not, _||_}
@@ -8,20 +8,20 @@ use mathlib.Core.List.{List, [], _∷_, map, List·Memᴰ·not-nil, List·Memᴰ
 use native.Mathlib.Omega.{arith}
 use lib.Dec.{eqb, leb}
 use lib.ListN.{length, getD, take, length-map}
-use borrow.Author.Tests.{eq-eqb, ne-eqb, le-leb, lt-ltb, leb-true}
+use borrow.Author.Tests.{eq-eqb, ne-eqb, lt-ltb}
 use Rattle.sets.specs.{Lists.all, Lists.from, Literal.plainOf, Literal.negatedOf, Sets.mem, Sets.asc}
 use Rattle.sets.proofs.{Truth.iff, Truth.refuted, Rows.getD-map, Places.at-in, Places.in-at}
 use Rattle.sets.proofs.Lists.{_∈_, map-out, map-map, map-fixed}
-use Rattle.sets.proofs.Sets.{mem-of, of-mem, union-mem, mem-append, all-mem, mem-all, ext}
+use Rattle.sets.proofs.Sets.{mem-of, of-mem, union-mem, mem-append, all-mem, mem-all, from-in, from-out, ext}
 use Rattle.network_reads.specs.Reading.{variablesOf, readsOf}
 use Rattle.network_reads.proofs.Reading.{variable-is, reads-out}
 use Rattle.blif_laws.{specs.Text.signOf, specs.Reading.cubeIn, proofs.Rowing.cube-over, proofs.Rowing.signs-back}
 use Rattle.network_reads.proofs.Reading.{reads-asc}
 use Rattle.blif_lines.specs.Lining.{Signs, signed, signedIn, RowsGot, RowsNot}
-use Rattle.blif_lines.specs.{Marking.times, Marking.Cleared, declared.Rows.Rows}
+use Rattle.blif_lines.{specs.Marking.Cleared, specs.declared.Rows.Rows, proofs.Rowing.rows-one}
 use Rattle.blif_form.specs.Surveying.{UsedIs, UsedFrom}
-use Rattle.blif_form.proofs.{Written.rows-one, Blocking.signsFor}
-use Rattle.blif_lines.proofs.Windows.{in-row, row-in, windows-on, windows-stop, windows-done, window-all, times-mem}
+use Rattle.blif_form.proofs.Blocking.{signsFor}
+use Rattle.blif_lines.proofs.Windows.{windows-on, windows-stop, windows-done, window-all, met-mark}
 
 -- ---- the columns of a row
 
@@ -91,7 +91,7 @@ allUsed r ws = all (λ i. mem i (signedIn ws)) (from 0 r)
 -- the columns of a block over what it reads are used
 pub block-used : (f : List (List ℕ)) → allUsed (length (readsOf f)) (signsFor (readsOf f) f) ≡ true
 block-used f = all-mem _ (from 0 (length (readsOf f))) (λ i m.
-    let h = row-in 0 (length (readsOf f)) i m .1 in
+    let h = from-out 0 (length (readsOf f)) i m .1 in
     let k : i < length (readsOf f) = omega arith in
     column-read (readsOf f) f i k ∙ mem-of (at-in (readsOf f) i 0 k))
 
@@ -118,16 +118,9 @@ module _ (vs : List ℕ) (ws : List (List ℕ)) (h : asc vs ≡ true) (s : (w : 
           ap (λ x. mem x (readsOf (map (cubeIn vs) ws))) (sym (r .2))
           ∙ sym (column-read vs (map (cubeIn vs) ws) (r .0) (r .1))
           ∙ ap (λ x. mem (r .0) (signedIn x)) signs-rows
-          ∙ mem-all (λ i. mem i (signedIn ws)) (from 0 (length vs)) (r .0) u (in-row 0 (length vs) (r .0) (omega arith) (omega (arith, r .1)))
+          ∙ mem-all (λ i. mem i (signedIn ws)) (from 0 (length vs)) (r .0) u (from-in 0 (length vs) (r .0) (omega arith) (omega (arith, r .1)))
 
 -- ---- a window of marks
-
--- a mark that was clear
-met-mark : (v x y : ℕ) (l : List ℕ) → x ≡ 0 → y ≡ min 2 (x + times v l) → leb 1 y ≡ mem v l
-met-mark v x y l e f = iff
-    (λ h. le-leb 1 (times v l) (omega (arith, leb-true 1 y h)))
-    (λ h. le-leb 1 y (omega (arith, leb-true 1 (times v l) h)))
-    ∙ times-mem v l
 
 -- the marks tell of the rows, whatever rows are there
 pub window-used : {s : List ℕ} {at r base k : ℕ} {old mid new : List ℕ} {a : Rows} → k ≤ length old → Cleared k old mid → RowsGot s at r base mid new a

@@ -1,59 +1,19 @@
--- Texts of lines that are each ended by LF: the first line of a text is determined, and so are all that begin with no point, before what begins with
--- one; by induction on the lines. Assumes nothing.
+-- Texts of lines that are each ended by LF: lines after lines, and the last with or without its LF. Assumes nothing.
 use Prim.Native.Nat.{ℕ}
-use mathlib.Core.Path.{_≡_, refl, sym, ap, ap₂, _∙_, subst}
+use mathlib.Core.Path.{_≡_, refl, sym, ap, _∙_, subst}
 use mathlib.Core.Logic.{_⊎_, inl, inr}
-use mathlib.Core.Bool.{Bool, true, false, not, _&&_}
-use mathlib.Core.List.{List, [], _∷_, _++_, append-nil, append-assoc, append-cancel-left, append-cancel-right}
+use mathlib.Core.Bool.{true}
+use mathlib.Core.List.{List, [], _∷_, _++_, map, map-append, append-nil, append-assoc, append-cancel-right}
 use lib.Dec.{eqb}
-use borrow.Author.Tests.{not-true}
-use Rattle.sets.{specs.Lists.all, proofs.Truth.both, proofs.Truth.clash}
-use Rattle.table_lines.specs.Meaning.{lacks}
-use Rattle.blif_laws.{specs.Text.ended, specs.Reading.cutAt, specs.Reading.pointed, proofs.Cutting.cut-more}
+use Rattle.sets.proofs.Truth.{clash}
+use Rattle.network.{specs.Handed.flat, proofs.Handing.flat-append}
+use Rattle.blif_laws.{specs.Text.ended, specs.Reading.pointed}
 
 -- ---- lines, and what comes after them
 
 pub ended-append : (ls ks : List (List ℕ)) → ended (ls ++ ks) ≡ ended ls ++ ended ks
 unfolding ended
-ended-append [] ks = refl
-ended-append (l ∷ ls) ks = ap ((l ++ (10 ∷ [])) ++_) (ended-append ls ks) ∙ sym (append-assoc (l ++ (10 ∷ [])) (ended ls) (ended ks))
-
-pub ended-more : (l : List ℕ) (ls : List (List ℕ)) (t : List ℕ) → ended (l ∷ ls) ++ t ≡ l ++ (10 ∷ (ended ls ++ t))
-unfolding ended
-ended-more l ls t = append-assoc (l ++ (10 ∷ [])) (ended ls) t ∙ append-assoc l (10 ∷ []) (ended ls ++ t)
-
--- ---- which lines a text has
-
-pub line-one : (l k t u : List ℕ) → lacks 10 l ≡ true → lacks 10 k ≡ true → l ++ (10 ∷ t) ≡ k ++ (10 ∷ u) → (l ≡ k) × (t ≡ u)
-line-one l k t u h i e =
-    let c : l ∷ cutAt 10 t ≡ k ∷ cutAt 10 u = sym (cut-more 10 l t h) ∙ ap (cutAt 10) e ∙ cut-more 10 k u i in
-    let p : l ≡ k = cc in
-    let q : 10 ∷ t ≡ 10 ∷ u = append-cancel-left k (10 ∷ t) (10 ∷ u) (ap (_++ (10 ∷ t)) (sym p) ∙ e) in
-    (p, cc)
-
--- a line without LF that begins with no point
-abbrev pub isPlain : List ℕ → Bool
-isPlain l = lacks 10 l && not (pointed l)
-
-pub plain-front : (k u : List ℕ) → isPlain k ≡ true → pointed (k ++ (10 ∷ u)) ≡ false
-plain-front [] u h = refl
-plain-front (b ∷ k) u h = not-true (eqb b 46) (both (lacks 10 (b ∷ k)) (not (eqb b 46)) h .1)
-
-pub lines-one : (ls ks : List (List ℕ)) (t u : List ℕ) → all isPlain ls ≡ true → all isPlain ks ≡ true → pointed t ≡ true → pointed u ≡ true
-    → ended ls ++ t ≡ ended ks ++ u → (ls ≡ ks) × (t ≡ u)
-unfolding ended
-lines-one [] [] t u h i p q e = (refl, e)
-lines-one [] (k ∷ ks) t u h i p q e =
-    clash p (ap pointed (e ∙ ended-more k ks u) ∙ plain-front k (ended ks ++ u) (both (isPlain k) (all isPlain ks) i .0))
-lines-one (l ∷ ls) [] t u h i p q e =
-    clash q (ap pointed (sym e ∙ ended-more l ls t) ∙ plain-front l (ended ls ++ t) (both (isPlain l) (all isPlain ls) h .0))
-lines-one (l ∷ ls) (k ∷ ks) t u h i p q e =
-    let a = both (isPlain l) (all isPlain ls) h in
-    let b = both (isPlain k) (all isPlain ks) i in
-    let f = line-one l k (ended ls ++ t) (ended ks ++ u) (both (lacks 10 l) (not (pointed l)) (a .0) .0) (both (lacks 10 k) (not (pointed k)) (b .0) .0)
-    (sym (ended-more l ls t) ∙ e ∙ ended-more k ks u) in
-    let r = lines-one ls ks t u (a .1) (b .1) p q (f .1) in
-    (ap₂ _∷_ (f .0) (r .0), r .1)
+ended-append ls ks = ap flat (map-append (λ l. l ++ (10 ∷ [])) ls ks) ∙ flat-append (map (λ l. l ++ (10 ∷ [])) ls) (map (λ l. l ++ (10 ∷ [])) ks)
 
 -- ---- the last line with or without its LF
 

@@ -1,5 +1,4 @@
 pub mod Ending
-pub mod Written
 pub mod Blocking
 pub mod Passing
 pub mod Columns

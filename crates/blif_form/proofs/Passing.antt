@@ -2,7 +2,7 @@
 -- comes after them are the others; `.end` is no block. Assumes nothing.
 use Prim.Native.Nat.{ℕ, _≤_}
 use mathlib.Core.Path.{_≡_, refl, sym, ap, _∙_, subst}
-use mathlib.Core.{Logic.inl, Logic.inr, Bool.true, Bool.false}
+use mathlib.Core.{Logic.inl, Logic.inr, Bool.Bool}
 use mathlib.Core.List.{List, [], _∷_, _++_}
 use native.Mathlib.Omega.{arith}
 use lib.ListN.{length}
@@ -14,9 +14,9 @@ use Rattle.blif_scan.specs.Scanning.{left, Forth, EndedIs, bySpace, labelOf}
 use Rattle.blif_lines.specs.Lining.{numbersIn, NamesGot, NamesNot, NamesIs, NamesBy, RowsOf, RowsGot, RowsNot, RowsIs, RowsBy}
 use Rattle.blif_form.specs.Surveying.{BlockOf, BlocksOf, SmallBlocks}
 use Rattle.blif_scan.specs.declared.Ended.{Ended}
-use Rattle.blif_lines.specs.declared.{Names.Names, Rows.Rows}
+use Rattle.blif_lines.{specs.declared.Names.Names, specs.declared.Rows.Rows, proofs.Lining.names-one, proofs.Rowing.rows-one}
 use Rattle.blif_scan.specs.declared.Ended.the-variants as Ended
-use Rattle.blif_form.proofs.{Ending.Closes, Written.names-one, Written.rows-one}
+use Rattle.blif_form.proofs.Ending.{Closes}
 use Rattle.blif_form.proofs.Blocking.{namedFor, signsFor, numbers-named, Blocked, block-blocked, block-begins, block-ascends, blocks-first, small-first}
 
 -- ---- the word that begins a block
@@ -49,19 +49,12 @@ pass-none s at e h n m (b ∷ bs) k = let u = block-begins (blocks-first b bs k 
 
 -- ---- what is read, by whether it is there
 
-module _ (s : List ℕ) (at base : ℕ) (old new : List ℕ) (r : Names) (h : NamesIs s at base old new r) where
-  pub names-are : r .is ≡ true → NamesGot s at base old new r
-  names-are e = subst (λ b. NamesBy b s at base old new r) e h
+pub names-by : (x : Bool) (s : List ℕ) (at base : ℕ) (old new : List ℕ) (r : Names) → NamesIs s at base old new r → r .is ≡ x → NamesBy x s at base old new r
+names-by x s at base old new r h e = subst (λ b. NamesBy b s at base old new r) e h
 
-  pub names-none : r .is ≡ false → NamesNot s at old new
-  names-none e = subst (λ b. NamesBy b s at base old new r) e h
-
-module _ (s : List ℕ) (at r base : ℕ) (old new : List ℕ) (a : Rows) (h : RowsIs s at r base old new a) where
-  pub rows-are : a .are ≡ true → RowsGot s at r base old new a
-  rows-are e = subst (λ b. RowsBy b s at r base old new a) e h
-
-  pub rows-none : a .are ≡ false → RowsNot s at r old new
-  rows-none e = subst (λ b. RowsBy b s at r base old new a) e h
+pub rows-by : (x : Bool) (s : List ℕ) (at r base : ℕ) (old new : List ℕ) (a : Rows) → RowsIs s at r base old new a → a .are ≡ x
+    → RowsBy x s at r base old new a
+rows-by x s at r base old new a h e = subst (λ b. RowsBy b s at r base old new a) e h
 
 -- ---- the names and the rows of the block that stands there
 

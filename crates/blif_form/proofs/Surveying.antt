@@ -3,18 +3,18 @@ use Prim.Native.Nat.{ℕ, suc, _+_, _≤_, min, max}
 use mathlib.Core.Path.{_≡_, refl, sym, ap, ap₂, _∙_, subst}
 use mathlib.Core.Logic.{_⊎_, inl, inr}
 use mathlib.Core.Bool.{Bool, true, false}
-use mathlib.Core.List.{List, [], _∷_, _++_, append-nil, append-assoc, append-cancel-left, append-cancel-right, List·Memᴰ·not-nil}
+use mathlib.Core.List.{List, [], _∷_, _++_, map, map-append, append-nil, append-assoc, append-cancel-left, append-cancel-right, List·Memᴰ·not-nil}
 use mathlib.Core.List.{List·Memᴰ·append-cases}
 use native.Mathlib.Omega.{arith}
 use lib.ListN.{length}
 use Rattle.sets.proofs.Lists.{_∈_, total-append}
 use Rattle.letters_products.specs.Spelled.{spelled}
-use Rattle.network.specs.{Held.mostCubes}
+use Rattle.network.{specs.Held.mostCubes, specs.Handed.flat, proofs.Handing.flat-append}
 use Rattle.blif_laws.specs.{Text.Block, Text.ended, Reading.namedIn}
 use Rattle.blif_scan.specs.Scanning.{left, NextIs, byLine, byEnd, EndedIs}
-use Rattle.blif_lines.specs.Lining.{topOf}
+use Rattle.blif_scan.{proofs.Scanning.word-longer, specs.declared.Next.Next, specs.declared.Ended.Ended}
+use Rattle.blif_lines.{specs.Lining.topOf, proofs.Lining.top-append}
 use Rattle.blif_form.specs.Surveying.{BlockOf, BlockGot, BlockNot, EndingIs, BlocksOf, namedBy, SmallBlocks, rowsBy, BlocksBy, BlocksNot}
-use Rattle.blif_scan.specs.declared.{Next.Next, Ended.Ended}
 use Rattle.blif_form.specs.declared.Found.{Found}
 use Rattle.blif_scan.specs.declared.Next.the-variants as Next
 use Rattle.blif_scan.specs.declared.Ended.the-variants as Ended
@@ -25,12 +25,6 @@ use Rattle.blif_form.proofs.Passing.{names-begin, end-names, names-othe
 -- two texts that go on in different ways after the same word
 parted : (w t u : List ℕ) (x y : ℕ) → (x ≡ y → ⊥) → w ++ (x ∷ t) ≡ w ++ (y ∷ u) → ⊥
 parted w t u x y h e = let q = append-cancel-left w (x ∷ t) (y ∷ u) e in h (cc)
-
-short : (w u : List ℕ) (y : ℕ) → w ≡ w ++ (y ∷ u) → ⊥
-short w u y e =
-    let q : [] ≡ y ∷ u = append-cancel-left w [] (y ∷ u) (append-nil w ∙ e) in
-    let z : _≡_ {A = ℕ} 0 1 = cc in
-    omega arith
 
 -- ---- `.end`
 
@@ -50,7 +44,7 @@ module _ (s : List ℕ) (at : ℕ) where
   pub end-space : (p : ℕ) → EndedIs s at (spelled ".end") (Ended.Space p) → EndingIs s at false
   end-space p h c = elim (closes-end (left s at) (spelled ".end") c) [
     | inl e ↦ parted (spelled ".end") [] (left s p) 10 32 (λ z. omega arith) (sym e ∙ h .0)
-    | inr e ↦ short (spelled ".end") (left s p) 32 (sym e ∙ h .0)
+    | inr e ↦ word-longer (spelled ".end") 32 (left s p) (sym e ∙ h .0)
   ]
 
   pub end-byte : (p b q : ℕ) → EndedIs s at (spelled ".end") (Ended.Line p) → NextIs s p (Next.Byte b q) → EndingIs s at false
@@ -60,7 +54,7 @@ module _ (s : List ℕ) (at : ℕ) where
         let f : [] ≡ b ∷ left s q = cc (n .0) in
         let z : _≡_ {A = ℕ} 0 1 = cc in
         omega arith
-    | inr e ↦ short (spelled ".end") (left s p) 10 (sym e ∙ h .0)
+    | inr e ↦ word-longer (spelled ".end") 10 (left s p) (sym e ∙ h .0)
   ]
 
   pub end-line : (p : ℕ) → EndedIs s at (spelled ".end") (Ended.Line p) → NextIs s p Next.End → EndingIs s at true
@@ -75,12 +69,7 @@ module _ (s : List ℕ) (at : ℕ) where
 -- ---- the blocks before it
 
 named-append : (bs cs : List Block) → namedBy (bs ++ cs) ≡ namedBy bs ++ namedBy cs
-named-append [] cs = refl
-named-append (b ∷ bs) cs = ap (namedIn b ++_) (named-append bs cs) ∙ sym (append-assoc (namedIn b) (namedBy bs) (namedBy cs))
-
-pub top-append : (l m : List ℕ) → topOf (l ++ m) ≡ max (topOf l) (topOf m)
-top-append [] m = omega arith
-top-append (v ∷ l) m = let e = top-append l m in omega arith
+named-append bs cs = ap flat (map-append namedIn bs cs) ∙ flat-append (map namedIn bs) (map namedIn cs)
 
 -- blocks passed from one place to another: any that follow go on with them, and where none follow there are none
 pub record Passed (s : List ℕ) (at m p r t : ℕ) : Type 0 where

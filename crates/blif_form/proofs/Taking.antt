@@ -1,14 +1,15 @@
 -- A block that is found: names, rows, and every column used make a block in the form, and where one of them fails there is none. Assumes nothing.
-use Prim.Native.Nat.{ℕ, _<_, _≤_}
+use Prim.Native.Nat.{ℕ, _≤_}
 use mathlib.Core.Path.{_≡_, refl, sym, ap, _∙_, subst}
 use mathlib.Core.Bool.{true, false}
-use mathlib.Core.List.{List, [], _∷_, _++_, map, List·Memᴰ·head as here, List·Memᴰ·tail as there}
+use mathlib.Core.List.{List, _∷_, _++_, map, List·Memᴰ·head as here}
 use native.Mathlib.Omega.{arith}
 use lib.Dec.{ltb}
 use lib.ListN.{length, length-map}
+use borrow.Author.Tests.{lt-ltb}
 use Rattle.sets.specs.{Lists.all, Sets.asc, Word.largest}
-use Rattle.sets.proofs.Truth.{both, together, clash}
-use Rattle.sets.proofs.Lists.{_∈_, all-append, map-out}
+use Rattle.sets.proofs.Truth.{clash}
+use Rattle.sets.proofs.Lists.{_∈_, all-in, map-out}
 use Rattle.expression.specs.Expression.{isCube}
 use Rattle.network_reads.specs.Reading.{readsOf}
 use Rattle.blif_laws.specs.Text.{Name, variable, spaced, Block}
@@ -17,6 +18,7 @@ use Rattle.blif_laws.{specs.Meaning.FormedBlock, proofs.Rowing.cube-read}
 use Rattle.blif_laws.proofs.Blocking.{below-reads, among-in, among-out}
 use Rattle.blif_scan.specs.Scanning.{left, labelOf}
 use Rattle.blif_lines.specs.Lining.{wordsOf, variableIn, numbersIn, topOf, NamesGot, NamesNot, RowsOf, RowsGot, RowsNot}
+use Rattle.blif_lines.proofs.Lining.{top-below, asc-parts}
 use Rattle.blif_form.specs.Surveying.{UsedIs, BlockGot, BlockNot}
 use Rattle.blif_lines.specs.declared.{Names.Names, Rows.Rows}
 use Rattle.blif_form.proofs.Blocking.{namedFor, signsFor, Blocked, block-blocked, blocked-block, numbers-named, block-ascends}
@@ -49,18 +51,9 @@ module _ {s : List ℕ} {at base m : ℕ} {old new : List ℕ} {d : Names} (n : 
 
 -- numbers that ascend to the last name
 order-out : (vs : List ℕ) (a : Name) → asc (vs ++ variableIn a) ≡ true → (asc vs ≡ true) × ((v : ℕ) → a ≡ variable v → all (λ u. ltb u v) vs ≡ true)
-order-out [] a h = (refl, λ v e. refl)
-order-out (u ∷ vs) a h =
-    let p = both (all (ltb u) (vs ++ variableIn a)) (asc (vs ++ variableIn a)) h in
-    let q = both (all (ltb u) vs) (all (ltb u) (variableIn a)) (sym (all-append (ltb u) vs (variableIn a)) ∙ p .0) in
-    let r = order-out vs a (p .1) in (
-      together (all (ltb u) vs) (asc vs) (q .0) (r .0),
-      λ v e. together (ltb u v) _ (both (ltb u v) true (subst (λ x. all (ltb u) (variableIn x) ≡ true) e (q .1)) .0) (r .1 v e),
-    )
-
-below-top : {v : ℕ} {l : List ℕ} → v ∈ l → v < topOf l
-below-top (here {xs = l} e) = omega arith
-below-top (there {xs = l} m) = omega (arith, below-top m)
+order-out vs a h =
+    let r = asc-parts vs (variableIn a) h in
+    (r .0, λ v e. all-in (λ u. ltb u v) vs (λ u i. lt-ltb u v (r .2 u v i (rw e (here refl)))))
 
 module _ (m : ℕ) {s : List ℕ} {at base first : ℕ} {old new l r : List ℕ} {d : Names} {w : Rows} (n : NamesGot s at base old new d)
     (g : RowsGot s (d .next) (d .reads) first l r w) (a : among m (labelOf (d .name)) ≡ true) (u : UsedIs s (d .next) (d .reads) true) where
@@ -92,8 +85,8 @@ module _ (m : ℕ) {s : List ℕ} {at base first : ℕ} {old new l r : List ℕ}
     among = among-out m (n .named .name) (ap (among m) (sym (n .name)) ∙ a);
   }
 
-  blocked : Blocked (left s at) block (left s (w .next))
-  blocked = record {
+  lines-here : Blocked (left s at) block (left s (w .next))
+  lines-here = record {
     rest = left s (d .next);
     names = n .text ∙ ap (λ e. spaced (wordsOf e) ++ (10 ∷ left s (d .next))) (sym named);
     rows = subst (λ x. RowsOf (left s (d .next)) (length x) (signsFor x (block .cubes)) (left s (w .next))) (sym read)
@@ -103,11 +96,11 @@ module _ (m : ℕ) {s : List ℕ} {at base first : ℕ} {old new l r : List ℕ}
   numbers : numbersIn (n .named) ≡ namedIn block
   numbers = ap numbersIn (sym named) ∙ numbers-named block
 
-  pub found : d .top ≤ largest → BlockGot s at m (record { is = true; name = d .name; rows = w .count; top = d .top; next = w .next })
-  found k = record {
+  pub block-found : d .top ≤ largest → BlockGot s at m (record { is = true; name = d .name; rows = w .count; top = d .top; next = w .next })
+  block-found k = record {
     block = block;
-    is = blocked-block formed blocked;
-    small = λ v i. let z = below-top (subst (v ∈_) (sym numbers) i) in omega (arith, n .top);
+    is = blocked-block formed lines-here;
+    small = λ v i. let z = top-below (subst (v ∈_) (sym numbers) i) in omega (arith, n .top);
     name = n .name;
     rows = g .count ∙ sym (length-map (g .words) (cubeIn vs));
     top = n .top ∙ ap topOf numbers;

@@ -10,25 +10,19 @@ use lib.ListN.{length}
 use Rattle.sets.{specs.Lists.from, specs.Word.largest, proofs.Truth.together, proofs.Truth.refuted, proofs.Sets.mem-of}
 use Rattle.letters_products.specs.Spelled.{spelled}
 use Rattle.network.specs.Handed.{flat}
-use Rattle.blif_laws.specs.Text.{spaced, ended, firstNames, blockLines, headLines, Model, modelLines, modelText}
+use Rattle.blif_laws.specs.Text.{spaced, firstNames, blockLines, headLines, Model, modelLines, modelText}
 use Rattle.blif_laws.specs.Reading.{wordsIn, joined, gapless}
 use Rattle.blif_laws.specs.Meaning.{isClear, InForm}
 use Rattle.blif_laws.proofs.Cutting.{words-spaced, clear-words}
 use Rattle.blif_laws.proofs.{Naming.names-clear, Naming.names-length, Forming.model-iff, Bounding.standing-below}
-use Rattle.blif_scan.specs.{Scanning.left, Heading.Headed}
-use Rattle.blif_lines.specs.Lining.{topOf}
+use Rattle.blif_scan.specs.{Scanning.left, Heading.Headed, Heading.modelLine}
+use Rattle.blif_scan.proofs.Heading.{line-one, inputsLine, outputsLine, head-apart, inputs-whole, outputs-whole, model-whole}
+use Rattle.blif_lines.{specs.Lining.topOf, proofs.Lining.top-append}
 use Rattle.blif_form.specs.Surveying.{BlocksOf, namedBy, SmallBlocks, BlocksGot, BlocksNot, SurveyGot, SurveyNot}
 use Rattle.blif_form.specs.declared.Blocks.{Blocks}
-use Rattle.blif_form.proofs.Ending.{ended-more, closes-in, closes-out}
-use Rattle.blif_form.proofs.{Written.words-line, Surveying.top-append}
+use Rattle.blif_form.proofs.Ending.{closes-in, closes-out}
 
 -- ---- the head
-
-three-lines : (a b c r : List ℕ) → ended (a ∷ b ∷ c ∷ []) ++ r ≡ a ++ (10 ∷ (b ++ (10 ∷ (c ++ (10 ∷ r)))))
-unfolding ended
-three-lines a b c r =
-    ended-more a (b ∷ c ∷ []) r
-    ∙ ap (λ t. a ++ (10 ∷ t)) (ended-more b (c ∷ []) r ∙ ap (λ t. b ++ (10 ∷ t)) (ended-more c [] r))
 
 -- a line of a keyword and names has one number of names
 list-one : (k : List ℕ) (b n m : ℕ) → isClear k ≡ true → isClear (b ∷ []) ≡ true → spaced (k ∷ firstNames b n) ≡ spaced (k ∷ firstNames b m) → n ≡ m
@@ -41,29 +35,13 @@ list-one k b n m h i e =
     back x = words-spaced k (firstNames b x) (clear-words (k ∷ firstNames b x) (together (isClear k) _ h (names-clear b x i)))
 
 pub head-one : {t r u : List ℕ} {n m k j : ℕ} → Headed t n m r → Headed t k j u → (n ≡ k) × (m ≡ j) × (r ≡ u)
-unfolding headLines spelled
-head-one {t} {r} {u} {n} {m} {k} {j} p q =
-    let a = words-line (model (p .name)) (model (q .name)) (line (ins n) (line (outs m) r)) (line (ins k) (line (outs j) u))
-    (together (isClear (p .name)) true (p .titled .clear) refl) (together (isClear (q .name)) true (q .titled .clear) refl)
-    (sym (three-lines (spaced (model (p .name))) (spaced (ins n)) (spaced (outs m)) r)
-    ∙ sym (p .text)
-    ∙ q .text
-    ∙ three-lines (spaced (model (q .name))) (spaced (ins k)) (spaced (outs j)) u) in
-    let b = words-line (ins n) (ins k) (line (outs m) r) (line (outs j) u) (names-clear 120 n refl) (names-clear 120 k refl) (a .1) in
-    let c = words-line (outs m) (outs j) r u (names-clear 121 m refl) (names-clear 121 j refl) (b .1) in
+unfolding spelled
+head-one {r = r} {u} {n} {m} {k} {j} p q =
+    let a = line-one (modelLine (p .name)) (modelLine (q .name)) _ _ (model-whole (p .name) (p .titled)) (model-whole (q .name) (q .titled))
+    (sym (p .text ∙ head-apart (p .name) n m r) ∙ q .text ∙ head-apart (q .name) k j u) in
+    let b = line-one (inputsLine n) (inputsLine k) _ _ (inputs-whole n) (inputs-whole k) (a .1) in
+    let c = line-one (outputsLine m) (outputsLine j) r u (outputs-whole m) (outputs-whole j) (b .1) in
     (list-one (spelled ".inputs") 120 n k refl refl (b .0), list-one (spelled ".outputs") 121 m j refl refl (c .0), c .1)
-  where
-    model : List ℕ → List (List ℕ)
-    model w = spelled ".model" ∷ w ∷ []
-
-    ins : ℕ → List (List ℕ)
-    ins x = spelled ".inputs" ∷ firstNames 120 x
-
-    outs : ℕ → List (List ℕ)
-    outs x = spelled ".outputs" ∷ firstNames 121 x
-
-    line : List (List ℕ) → List ℕ → List ℕ
-    line ws x = spaced ws ++ (10 ∷ x)
 
 -- ---- the form
 

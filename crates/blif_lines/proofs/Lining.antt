@@ -1,22 +1,21 @@
 -- The line of names: a text holds the words of one line only, so that a walk from name to name finds it wherever it is. Assumes nothing.
 use Prim.Native.Nat.{ℕ, _+_, _<_, _≤_, max}
-use mathlib.Core.Path.{_≡_, refl, sym, _∙_, ap}
-use mathlib.Core.Logic.{inl, inr}
-use mathlib.Core.Bool.{Bool, true, false, not, _&&_}
+use mathlib.Core.Path.{_≡_, refl, sym, _∙_, ap, ap₂}
+use mathlib.Core.{Logic.inl, Logic.inr, Bool.true, Bool.false}
 use mathlib.Core.List.{List, [], _∷_, _++_, append-nil, append-assoc, List·Memᴰ·head as here, List·Memᴰ·tail as there}
 use mathlib.Core.List.{List·Memᴰ·not-nil, List·Memᴰ·eq-of-singleton, List·Memᴰ·append-cases, Memᴰ·append-right, List·Memᴰ·cases-cons}
 use native.Mathlib.Omega.{arith}
-use borrow.Author.Tests.{ne-eqb, lt-ltb, le-leb, ltb-true, leb-true}
-use lib.Dec.{eqb, leb, ltb}
+use borrow.Author.Tests.{lt-ltb, le-leb, ltb-true, leb-true}
+use lib.Dec.{leb, ltb}
 use lib.ListN.{length, length-append}
-use Rattle.sets.specs.{Sets.asc, Word.largest}
+use Rattle.sets.specs.{Lists.all, Sets.asc, Word.largest}
 use Rattle.sets.proofs.Truth.{both, together, decided, clash}
-use Rattle.sets.proofs.Lists.{_∈_, all-in, all-out, all-append, ahead, pairwise-append}
-use Rattle.letters.specs.{Letters.nameText, Letters.decimal, Meaning.readBack, Meaning.isDigit}
-use Rattle.letters.proofs.Numbers.{decimal-value, decimal-digits}
+use Rattle.sets.proofs.Lists.{_∈_, all-out, all-append, ahead, pairwise-append}
+use Rattle.letters.specs.Letters.{nameText}
 use Rattle.blif_laws.specs.Text.{Name, variable, output, nameWord, spaced}
-use Rattle.blif_laws.specs.{Reading.Named, Meaning.isClear}
+use Rattle.blif_laws.{specs.Reading.Named, specs.Meaning.isClear, proofs.Naming.name-clear, proofs.Naming.name-one}
 use Rattle.blif_scan.specs.Scanning.{left, Forth, labelOf, Small, Starts, bySpace, byLine, CalledIs, CalledBy}
+use Rattle.blif_scan.proofs.Scanning.{stays}
 use Rattle.blif_lines.specs.{Marking.Raised, declared.Turn.Turn}
 use Rattle.blif_lines.specs.Lining.{wordsOf, variableIn, numbersIn, topOf, Ascends, NamesGot, NamesNot, isNext, readTurn, lastTurn, turnBy, turnOf}
 use Rattle.blif_lines.specs.Lining.{Follows, Comes, LineFrom, TurnIs, topAfter, LastMarked}
@@ -28,49 +27,22 @@ use Rattle.blif_lines.proofs.Marking.{raised-none, raised-on}
 
 -- ---- words
 
--- a byte of a word: neither space nor LF
-abbrev pub within : ℕ → Bool
-within b = not (eqb b 32) && not (eqb b 10)
-
-module _ (b e : ℕ) (p : within b ≡ false) (q : within e ≡ false) where
+module _ (b e : ℕ) (p : stays b ≡ false) (q : stays e ≡ false) where
   -- one word stands at the front of a text, with one byte after it
   pub one-word : (w u x y : List ℕ) → isClear w ≡ true → isClear u ≡ true → w ++ (b ∷ x) ≡ u ++ (e ∷ y) → (w ≡ u) × (b ≡ e) × (x ≡ y)
   one-word [] [] x y h k r = (refl, (cc), (cc))
-  one-word [] (d ∷ u) x y h k r = let s : b ≡ d = cc in clash (both (within d) (isClear u) k .0) (ap within (sym s) ∙ p)
-  one-word (d ∷ w) [] x y h k r = let s : d ≡ e = cc in clash (both (within d) (isClear w) h .0) (ap within s ∙ q)
+  one-word [] (d ∷ u) x y h k r = let s : b ≡ d = cc in clash (both (stays d) (isClear u) k .0) (ap stays (sym s) ∙ p)
+  one-word (d ∷ w) [] x y h k r = let s : d ≡ e = cc in clash (both (stays d) (isClear w) h .0) (ap stays s ∙ q)
   one-word (d ∷ w) (f ∷ u) x y h k r =
       let s : d ≡ f = cc in
       let t : w ++ (b ∷ x) ≡ u ++ (e ∷ y) = cc in
-      let i = one-word w u x y (both (within d) (isClear w) h .1) (both (within f) (isClear u) k .1) t in
+      let i = one-word w u x y (both (stays d) (isClear w) h .1) (both (stays f) (isClear u) k .1) t in
       (ap (d ∷_) (i .0) ∙ ap (_∷ u) s, i .1, i .2)
 
 -- a word alone is no word with a byte after it
-pub no-more : (e : ℕ) → within e ≡ false → (w u y : List ℕ) → isClear w ≡ true → w ≡ u ++ (e ∷ y) → ⊥
+pub no-more : (e : ℕ) → stays e ≡ false → (w u y : List ℕ) → isClear w ≡ true → w ≡ u ++ (e ∷ y) → ⊥
 no-more e q w u y h r =
-    clash (both (within e) (isClear y) (both (isClear u) (isClear (e ∷ y)) (sym (all-append within u (e ∷ y)) ∙ ap isClear (sym r) ∙ h) .1) .0) q
-
-digit-within : (b : ℕ) → isDigit b ≡ true → within b ≡ true
-digit-within b h =
-    let l = leb-true 48 b (both (leb 48 b) (leb b 57) h .0) in rw (ne-eqb b 32 (λ e. omega arith), ne-eqb b 10 (λ e. omega arith))
-
-decimal-clear : (n : ℕ) → isClear (decimal n) ≡ true
-decimal-clear n = all-in within (decimal n) (λ b m. digit-within b (all-out isDigit m (decimal-digits n)))
-
-pub name-clear : (a : Name) → isClear (nameWord a) ≡ true
-unfolding nameWord
-name-clear (variable v) = decimal-clear v
-name-clear (output j) = decimal-clear j
-
-decimal-same : (m n : ℕ) → decimal m ≡ decimal n → m ≡ n
-decimal-same m n e = sym (decimal-value m) ∙ ap (readBack 0) e ∙ decimal-value n
-
--- a word is one name
-pub one-name : (a b : Name) → nameWord a ≡ nameWord b → a ≡ b
-unfolding nameWord
-one-name (variable v) (variable u) e = ap variable (decimal-same v u (cc))
-one-name (variable v) (output j) e = let z : _≡_ {A = ℕ} 120 121 = cc in absurd (omega arith)
-one-name (output i) (variable u) e = let z : _≡_ {A = ℕ} 121 120 = cc in absurd (omega arith)
-one-name (output i) (output j) e = ap output (decimal-same i j (cc))
+    clash (both (stays e) (isClear y) (both (isClear u) (isClear (e ∷ y)) (sym (all-append stays u (e ∷ y)) ∙ ap isClear (sym r) ∙ h) .1) .0) q
 
 -- ---- lines of names
 
@@ -105,10 +77,26 @@ passed (v ∷ l) t [] a r e =
 passed (v ∷ l) t (u ∷ m) a r e =
     let y = line m (nameWord a ++ (10 ∷ r)) in
     let z = one-word 32 32 refl refl (nameWord (variable v)) (nameWord (variable u)) (line l t) y (name-clear (variable v)) (name-clear (variable u)) e in
-    let s : variable v ≡ variable u = one-name (variable v) (variable u) (z .0) in
+    let s : variable v ≡ variable u = name-one (variable v) (variable u) (z .0) in
     let w : u ≡ v = cc in
     let k = passed l t m a r (z .2) in
     (k .0, ap (_∷ m) w ∙ ap (v ∷_) (k .1), k .2)
+
+-- a text has one line of names
+pub names-one : (d e : Named) (t u : List ℕ) → spaced (wordsOf d) ++ (10 ∷ t) ≡ spaced (wordsOf e) ++ (10 ∷ u) → (d ≡ e) × (t ≡ u)
+names-one d e t u h =
+    let k = passed (d .reads) (nameWord (d .name) ++ (10 ∷ t)) (e .reads) (e .name) u
+    (sym (line-of (d .reads) (d .name) t) ∙ h ∙ line-of (e .reads) (e .name) u) in
+    go (k .0) (k .1) (k .2)
+  where
+    go : (k : List ℕ) → e .reads ≡ d .reads ++ k → nameWord (d .name) ++ (10 ∷ t) ≡ line k (nameWord (e .name) ++ (10 ∷ u)) → (d ≡ e) × (t ≡ u)
+    go [] p q =
+        let z = one-word 10 10 refl refl (nameWord (d .name)) (nameWord (e .name)) t u (name-clear (d .name)) (name-clear (e .name)) q in
+        (ap₂ named (sym (p ∙ append-nil (d .reads))) (name-one (d .name) (e .name) (z .0)), z .2)
+    go (v ∷ k) p q =
+        let z : _≡_ {A = ℕ} 10 32 = one-word 10 32 refl refl (nameWord (d .name)) (nameWord (variable v)) t _ (name-clear (d .name))
+        (name-clear (variable v)) q .1 in
+        absurd (omega arith)
 
 -- ---- the front of a line
 
@@ -123,8 +111,8 @@ front-by least t [] a r f = last a r (λ v e. let m : v ∈ variableIn a = rw e 
 front-by least t (v ∷ l) a r f = more v (line l (nameWord a ++ (10 ∷ r))) (f .from v (here refl)) (f .ascends .small v (here refl))
     (f .text ∙ line-of (v ∷ l) a r)
 
-pub front : (least : ℕ) (t : List ℕ) (d : Named) (r : List ℕ) → LineFrom least t d r → Front least t
-front least t d r f = front-by least t (d .reads) (d .name) r f
+pub front-of : (least : ℕ) (t : List ℕ) (d : Named) (r : List ℕ) → LineFrom least t d r → Front least t
+front-of least t d r f = front-by least t (d .reads) (d .name) r f
 
 next-true : (least v : ℕ) → least ≤ v → v < largest → isNext least v ≡ true
 next-true least v h k = together (leb least v) (ltb v largest) (le-leb least v h) (lt-ltb v largest k)
@@ -137,14 +125,14 @@ front-space least t a x e (last b r h k f) =
     absurd (omega arith)
 front-space least t a x e (more v r h k f) =
     let z = one-word 32 32 refl refl (nameWord a) (nameWord (variable v)) x r (name-clear a) (name-clear (variable v)) (sym e ∙ f) in
-    (v, one-name a (variable v) (z .0), next-true least v h k)
+    (v, name-one a (variable v) (z .0), next-true least v h k)
 
 -- and one that an LF ends is the one that is defined
 front-line : (least : ℕ) (t : List ℕ) (a : Name) (x : List ℕ) → t ≡ nameWord a ++ (10 ∷ x) → Front least t
     → (v : ℕ) → a ≡ variable v → isNext least v ≡ true
 front-line least t a x e (last b r h k f) v i =
     let z = one-word 10 10 refl refl (nameWord a) (nameWord b) x r (name-clear a) (name-clear b) (sym e ∙ f) in
-    let j = h v (sym (one-name a b (z .0)) ∙ i) in
+    let j = h v (sym (name-one a b (z .0)) ∙ i) in
     next-true least v (j .0) (j .1)
 front-line least t a x e (more u r h k f) v i =
     let z : _≡_ {A = ℕ} 10 32 =
@@ -173,38 +161,38 @@ module _ (s : List ℕ) (at least : ℕ) where
   read-is (Label.Variable v) p e f = elim (decided (isNext least v)) [
     | inl t ↦ rw t (record { text = e; forth = f; follows = next-from v t })
     | inr t ↦ rw t (λ d r l.
-        let x = front-space least (left s at) (variable v) (left s p) e (front least (left s at) d r l) in
+        let x = front-space least (left s at) (variable v) (left s p) e (front-of least (left s at) d r l) in
         let w : x .0 ≡ v = cc in
         clash (ap (isNext least) (sym w) ∙ x .2) t)
   ]
   read-is (Label.Output j) p e f = λ d r l.
-      let x = front-space least (left s at) (output j) (left s p) e (front least (left s at) d r l) in
+      let x = front-space least (left s at) (output j) (left s p) e (front-of least (left s at) d r l) in
       let z : _≡_ {A = ℕ} 0 1 = cc in
       omega arith
 
   last-is : (a : Label) (p : ℕ) → left s at ≡ nameWord (labelOf a) ++ (10 ∷ left s p) → Forth s at p → TurnIs s at least (lastTurn least a p)
   last-is (Label.Variable v) p e f = elim (decided (isNext least v)) [
     | inl t ↦ rw t (record { text = e; forth = f; follows = next-from v t })
-    | inr t ↦ rw t (λ d r l. clash (front-line least (left s at) (variable v) (left s p) e (front least (left s at) d r l) v refl) t)
+    | inr t ↦ rw t (λ d r l. clash (front-line least (left s at) (variable v) (left s p) e (front-of least (left s at) d r l) v refl) t)
   ]
   last-is (Label.Output j) p e f = record { text = e; forth = f; follows = λ v i. let z : _≡_ {A = ℕ} 0 1 = cc in absurd (omega arith) }
 
   by-end : (a : Label) (e : Ended) → CalledBy s at (labelOf a) e → TurnIs s at least (turnBy least a e)
   by-end a (Ended.Space p) h = read-is a p (h .0) (h .1)
   by-end a (Ended.Line p) h = last-is a p (h .0) (h .1)
-  by-end a Ended.Finish h = λ d r l. front-end least (left s at) (labelOf a) h (front least (left s at) d r l)
-  by-end a Ended.No h = λ d r l. front-none least (left s at) h (front least (left s at) d r l)
+  by-end a Ended.Finish h = λ d r l. front-end least (left s at) (labelOf a) h (front-of least (left s at) d r l)
+  by-end a Ended.No h = λ d r l. front-none least (left s at) h (front-of least (left s at) d r l)
 
   pub turn-is : (c : Called) → CalledIs s at c → TurnIs s at least (turnOf least c)
   turn-is c h = by-end (c .name) (c .ended) h
 
 -- ---- names one after the other
 
-top-append : (l m : List ℕ) → topOf (l ++ m) ≡ max (topOf l) (topOf m)
+pub top-append : (l m : List ℕ) → topOf (l ++ m) ≡ max (topOf l) (topOf m)
 top-append [] m = omega arith
 top-append (v ∷ l) m = omega (arith, top-append l m)
 
-top-below : {v : ℕ} {l : List ℕ} → v ∈ l → v < topOf l
+pub top-below : {v : ℕ} {l : List ℕ} → v ∈ l → v < topOf l
 top-below (here e) = omega (arith, e)
 top-below (there m) = omega (arith, top-below m)
 
@@ -215,16 +203,17 @@ top-least (u ∷ l) v f = omega (arith, f u (here refl), top-least l v (λ x m. 
 asc-next : (l : List ℕ) (v : ℕ) → asc l ≡ true → topOf l ≤ v → asc (l ++ (v ∷ [])) ≡ true
 asc-next l v h k = pairwise-append ltb l (v ∷ []) h refl (λ x y m n. lt-ltb x y (omega (arith, top-below m, List·Memᴰ·eq-of-singleton n)))
 
--- of ascending numbers those after some ascend, and are above them
-asc-rest : (l m : List ℕ) → asc (l ++ m) ≡ true → (asc m ≡ true) × ((x y : ℕ) → x ∈ l → y ∈ m → x < y)
-asc-rest [] m h = (h, λ x y i j. absurd (List·Memᴰ·not-nil i))
-asc-rest (v ∷ l) m h =
+-- of ascending numbers the first ascend, and so do those after them, which are above them
+pub asc-parts : (l m : List ℕ) → asc (l ++ m) ≡ true → (asc l ≡ true) × (asc m ≡ true) × ((x y : ℕ) → x ∈ l → y ∈ m → x < y)
+asc-parts [] m h = (refl, h, λ x y i j. absurd (List·Memᴰ·not-nil i))
+asc-parts (v ∷ l) m h =
     let a = ahead ltb v (l ++ m) h in
-    let r = asc-rest l m (a .1) in (
-      r .0,
+    let r = asc-parts l m (a .1) in (
+      together (all (ltb v) l) (asc l) (both (all (ltb v) l) (all (ltb v) m) (sym (all-append (ltb v) l m) ∙ a .0) .0) (r .0),
+      r .1,
       λ x y i j. elim (List·Memᴰ·cases-cons i) [
         | inl e ↦ omega (arith, e, ltb-true v y (all-out (ltb v) (Memᴰ·append-right l j) (a .0)))
-        | inr t ↦ r .1 x y t j
+        | inr t ↦ r .2 x y t j
       ],
     )
 
@@ -305,14 +294,14 @@ module _ {s : List ℕ} {at p least reads base : ℕ} {o m : List ℕ} (x : Pass
         let k = passed (x .got) (left s p) (d .reads) (d .name) r (sym (x .text) ∙ e ∙ line-of (d .reads) (d .name) r) in
         let n : numbersIn d ≡ x .got ++ (k .0 ++ variableIn (d .name)) =
         ap (_++ variableIn (d .name)) (k .1) ∙ append-assoc (x .got) (k .0) (variableIn (d .name)) in
-        let b = asc-rest (x .got) (k .0 ++ variableIn (d .name)) (ap asc (sym n) ∙ a .order) in
+        let b = asc-parts (x .got) (k .0 ++ variableIn (d .name)) (ap asc (sym n) ∙ a .order) in
         f (named (k .0) (d .name)) r (record {
           ascends = record {
-            order = b .0;
+            order = b .1;
             small = λ v i. a .small v (rw n (Memᴰ·append-right (x .got) i));
             last = a .last;
           };
-          from = λ v i. omega (arith, x .top, top-least (x .got) v (λ u j. b .1 u v j i));
+          from = λ v i. omega (arith, x .top, top-least (x .got) v (λ u j. b .2 u v j i));
           text = k .2 ∙ sym (line-of (k .0) (d .name) r);
         });
   }

@@ -1,6 +1,6 @@
 -- Marks: raised by no number, by one, by one list after another; cleared from the front on; tested. Assumes nothing.
 use Prim.Native.Nat.{ℕ, _+_, _-_, _<_, _≤_, min}
-use mathlib.Core.Path.{_≡_, refl, _∙_, ap}
+use mathlib.Core.Path.{_≡_, refl, sym, _∙_, ap}
 use mathlib.Core.Bool.{Bool, true, false, cond}
 use mathlib.Core.List.{List, [], _∷_, _++_}
 use mathlib.Core.Logic.{inl, inr}
@@ -79,12 +79,16 @@ cleared-all k n e x = record { size = x .size; each = λ i h. rw (same-test i k 
 
 -- ---- tested
 
-module _ (f : ℕ → Bool) (l : List ℕ) (k i : ℕ) where
-  pub test-stop : i < min k (length l) → f (getD l i 0) ≡ false → all f (drop i (take k l)) ≡ false
-  test-stop h e = all-stop (take k l) i 0 (omega (arith, length-take k l)) f (ap f (getD-take k l i 0 (omega arith)) ∙ e)
+-- the test of the first k marks, from i on, is the test of all of them
+abbrev pub Tested : (ℕ → Bool) → List ℕ → ℕ → ℕ → Type 0
+Tested f l k i = all f (drop i (take k l)) ≡ all f (take k l)
 
-  pub test-on : i < min k (length l) → f (getD l i 0) ≡ true → all f (drop i (take k l)) ≡ all f (drop (i + 1) (take k l))
-  test-on h e = all-on (take k l) i 0 (omega (arith, length-take k l)) f (ap f (getD-take k l i 0 (omega arith)) ∙ e)
+module _ (f : ℕ → Bool) (l : List ℕ) (k : ℕ) {n i : ℕ} (e : n ≡ min k (length l)) (t : Tested f l k i) where
+  pub test-stop : i < n → f (getD l i 0) ≡ false → false ≡ all f (take k l)
+  test-stop h p = sym (all-stop (take k l) i 0 (omega (arith, length-take k l)) f (ap f (getD-take k l i 0 (omega arith)) ∙ p)) ∙ t
 
-  pub test-done : min k (length l) ≤ i → all f (drop i (take k l)) ≡ true
-  test-done h = all-done (take k l) i (omega (arith, length-take k l)) f
+  pub test-on : i < n → f (getD l i 0) ≡ true → Tested f l k (i + 1)
+  test-on h p = sym (all-on (take k l) i 0 (omega (arith, length-take k l)) f (ap f (getD-take k l i 0 (omega arith)) ∙ p)) ∙ t
+
+  pub test-done : n ≤ i → true ≡ all f (take k l)
+  test-done h = sym (all-done (take k l) i (omega (arith, length-take k l)) f) ∙ t

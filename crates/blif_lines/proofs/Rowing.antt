@@ -3,7 +3,7 @@
 use Prim.Native.Nat.{ℕ, zero, suc, _+_, _<_, _≤_}
 use mathlib.Core.Path.{_≡_, refl, sym, _∙_, ap, subst}
 use mathlib.Core.{Logic.inl, Logic.inr, Bool.true, Bool.false}
-use mathlib.Core.List.{List, [], _∷_, _++_, map, map-append, append-assoc, List·Memᴰ·head as here, List·Memᴰ·tail as there}
+use mathlib.Core.List.{List, [], _∷_, _++_, map, map-append, append-nil, append-assoc, List·Memᴰ·head as here, List·Memᴰ·tail as there}
 use mathlib.Core.List.{List·Memᴰ·not-nil, List·Memᴰ·eq-of-singleton, List·Memᴰ·append-cases, Memᴰ·append-right}
 use native.Mathlib.Omega.{arith}
 use borrow.Author.Tests.{eqb-true, eq-eqb, ne-eqb}
@@ -17,10 +17,10 @@ use Rattle.table_rows.specs.Lines.{isPlace}
 use Rattle.network.{proofs.Handing.flat-last}
 use Rattle.blif_laws.specs.{Text.ended, Reading.pointed}
 use Rattle.blif_scan.specs.Scanning.{left, byLine, NextIs, EndedIs}
+use Rattle.blif_scan.{proofs.Heading.ended-apart, specs.declared.Next.Next, specs.declared.Ended.Ended}
 use Rattle.blif_lines.specs.{Marking.Raised, declared.Row.Row}
 use Rattle.blif_lines.specs.Lining.{Signs, rowLine, rowEnd, signed, signedIn, SignIs, SignsGot, SignsNot, spaceAfter, SpaceIs, EndIs}
-use Rattle.blif_lines.specs.Lining.{RowGot, RowNot, RowIs, RowsGot, RowsNot}
-use Rattle.blif_scan.specs.declared.{Next.Next, Ended.Ended}
+use Rattle.blif_lines.specs.Lining.{RowGot, RowNot, RowIs, RowsOf, RowsGot, RowsNot}
 use Rattle.blif_scan.specs.declared.Next.the-variants as Next
 use Rattle.blif_scan.specs.declared.Ended.the-variants as Ended
 use Rattle.blif_lines.specs.declared.Row.the-variants as Row
@@ -197,27 +197,27 @@ module _ {s : List ℕ} {at r base : ℕ} {o n : List ℕ} {p : ℕ} (x : SignsG
 -- ---- rows
 
 -- rows, each with its LF, and then t
-abbrev pub rows : List (List ℕ) → List ℕ → List ℕ
-rows [] t = t
-rows (w ∷ ws) t = rowLine w ++ (10 ∷ rows ws t)
+abbrev pub rowLines : List (List ℕ) → List ℕ → List ℕ
+rowLines [] t = t
+rowLines (w ∷ ws) t = rowLine w ++ (10 ∷ rowLines ws t)
 
-pub rows-of : (ws : List (List ℕ)) (t : List ℕ) → ended (map rowLine ws) ++ t ≡ rows ws t
+pub rows-of : (ws : List (List ℕ)) (t : List ℕ) → ended (map rowLine ws) ++ t ≡ rowLines ws t
 unfolding ended
 rows-of [] t = refl
-rows-of (w ∷ ws) t = simp append-assoc (ap (λ (x : List ℕ). rowLine w ++ (10 ∷ x)) (rows-of ws t))
+rows-of (w ∷ ws) t = ended-apart (rowLine w) (map rowLine ws) t ∙ ap (λ (x : List ℕ). rowLine w ++ (10 ∷ x)) (rows-of ws t)
 
-rows-next : (ws : List (List ℕ)) (w t : List ℕ) → rows (ws ++ (w ∷ [])) t ≡ rows ws (rowLine w ++ (10 ∷ t))
+rows-next : (ws : List (List ℕ)) (w t : List ℕ) → rowLines (ws ++ (w ∷ [])) t ≡ rowLines ws (rowLine w ++ (10 ∷ t))
 rows-next [] w t = refl
 rows-next (u ∷ ws) w t = ap (λ (x : List ℕ). rowLine u ++ (10 ∷ x)) (rows-next ws w t)
 
 -- no row begins with a point
-unpointed : (r : ℕ) (w t : List ℕ) → Signs r w → pointed (rowLine w ++ t) ≡ true → ⊥
+pub unpointed : (r : ℕ) (w t : List ℕ) → Signs r w → pointed (rowLine w ++ t) ≡ true → ⊥
 unfolding rowLine spelled
 unpointed r [] t g e = clash e refl
 unpointed r (b ∷ w) t g e = clash (both (isPlace b) (all isPlace w) (g .each) .0) (ap isPlace (eqb-true b 46 e))
 
 -- two rows of r signs at the front of a text are the same
-one-row : (r : ℕ) (w u x y : List ℕ) → Signs r w → Signs r u → rowLine w ++ (10 ∷ x) ≡ rowLine u ++ (10 ∷ y) → (w ≡ u) × (x ≡ y)
+pub one-row : (r : ℕ) (w u x y : List ℕ) → Signs r w → Signs r u → rowLine w ++ (10 ∷ x) ≡ rowLine u ++ (10 ∷ y) → (w ≡ u) × (x ≡ y)
 one-row r w u x y g h e =
     let a = one-front w u (rowEnd r ++ (10 ∷ x)) (rowEnd r ++ (10 ∷ y)) (g .number ∙ sym (h .number)) (sym (row-text r w x g) ∙ e ∙ row-text r u y h) in
     let b = one-front (rowEnd r) (rowEnd r) (10 ∷ x) (10 ∷ y) refl (a .1) .1 in
@@ -225,20 +225,30 @@ one-row r w u x y g h e =
 
 -- what is left of rows after some of them
 rows-passed : (r : ℕ) (l : List (List ℕ)) (t : List ℕ) (ws : List (List ℕ)) (more : List ℕ)
-    → ((w : List ℕ) → w ∈ l → Signs r w) → ((w : List ℕ) → w ∈ ws → Signs r w) → pointed more ≡ true → rows l t ≡ rows ws more
-    → (k : List (List ℕ)) × (ws ≡ l ++ k) × (t ≡ rows k more)
+    → ((w : List ℕ) → w ∈ l → Signs r w) → ((w : List ℕ) → w ∈ ws → Signs r w) → pointed more ≡ true → rowLines l t ≡ rowLines ws more
+    → (k : List (List ℕ)) × (ws ≡ l ++ k) × (t ≡ rowLines k more)
 rows-passed r [] t ws more g h c e = (ws, refl, e)
-rows-passed r (w ∷ l) t [] more g h c e = absurd (unpointed r w (10 ∷ rows l t) (g w (here refl)) (ap pointed e ∙ c))
+rows-passed r (w ∷ l) t [] more g h c e = absurd (unpointed r w (10 ∷ rowLines l t) (g w (here refl)) (ap pointed e ∙ c))
 rows-passed r (w ∷ l) t (u ∷ ws) more g h c e =
-    let a = one-row r w u (rows l t) (rows ws more) (g w (here refl)) (h u (here refl)) e in
+    let a = one-row r w u (rowLines l t) (rowLines ws more) (g w (here refl)) (h u (here refl)) e in
     let k = rows-passed r l t ws more (λ x m. g x (there m)) (λ x m. h x (there m)) c (a .1) in
     (k .0, ap (_∷ ws) (sym (a .0)) ∙ ap (w ∷_) (k .1), k .2)
+
+-- a text has one list of rows
+pub rows-one : {t : List ℕ} {r : ℕ} {ws us : List (List ℕ)} {more less : List ℕ} → RowsOf t r ws more → RowsOf t r us less → (ws ≡ us) × (more ≡ less)
+rows-one {r = r} {ws} {us} {more} {less} a b =
+    let k = rows-passed r ws more us less (a .each) (b .each) (b .point) (sym (a .text ∙ rows-of ws more) ∙ b .text ∙ rows-of us less) in
+    go (k .0) (k .1) (k .2)
+  where
+    go : (k : List (List ℕ)) → us ≡ ws ++ k → more ≡ rowLines k less → (ws ≡ us) × (more ≡ less)
+    go [] e f = (sym (e ∙ append-nil ws), f)
+    go (w ∷ k) e f = absurd (unpointed r w (10 ∷ rowLines k less) (b .each w (rw e (Memᴰ·append-right ws (here refl)))) (ap pointed (sym f) ∙ a .point))
 
 -- the rows that are passed on the way from one place to another
 pub record Rowing (s : List ℕ) (at r p count base : ℕ) (old new : List ℕ) : Type 0 where
   pub words : List (List ℕ)
   pub each : (w : List ℕ) → w ∈ words → Signs r w
-  pub text : left s at ≡ rows words (left s p)
+  pub text : left s at ≡ rowLines words (left s p)
   pub number : count ≡ length words
   pub room : at + count ≤ p
   pub onward : (at ≤ length s → p ≤ length s)
@@ -260,7 +270,7 @@ module _ {s : List ℕ} {at r p count base : ℕ} {o m : List ℕ} (x : Rowing s
   rowing-next q y = record {
     words = x .words ++ (y .word ∷ []);
     each = λ w i. elim (List·Memᴰ·append-cases (x .words) i) [ inl j ↦ x .each w j | inr j ↦ rw (List·Memᴰ·eq-of-singleton j) (y .signs) ];
-    text = x .text ∙ ap (rows (x .words)) (y .text) ∙ sym (rows-next (x .words) (y .word) (left s q));
+    text = x .text ∙ ap (rowLines (x .words)) (y .text) ∙ sym (rows-next (x .words) (y .word) (left s q));
     number = omega (arith, length-append (x .words) (y .word ∷ []), x .number);
     room = omega (arith, x .room, y .forth .on);
     onward = λ h. y .forth .within;
@@ -286,6 +296,6 @@ module _ {s : List ℕ} {at r p count base : ℕ} {o m : List ℕ} (x : Rowing s
         none-left t (h .point) (k .0) (λ w i. h .each w (rw (k .1) (Memᴰ·append-right (x .words) i))) (k .2);
   }
     where
-      none-left : (t : List ℕ) → pointed t ≡ true → (ks : List (List ℕ)) → ((w : List ℕ) → w ∈ ks → Signs r w) → left s p ≡ rows ks t → ⊥
+      none-left : (t : List ℕ) → pointed t ≡ true → (ks : List (List ℕ)) → ((w : List ℕ) → w ∈ ks → Signs r w) → left s p ≡ rowLines ks t → ⊥
       none-left t d [] f e = clash d (ap pointed (sym e) ∙ c)
-      none-left t d (w ∷ ks) f e = y .none w (rows ks t) (f w (here refl)) e
+      none-left t d (w ∷ ks) f e = y .none w (rowLines ks t) (f w (here refl)) e

@@ -5,43 +5,37 @@ use mathlib.Core.Logic.{inl, inr}
 use mathlib.Core.Bool.{Bool, true, false, cond, _&&_, _||_}
 use mathlib.Core.List.{List, [], _∷_, _++_}
 use native.Mathlib.Omega.{arith}
-use borrow.Author.Tests.{eq-eqb, ne-eqb, eqb-true, eqb-false, lt-ltb, le-ltb, ltb-true, ltb-false, le-leb, leb-true}
+use borrow.Author.Tests.{eq-eqb, eqb-true, eqb-false, lt-ltb, le-ltb, ltb-true, ltb-false, le-leb, lt-leb, leb-true}
 use lib.Dec.{eqb, leb, ltb}
 use lib.ListN.{length, getD, take, replicate, length-replicate, getD-replicate}
-use Rattle.sets.specs.{Lists.all, Lists.from, Sets.mem}
-use Rattle.sets.proofs.Truth.{iff, both, together, decided, clash, refuted}
+use Rattle.sets.specs.{Lists.all, Lists.total, Lists.from, Sets.mem}
+use Rattle.sets.proofs.Truth.{iff, decided, clash, refuted}
 use Rattle.sets.proofs.Lists.{total-append}
-use Rattle.sets.proofs.Sets.{all-mem, mem-all, from-mem}
+use Rattle.sets.proofs.Sets.{all-mem, mem-all, from-in, from-out}
 use Rattle.blif_lines.specs.Marking.{times, Raised}
 use Rattle.blif_lines.proofs.Marking.{raised-on}
 
 -- ---- numbers in a row
 
-pub in-row : (k m v : ℕ) → k ≤ v → v < k + m → mem v (from k m) ≡ true
-in-row k m v h l = from-mem k m v ∙ together (leb k v) (ltb v (k + m)) (le-leb k v h) (lt-ltb v (k + m) l)
-
-pub row-in : (k m v : ℕ) → mem v (from k m) ≡ true → (k ≤ v) × (v < k + m)
-row-in k m v h = let q = both (leb k v) (ltb v (k + m)) (sym (from-mem k m v) ∙ h) in (leb-true k v (q .0), ltb-true v (k + m) (q .1))
-
 module _ (p : ℕ → Bool) where
   -- a window after those that passed
   pub windows-on : (base k : ℕ) → all p (from 0 base) ≡ true → all p (from base k) ≡ true → all p (from 0 (base + k)) ≡ true
   windows-on base k a b = all-mem p (from 0 (base + k)) (λ v m.
-      let q = row-in 0 (base + k) v m in
+      let q = from-out 0 (base + k) v m in
       elim (decided (ltb v base)) [
-        | inl t ↦ mem-all p (from 0 base) v a (in-row 0 base v (omega arith) (omega (arith, ltb-true v base t)))
-        | inr t ↦ mem-all p (from base k) v b (in-row base k v (ltb-false v base t) (omega (arith, q .1)))
+        | inl t ↦ mem-all p (from 0 base) v a (from-in 0 base v (omega arith) (omega (arith, ltb-true v base t)))
+        | inr t ↦ mem-all p (from base k) v b (from-in base k v (ltb-false v base t) (omega (arith, q .1)))
       ])
 
   -- a window that fails
   pub windows-stop : (base k top : ℕ) → base + k ≤ top → all p (from base k) ≡ false → all p (from 0 top) ≡ false
   windows-stop base k top h f = refuted (λ t. clash (all-mem p (from base k) (λ v m.
-      let q = row-in base k v m in mem-all p (from 0 top) v t (in-row 0 top v (omega arith) (omega (arith, q .1))))) f)
+      let q = from-out base k v m in mem-all p (from 0 top) v t (from-in 0 top v (omega arith) (omega (arith, q .1))))) f)
 
   -- all windows passed
   pub windows-done : (base top : ℕ) → top ≤ base → all p (from 0 base) ≡ true → all p (from 0 top) ≡ true
   windows-done base top h a = all-mem p (from 0 top) (λ v m.
-      mem-all p (from 0 base) v a (in-row 0 base v (omega arith) (omega (arith, row-in 0 top v m .1))))
+      mem-all p (from 0 base) v a (from-in 0 base v (omega arith) (omega (arith, from-out 0 top v m .1))))
 
 -- a test of the first marks is a test of the window's numbers
 pub window-all : (f h : ℕ → Bool) (l : List ℕ) (base k : ℕ) → k ≤ length l → ((i : ℕ) → i < k → f (getD l i 0) ≡ h (base + i))
@@ -66,23 +60,39 @@ times-mem v (u ∷ l) = go (eqb v u) (times-mem v l)
     go true h = le-leb 1 (1 + times v l) (omega arith)
     go false h = let e : 0 + times v l ≡ times v l = omega arith in ap (leb 1) e ∙ h
 
--- a number from k on is counted once where it is one of the row
-pub times-row : (k m v : ℕ) → k ≤ v → times v (from k m) ≡ cond (ltb v (k + m)) 1 0
+-- of numbers in a row one is x, or none is
+pub one-hit : (k m x c : ℕ) → total (λ j. cond (eqb x j) c 0) (from k m) ≡ cond (leb k x && ltb x (k + m)) c 0
 unfolding from
-times-row k zero v h = rw (le-ltb v (k + 0) (omega arith))
-times-row k (suc m) v h = elim (decided (eqb v k)) [
-  | inl t ↦ let e : v ≡ k = eqb-true v k t in
-      rw (t, lt-ltb v (k + suc m) (omega arith)) (omega (arith, times-below (suc k) m v (omega arith)))
-  | inr t ↦ let n = eqb-false v k t in
-      let e : suc k + m ≡ k + suc m = omega arith in
-      rw t (omega (arith, times-row (suc k) m v (omega (arith, n)) ∙ ap (λ (x : ℕ). cond (ltb v x) 1 0) e))
+one-hit k zero x c = elim (decided (leb k x)) [
+  | inl t ↦ rw (t, le-ltb x (k + 0) (omega (arith, leb-true k x t)))
+  | inr t ↦ rw t
+]
+one-hit k (suc m) x c = elim (decided (eqb x k)) [
+  | inl t ↦
+      let e : x ≡ k = eqb-true x k t in
+      rw (t, one-hit (suc k) m x c, lt-leb (suc k) x (omega arith), le-leb k x (omega arith), lt-ltb x (k + suc m) (omega arith)) (omega arith)
+  | inr t ↦ rw (t, one-hit (suc k) m x c) (omega (arith, other (eqb-false x k t)))
 ]
   where
-    times-below : (k m v : ℕ) → v < k → times v (from k m) ≡ 0
-    times-below k zero v h = refl
-    times-below k (suc m) v h = rw (ne-eqb v k (λ e. omega arith)) (omega (arith, times-below (suc k) m v (omega arith)))
+    other : (x ≡ k → ⊥) → cond (leb (suc k) x && ltb x (suc k + m)) c 0 ≡ cond (leb k x && ltb x (k + suc m)) c 0
+    other h = elim (decided (ltb k x)) [
+      | inl l ↦ let i : k < x = ltb-true k x l in ap (λ (b : Bool). cond b c 0)
+          (ap₂ _&&_ (le-leb (suc k) x (omega arith) ∙ sym (le-leb k x (omega arith))) (let e : suc k + m ≡ k + suc m = omega arith in ap (ltb x) e))
+      | inr l ↦ let i : x < k = omega (arith, ltb-false k x l, h) in rw (lt-leb (suc k) x (omega arith), lt-leb k x i)
+    ]
+
+-- a number from k on is counted once where it is one of the row
+pub times-row : (k m v : ℕ) → k ≤ v → times v (from k m) ≡ cond (ltb v (k + m)) 1 0
+times-row k m v h = one-hit k m v 1 ∙ ap (λ (b : Bool). cond (b && ltb v (k + m)) 1 0) (le-leb k v h)
 
 -- ---- the marks of a window, at first all zero
+
+-- a mark that was zero
+pub met-mark : (v x y : ℕ) (l : List ℕ) → x ≡ 0 → y ≡ min 2 (x + times v l) → leb 1 y ≡ mem v l
+met-mark v x y l e f = iff
+    (λ h. le-leb 1 (times v l) (omega (arith, leb-true 1 y h)))
+    (λ h. le-leb 1 y (omega (arith, leb-true 1 (times v l) h)))
+    ∙ times-mem v l
 
 module _ (w : ℕ) {base k : ℕ} {new : List ℕ} (s : k ≤ w) where
   pub window-met : (l : List ℕ) → Raised base l (replicate w 0) new → all (λ x. leb 1 x) (take k new) ≡ all (λ v. mem v l) (from base k)
@@ -90,9 +100,7 @@ module _ (w : ℕ) {base k : ℕ} {new : List ℕ} (s : k ≤ w) where
       (λ i h.
       let z = getD-replicate {A = ℕ} w i 0 0 (omega arith) in
       let e = r .each i (omega (arith, length-replicate {A = ℕ} w 0)) (omega (arith, z)) in
-      let q = times-mem (base + i) l in
-      iff (λ t. sym q ∙ le-leb 1 (times (base + i) l) (omega (arith, e, z, leb-true 1 (getD new i 0) t)))
-      (λ t. le-leb 1 (getD new i 0) (omega (arith, e, z, leb-true 1 (times (base + i) l) (q ∙ t)))))
+      met-mark (base + i) _ (getD new i 0) l z e)
 
   pub window-once : (l : List ℕ) (n : ℕ) {mid : List ℕ} → Raised base l (replicate w 0) mid → Raised base (from base (min (n - base) w)) mid new
       → all (λ x. eqb x 1) (take k new) ≡ all (λ v. eqb (cond (ltb v n) 1 0 + times v l) 1) (from base k)

@@ -2,50 +2,35 @@
 -- room for all cubes. Assumes nothing.
 use Prim.Native.Nat.{ℕ, _+_, _-_, _/_, _<_, _≤_, min}
 use mathlib.Core.Path.{_≡_, refl, sym, ap, ap₂, _∙_}
-use mathlib.Core.{Logic.inl, Logic.inr, List.List·Memᴰ·not-nil, List.Memᴰ·append-right}
+use mathlib.Core.{Logic.inl, Logic.inr, List.List·Memᴰ·not-nil}
 use mathlib.Core.Bool.{Bool, true, false, cond, not}
 use mathlib.Core.List.{List, [], _∷_, _++_, map, map-append, append-nil, List·Memᴰ·head as here, List·Memᴰ·tail as there}
 use native.Mathlib.Omega.{arith}
-use lib.Dec.{eqb, ltb}
+use lib.Dec.{ltb}
 use lib.ListN.{length, getD, take, set, length-append, length-map, List·getD-append}
-use lib.Seq.{getD-append-add, take-all}
-use borrow.Author.Tests.{eqb-true, eq-eqb, ne-eqb, ltb-true, ltb-false, lt-ltb, le-ltb}
+use lib.Seq.{getD-append-add}
+use borrow.Author.Tests.{ne-eqb, ltb-true, ltb-false, lt-ltb, le-ltb}
 use Rattle.sets.specs.Lists.{all, pairwise, total, from}
-use Rattle.sets.{specs.Sets.readsBelow, specs.Word.largest, proofs.Places.total-next, proofs.Rows.getD-map, proofs.Rows.getD-from, proofs.Rows.from-length}
-use Rattle.sets.proofs.Truth.{both, decided, clash, refuted}
-use Rattle.sets.proofs.Lists.{_∈_, all-in, all-out, keep-in, keep-out, map-out, map-map, total-map, total-cong, total-sum, total-take-le}
+use Rattle.sets.{specs.Sets.readsBelow, specs.Word.largest, proofs.Places.total-room, proofs.Rows.getD-map, proofs.Rows.getD-from, proofs.Rows.from-length}
+use Rattle.sets.proofs.Truth.{decided, clash, refuted}
+use Rattle.sets.proofs.Lists.{_∈_, all-in, all-out, keep-in, map-out, map-map, total-map, total-cong, total-sum}
 use Rattle.sets.proofs.Lists.{ahead, pairwise-append, pairwise-map}
-use Rattle.sets.proofs.Sets.{of-mem, from-asc}
-use Rattle.expression.{specs.Expression.sort, specs.Expression.reach, specs.Words.cubesOf, proofs.Sorting.sort-length}
+use Rattle.sets.proofs.Sets.{from-asc}
+use Rattle.expression.{specs.Expression.sort, specs.Expression.reach, specs.Words.cubesOf}
 use Rattle.network.specs.{Net.Net, Net.nodes, Held.mostVariables, Held.mostCubes}
 use Rattle.network.specs.{Handed.flat, Handed.Holds, Handed.LaidNodes, Handed.cubeSlots, Parts.heldIn}
-use Rattle.network.proofs.{Handing.flat-length, Laying.laid-holds, Laying.laid-more, Laying.laid-all, Numbering.numbered-length, Numbering.numbered-cubes}
-use Rattle.network_reads.specs.Reading.{readsOf}
-use Rattle.blif_laws.proofs.Modelling.{gathered-in}
+use Rattle.network.proofs.{Laying.laid-holds, Laying.laid-more, Laying.laid-all, Numbering.numbered-length, Numbering.numbered-cubes}
+use Rattle.blif_laws.proofs.{Modelling.gathered-in, Standing.same-name, Standing.name-self, Standing.once-each}
+use Rattle.blif_laws.specs.Meaning.{hasBlock, isListed}
 use Rattle.blif_laws.specs.Text.{Name, variable, output, Block}
-use Rattle.blif_laws.specs.Reading.{namedIn, standing, sameName, blocksFor, inputTimes, timesDefined, definedOnce, cubesFor, divisorsIn, netIn}
+use Rattle.blif_laws.specs.Reading.{namedIn, sameName, blocksFor, inputTimes, timesDefined, definedOnce, cubesFor, divisorsIn, netIn}
 use Rattle.blif_scan.specs.Scanning.{left}
 use Rattle.blif_form.specs.Surveying.{BlocksOf, SmallBlock, SmallBlocks}
 use Rattle.blif_read.specs.Defining.{modelBy}
 use Rattle.blif_read.specs.Building.{NamedIs, nameAt, Buildable}
-use Rattle.blif_lines.proofs.Windows.{in-row}
+use Rattle.blif_read.proofs.Summing.{total-zero, total-block, cubes-for}
 
--- ---- names
-
-pub name-eq : (a b : Name) → sameName a b ≡ true → a ≡ b
-name-eq (variable v) (variable u) h = ap variable (eqb-true v u h)
-name-eq (variable v) (output j) h = clash h refl
-name-eq (output i) (variable v) h = clash h refl
-name-eq (output i) (output j) h = ap output (eqb-true i j h)
-
-pub name-self : (a : Name) → sameName a a ≡ true
-name-self (variable v) = eq-eqb v v refl
-name-self (output j) = eq-eqb j j refl
-
-abbrev apartNames : Name → Name → Bool
-apartNames a b = not (sameName a b)
-
--- ---- the blocks that define a name, where there is one
+-- ---- the block that defines a name, where there is one
 
 one-in : {A : Type 0} {x : A} (l : List A) → length l ≡ 1 → x ∈ l → l ≡ x ∷ []
 one-in [] h m = absurd (omega arith)
@@ -60,18 +45,11 @@ one-cubes a bs b h m e =
     let i : b ∈ blocksFor a bs = keep-in (λ d. sameName a (d .name)) m (ap (sameName a) (sym e) ∙ name-self a) in
     ap (λ l. sort (flat (map (λ (d : Block). d .cubes) l))) (one-in (blocksFor a bs) h i) ∙ ap sort (append-nil (b .cubes))
 
-pub one-found : (a : Name) (bs : List Block) → length (blocksFor a bs) ≡ 1 → ((b : Block) → b ∈ bs → a ≡ b .name → ⊥) → ⊥
-one-found a bs h f = go (blocksFor a bs) h (λ b m. let r = keep-out (λ d. sameName a (d .name)) bs m in f b (r .0) (name-eq a (b .name) (r .1)))
-  where
-    go : (l : List Block) → length l ≡ 1 → ((b : Block) → b ∈ l → ⊥) → ⊥
-    go [] q k = omega arith
-    go (b ∷ l) q k = k b (here refl)
-
 -- ---- no block counts twice
 
-total-none : (l : List Name) → total (λ (d : Name). 0) l ≡ 0
-total-none [] = refl
-total-none (d ∷ l) = omega (arith, total-none l)
+-- names that differ
+abbrev apartNames : Name → Name → Bool
+apartNames a b = not (sameName a b)
 
 module _ (f : Block → ℕ) where
   -- at most one of the names is that of a block
@@ -81,7 +59,7 @@ module _ (f : Block → ℕ) where
     where
       others : sameName a x ≡ true → all (apartNames a) l ≡ true → total (λ d. cond (sameName d x) c 0) l ≡ 0
       others e k = total-cong (λ d. cond (sameName d x) c 0) (λ d. 0) l (λ d m. ap (λ t. cond t c 0) (refuted (λ t.
-          clash (all-out (apartNames a) m k) (ap not (ap (sameName a) (name-eq d x t ∙ sym (name-eq a x e)) ∙ name-self a))))) ∙ total-none l
+          clash (all-out (apartNames a) m k) (ap not (ap (sameName a) (sym (same-name d x t) ∙ same-name a x e) ∙ name-self a))))) ∙ total-zero l
 
       go : (t : Bool) → sameName a x ≡ t → all (apartNames a) l ≡ true → total (λ d. cond (sameName d x) c 0) l ≤ c
           → cond t c 0 + total (λ d. cond (sameName d x) c 0) l ≤ c
@@ -90,18 +68,14 @@ module _ (f : Block → ℕ) where
 
   -- what blocks of several names come to is at most what all come to
   pub shares : (l : List Name) (bs : List Block) → pairwise apartNames l ≡ true → total (λ a. total f (blocksFor a bs)) l ≤ total f bs
-  shares l [] h = omega (arith, total-none l)
+  shares l [] h = omega (arith, total-zero l)
   shares l (b ∷ bs) h =
       omega (
         arith,
-        total-sum _ (λ a. cond (sameName a (b .name)) (f b) 0) (λ a. total f (blocksFor a bs)) l (λ a m. first (sameName a (b .name)) (blocksFor a bs)),
+        total-sum _ (λ a. cond (sameName a (b .name)) (f b) 0) (λ a. total f (blocksFor a bs)) l (λ a m. total-block f a b bs),
         share (b .name) (f b) l h,
         shares l bs h,
       )
-    where
-      first : (t : Bool) (k : List Block) → total f (cond t (b ∷ k) k) ≡ cond t (f b) 0 + total f k
-      first true k = refl
-      first false k = omega arith
 
 -- ---- the names of the nodes
 
@@ -134,17 +108,9 @@ names-get n m k i d s h = elim (decided (ltb i m)) [
       ∙ getD-from variable d n k (i - m) (omega arith) ∙ ap variable (omega arith))
 ]
 
--- ---- the variables that blocks name
+-- ---- the variables of a block
 
--- a variable that is defined is named
-pub named-own : (b : Block) (v : ℕ) → b .name ≡ variable v → v ∈ namedIn b
-named-own b v e = go (b .name) e
-  where
-    go : (a : Name) → a ≡ variable v → v ∈ elim a [ variable u ↦ readsOf (b .cubes) ++ (u ∷ []) | output j ↦ readsOf (b .cubes) ]
-    go (variable u) q = let z : v ≡ u = cc in Memᴰ·append-right (readsOf (b .cubes)) (here z)
-    go (output j) q = let z : _≡_ {A = ℕ} 0 1 = cc in absurd (omega arith)
-
--- a block has small variables where all of them do
+-- they are small where those of all blocks are
 pub small-in : (bs : List Block) {b : Block} → SmallBlocks bs → b ∈ bs → SmallBlock b
 small-in bs l m v i = l v (gathered-in namedIn m i)
 
@@ -171,32 +137,20 @@ module _ (n m k : ℕ) (bs : List Block) (many : divisorsIn (modelBy n m bs) ≡
   node-at i s h = sym (ap (λ l. getD l i []) nodes-names ∙ getD-map (λ a. cubesFor a bs) (namesOf n m k) i [] (output 0) (omega (arith, names-many n m k))
       ∙ ap (λ a. cubesFor a bs) (names-get n m k i (output 0) s h))
 
-  cubes-total : (a : Name) → length (cubesFor a bs) ≡ total (λ (b : Block). length (b .cubes)) (blocksFor a bs)
-  unfolding cubesFor
-  cubes-total a = sort-length _ ∙ flat-length (map (λ (b : Block). b .cubes) (blocksFor a bs)) ∙ total-map length (λ (b : Block). b .cubes) (blocksFor a bs)
-
   nodes-few : total length fs ≤ total (λ (b : Block). length (b .cubes)) bs
   nodes-few =
       omega (
         arith,
         ap (total length) nodes-names,
         total-map length (λ a. cubesFor a bs) (namesOf n m k),
-        total-cong (λ a. length (cubesFor a bs)) (λ a. total (λ (b : Block). length (b .cubes)) (blocksFor a bs)) (namesOf n m k) (λ a i. cubes-total a),
+        total-cong (λ a. length (cubesFor a bs)) (λ a. total (λ (b : Block). length (b .cubes)) (blocksFor a bs)) (namesOf n m k) (λ a i. cubes-for a bs),
         shares (λ (b : Block). length (b .cubes)) (namesOf n m k) bs (names-apart n m k),
       )
 
   -- there is room for the next
   pub node-room : {i at : ℕ} → total (λ (b : Block). length (b .cubes)) bs ≤ mostCubes → i < m + k → at ≡ total length (take i fs)
       → at + length (getD fs i []) ≤ cubeSlots
-  node-room {i} c h e =
-      let whole = ap (total length) (take-all (length fs) fs (omega arith)) in
-      omega (
-        arith,
-        nodes-many,
-        total-next length fs i [] (omega (arith, nodes-many)),
-        total-take-le length fs (i + 1) (length fs) (omega (arith, nodes-many)),
-        nodes-few,
-      )
+  node-room {i} c h e = omega (arith, total-room length fs i [] (omega (arith, nodes-many)), nodes-few)
 
   pub nodes-hold : {sizes ws : List ℕ} {at : ℕ} → LaidNodes ws sizes at fs → Holds (heldIn n m k sizes ws) net
   unfolding netIn
@@ -206,28 +160,16 @@ module _ (n m k : ℕ) (bs : List Block) (many : divisorsIn (modelBy n m bs) ≡
   -- ---- each name is defined once
 
   module _ (once : definedOnce (modelBy n m bs) ≡ true) (there-is : (v : ℕ) → n ≤ v → v < n + k → (b : Block) × (b ∈ bs) × (b .name ≡ variable v)) where
-    once-each : (all (λ v. eqb (timesDefined (modelBy n m bs) (variable v)) 1) (standing (modelBy n m bs)) ≡ true)
-        × (all (λ j. eqb (timesDefined (modelBy n m bs) (output j)) 1) (from 0 m) ≡ true)
-    unfolding definedOnce
-    once-each = both _ _ once
-
     output-one : (j : ℕ) → j < m → length (blocksFor (output j) bs) ≡ 1
     unfolding timesDefined
-    output-one j h =
-        let i : j ∈ from 0 m = of-mem j (from 0 m) (in-row 0 m j (omega arith) (omega arith)) in
-        omega (arith, eqb-true (timesDefined (modelBy n m bs) (output j)) 1 (all-out (λ u. eqb (timesDefined (modelBy n m bs) (output u)) 1) i (once-each .1)))
+    output-one j h = omega (arith, once-each (modelBy n m bs) once (isListed h))
 
     divisor-one : (v : ℕ) → n ≤ v → v < n + k → length (blocksFor (variable v) bs) ≡ 1
     unfolding timesDefined
     divisor-one v h l =
         let r = there-is v h l in
-        let i : v ∈ standing (modelBy n m bs) = Memᴰ·append-right (from 0 n) (gathered-in namedIn (r .1) (named-own (r .0) v (r .2))) in
         let z : inputTimes n (variable v) ≡ 0 = ap (λ t. cond t 1 0) (le-ltb v n h) in
-        omega (
-          arith,
-          eqb-true (timesDefined (modelBy n m bs) (variable v)) 1
-              (all-out (λ u. eqb (timesDefined (modelBy n m bs) (variable u)) 1) i (once-each .0)),
-        )
+        omega (arith, once-each (modelBy n m bs) once (hasBlock (r .1) (r .2)))
 
     pub node-one : (i : ℕ) → n + k ≤ mostVariables → i < m + k → length (blocksFor (nameAt n m i) bs) ≡ 1
     node-one i s h = elim (decided (ltb i m)) [

@@ -3,7 +3,7 @@
 use Prim.Native.Nat.{ℕ, _≤_}
 use mathlib.Core.Path.{_≡_, refl, sym, ap, _∙_, subst}
 use mathlib.Core.{Logic.inl, Logic.inr, List.Memᴰ·append-right, List.List·Memᴰ·not-nil}
-use mathlib.Core.List.{List, [], _∷_, _++_, append-nil, append-assoc, List·Memᴰ·head as here, List·Memᴰ·append-cases, List·Memᴰ·eq-of-singleton}
+use mathlib.Core.List.{List, [], _∷_, _++_, List·Memᴰ·head as here, List·Memᴰ·append-cases, List·Memᴰ·eq-of-singleton}
 use Rattle.sets.{specs.Word.largest, proofs.Lists._∈_}
 use Rattle.letters_products.specs.Spelled.{spelled}
 use Rattle.blif_laws.specs.Text.{Name, Block}
@@ -15,56 +15,43 @@ use Rattle.blif_scan.specs.declared.{Label.Label, Ended.Ended}
 use Rattle.blif_read.specs.declared.{defining.Passed.Passed, build.Place.Place}
 use Rattle.blif_scan.specs.declared.Ended.the-variants as Ended
 use Rattle.blif_read.specs.declared.build.Place.the-variants as Place
-use Rattle.blif_form.proofs.Blocking.{block-begins, blocks-first, small-others}
+use Rattle.blif_form.proofs.Blocking.{block-begins, blocks-first}
+use Rattle.blif_read.proofs.Counting.{Partway, partway-first, partway-one, partway-next, partway-done}
 
 -- `.names` and its space
 pub begin-space : (s : List ℕ) (at : ℕ) {e : Ended} {p : ℕ} → EndedIs s at (spelled ".names") e → e ≡ Ended.Space p → BeginsAt s at (Place.At p)
 unfolding spelled
 begin-space s at h q = subst (EndedIs s at (spelled ".names")) q h
 
--- what is left of the blocks, and none of those passed defines the name
+-- none of the blocks passed defines the name
 pub record Left (s : List ℕ) (at m : ℕ) (a : Name) (bs : List Block) : Type 0 where
   pub done : List Block
-  pub rest : List Block
-  pub whole : bs ≡ done ++ rest
-  pub blocks : BlocksOf (left s at) m rest
-  pub small : SmallBlocks rest
+  pub place : Partway s at m bs done
   pub others : (b : Block) → b ∈ done → a ≡ b .name → ⊥
 
 pub left-first : {s : List ℕ} {at m : ℕ} {a : Name} {bs : List Block} → BlocksOf (left s at) m bs → SmallBlocks bs → Left s at m a bs
-left-first {bs = bs} h k = record { done = []; rest = bs; whole = refl; blocks = h; small = k; others = λ b m e. List·Memᴰ·not-nil m }
+left-first h k = record { done = []; place = partway-first h k; others = λ b m e. List·Memᴰ·not-nil m }
 
 module _ {s : List ℕ} {at m : ℕ} {a : Name} {bs : List Block} (h : m ≤ largest) (l : Left s at m a bs) where
   pub left-none : {old new : List ℕ} → PassedNot s at old new → (b : Block) → b ∈ bs → a ≡ b .name → ⊥
-  left-none n b i e =
-      let q = n .none m (l .rest) h (l .blocks) (l .small) .0 in
-      l .others b (subst (b ∈_) (l .whole ∙ ap (l .done ++_) q ∙ append-nil (l .done)) i) e
+  left-none n b i e = l .others b (subst (b ∈_) (partway-done h (l .place) n) i) e
 
   module _ {base : ℕ} {old new : List ℕ} {r : Passed} (g : PassedGot s at base old new r) where
-    -- the block there is the first of those that are left
-    first : FirstIs s base old new r m (l .rest)
-    first = g .first m (l .rest) h (l .blocks) (l .small)
-
     pub left-next : (a ≡ labelOf (r .name) → ⊥) → Left s (r .next) m a bs
-    left-next n = go (l .rest) (l .whole) (l .small) first
-      where
-        go : (k : List Block) → bs ≡ l .done ++ k → SmallBlocks k → FirstIs s base old new r m k → Left s (r .next) m a bs
-        go [] e d f = absurd f
-        go (b ∷ k) e d f = record {
-          done = l .done ++ (b ∷ []);
-          rest = k;
-          whole = e ∙ sym (append-assoc (l .done) (b ∷ []) k);
-          blocks = f .rest;
-          small = small-others b k d;
+    left-next n =
+        let w = partway-next h (l .place) g in
+        record {
+          done = l .done ++ (w .0 ∷ []);
+          place = w .3;
           others = λ c i q. elim (List·Memᴰ·append-cases (l .done) i) [
             | inl j ↦ l .others c j q
-            | inr j ↦ n (q ∙ ap (λ (x : Block). x .name) (List·Memᴰ·eq-of-singleton j) ∙ sym (f .name))
+            | inr j ↦ n (q ∙ ap (λ (x : Block). x .name) (List·Memᴰ·eq-of-singleton j) ∙ sym (w .1))
           ];
         }
 
-    -- it defines the name
+    -- the block there defines the name
     pub left-here : {p : ℕ} → a ≡ labelOf (r .name) → BeginsAt s at (Place.At p) → StandsAt s m bs a p
-    left-here {p} n d = go (l .rest) (l .whole) (l .blocks) first
+    left-here {p} n d = go (l .place .rest) (l .place .whole) (l .place .blocks) (partway-one h (l .place) g)
       where
         go : (k : List Block) → bs ≡ l .done ++ k → BlocksOf (left s at) m k → FirstIs s base old new r m k → StandsAt s m bs a p
         go [] e b f = absurd f
@@ -76,9 +63,9 @@ module _ {s : List ℕ} {at m : ℕ} {a : Name} {bs : List Block} (h : m ≤ lar
           is = subst (λ t. BlockOf t m c (q .0)) (d .0) (q .1);
         }
 
-    -- and begins as blocks do
+    -- and it begins as blocks do
     pub left-begins : BeginsAt s at Place.No → ⊥
-    left-begins n = go (l .rest) (l .blocks) first
+    left-begins n = go (l .place .rest) (l .place .blocks) (partway-one h (l .place) g)
       where
         go : (k : List Block) → BlocksOf (left s at) m k → FirstIs s base old new r m k → ⊥
         go [] b f = f

@@ -2,25 +2,24 @@
 -- Assumes nothing.
 use Prim.Native.Nat.{ℕ, suc, _+_, _-_, _*_, _/_, _<_, _≤_, min}
 use mathlib.Core.Path.{_≡_, refl, sym, ap, ap₂, _∙_, subst}
-use mathlib.Core.Bool.{Bool, true, false, cond, not, _&&_}
+use mathlib.Core.Bool.{Bool, true, false, cond, _&&_}
 use mathlib.Core.List.{List, [], _∷_, _++_, map, append-nil, append-assoc, List·Memᴰ·head as here, List·Memᴰ·tail as there}
 use native.Mathlib.Omega.{arith}
 use lib.Dec.{eqb, leb, ltb}
 use lib.ListN.{length, getD, take, drop, set, replicate, length-append, length-map, length-replicate, getD-replicate}
 use lib.Seq.{take-all, length-take-le, getD-take, set-at, take-at}
-use borrow.Author.Tests.{lt-ltb, ltb-true, leb-true, le-leb}
+use borrow.Author.Tests.{lt-ltb, ltb-true}
 use Rattle.sets.specs.Lists.{all, keep, from}
 use Rattle.sets.specs.{Literal.plainOf, Literal.negatedOf, Sets.mem, Sets.asc}
-use Rattle.sets.proofs.Truth.{both, together, iff, clash}
+use Rattle.sets.proofs.Truth.{both, together, iff}
 use Rattle.sets.proofs.Lists.{_∈_, all-in, all-out, keep-all, keep-append, keep-length, pairwise-keep}
-use Rattle.sets.proofs.Sets.{keep-mem, from-asc, ext}
+use Rattle.sets.proofs.Sets.{keep-mem, from-in, from-out, from-asc, ext}
 use Rattle.sets.proofs.Places.{at-in, in-at, pairwise-at, drop-next}
 use Rattle.sets.proofs.Rows.{nil-of, take-next, from-length, from-next}
-use Rattle.cube.specs.Cube.{width, joined}
-use Rattle.table_rows.{specs.Parts.placed, proofs.Cubing.insert-last}
+use Rattle.cube.specs.Cube.{width}
+use Rattle.table_rows.{specs.Lines.cubeFrom, specs.Parts.placed, proofs.Cubing.placed-last}
 use Rattle.network.specs.{Held.mostVariables, Answers.padded}
 use Rattle.letters_products.specs.Spelled.{spelled}
-use Rattle.table_lines.specs.Meaning.{lacks}
 use Rattle.expression.specs.Words.{cubesOf, Put, Placed}
 use Rattle.expression.specs.Expression.{reach}
 use Rattle.expression.proofs.Placing.{placed-as, Going, going-first, going-inside, going-next, going-end}
@@ -28,13 +27,12 @@ use Rattle.network_reads.{specs.Reading.readsOf, proofs.Reading.reads-asc}
 use Rattle.blif_laws.specs.Text.{Block, ended, signOf}
 use Rattle.blif_laws.proofs.Blocking.{reads-below}
 use Rattle.blif_laws.{specs.Reading.cubeIn, specs.Reading.pointed, proofs.Rowing.cube-over}
-use Rattle.blif_scan.specs.Scanning.{left}
+use Rattle.blif_scan.{specs.Scanning.left, proofs.Heading.ended-apart}
 use Rattle.blif_lines.specs.{Marking.times, Marking.Raised, declared.Names.Names}
-use Rattle.blif_lines.specs.Lining.{variableIn, NamesGot, Signs, rowLine, RowGot, RowNot, RowsOf}
+use Rattle.blif_lines.specs.Lining.{variableIn, NamesGot, Signs, rowLine, rowEnd, RowGot, RowNot, RowsOf}
 use Rattle.blif_read.specs.Building.{markedIn, Columns, SignsAre, RowsPut}
-use Rattle.blif_form.{specs.Surveying.BlockOf, proofs.Written.row-plain}
-use Rattle.blif_lines.proofs.Windows.{in-row, row-in, times-mem}
-use Rattle.blif_form.proofs.Ending.{ended-more, line-one, plain-front}
+use Rattle.blif_form.specs.Surveying.{BlockOf}
+use Rattle.blif_lines.proofs.{Windows.met-mark, Rowing.row-as, Rowing.unpointed, Rowing.one-row}
 use Rattle.blif_form.proofs.Blocking.{signsFor, Blocked, block-blocked, signs-cubes}
 use Rattle.blif_form.proofs.Passing.{reads-own, count-own, rows-own}
 
@@ -54,21 +52,10 @@ cube-snoc (u ∷ vs) (d ∷ w) v b h =
     go false true l k z e = ap (negatedOf u ∷_) e
     go false false l k z e = e
 
-joined-last : (l : ℕ) (c : List ℕ) → l < 2 * width → all (λ x. ltb x l) c ≡ true → joined l c ≡ c ++ (l ∷ [])
-joined-last l c h k = rw (lt-ltb l (2 * width) h) (insert-last l c k)
-
 -- a variable above the others adds its literal last
-placed-last : (v b : ℕ) (c : List ℕ) → v < width → ((l : ℕ) → l ∈ c → l / 2 < v) → placed v b c ≡ c ++ cubeIn (v ∷ []) (b ∷ [])
-unfolding placed cubeIn
-placed-last v b c h k = go (eqb b 49) (eqb b 48)
-  where
-    low : (l : ℕ) → 2 * v ≤ l → all (λ x. ltb x l) c ≡ true
-    low l i = all-in (λ x. ltb x l) c (λ x m. lt-ltb x l (omega (arith, k x m)))
-
-    go : (x y : Bool) → cond x (joined (2 * v) c) (cond y (joined (2 * v + 1) c) c) ≡ c ++ cond x ((2 * v) ∷ []) (cond y ((2 * v + 1) ∷ []) [])
-    go true y = joined-last (2 * v) c (omega arith) (low (2 * v) (omega arith))
-    go false true = joined-last (2 * v + 1) c (omega arith) (low (2 * v + 1) (omega arith))
-    go false false = sym (append-nil c)
+sign-last : (v b : ℕ) (c : List ℕ) → v < width → ((l : ℕ) → l ∈ c → l / 2 < v) → placed v b c ≡ c ++ cubeIn (v ∷ []) (b ∷ [])
+unfolding cubeIn cubeFrom
+sign-last v b c h k = placed-last v b c h (all-in (λ x. ltb x (2 * v)) c (λ x m. lt-ltb x (2 * v) (omega (arith, k x m))))
 
 module _ {vs : List ℕ} (k : Columns vs) where
   column-low : (i : ℕ) → i < length vs → getD vs i 0 < width
@@ -80,7 +67,7 @@ module _ {vs : List ℕ} (k : Columns vs) where
   sign-next w i h e =
       ap₂ cubeIn (take-next vs i 0 h) (take-next w i 0 (omega arith))
       ∙ cube-snoc (take i vs) (take i w) (getD vs i 0) (getD w i 0) (length-take-le i vs (omega arith) ∙ sym (length-take-le i w (omega arith)))
-      ∙ sym (placed-last (getD vs i 0) (getD w i 0) (cubeIn (take i vs) (take i w)) (column-low i h) lower)
+      ∙ sym (sign-last (getD vs i 0) (getD w i 0) (cubeIn (take i vs) (take i w)) (column-low i h) lower)
     where
       lower : (l : ℕ) → l ∈ cubeIn (take i vs) (take i w) → l / 2 < getD vs i 0
       lower l m =
@@ -126,21 +113,12 @@ padded-many marks =
 -- the marks of a line of names
 module _ {ns new : List ℕ} (r : Raised 0 ns (replicate mostVariables 0) new) (h : asc ns ≡ true) where
   marked-is : (v : ℕ) → v < mostVariables → leb 1 (getD new v 0) ≡ mem v ns
-  marked-is v l = ap (leb 1) e ∙ up (times v ns) ∙ times-mem v ns
-    where
-      zeros : List ℕ
-      zeros = replicate mostVariables 0
-
-      z : getD zeros v 0 ≡ 0
-      z = getD-replicate {A = ℕ} mostVariables v 0 0 l
-
-      e : getD new v 0 ≡ min 2 (times v ns)
-      e = let q : 0 + v ≡ v = omega arith in
-          r .each v (omega (arith, length-replicate {A = ℕ} mostVariables 0)) (omega (arith, z))
-          ∙ ap (min 2) (ap₂ _+_ z (ap (λ x. times x ns) q) ∙ omega arith)
-
-      up : (n : ℕ) → leb 1 (min 2 n) ≡ leb 1 n
-      up n = iff (λ t. le-leb 1 n (omega (arith, leb-true 1 (min 2 n) t))) (λ t. le-leb 1 (min 2 n) (omega (arith, leb-true 1 n t)))
+  marked-is v l =
+      let q : 0 + v ≡ v = omega arith in
+      let z = getD-replicate {A = ℕ} mostVariables v 0 0 l in
+      met-mark v (getD (replicate mostVariables 0) v 0) (getD new v 0) ns z
+      (r .each v (omega (arith, length-replicate {A = ℕ} mostVariables 0)) (omega (arith, z))
+      ∙ ap (λ x. min 2 (getD (replicate mostVariables 0) v 0 + times x ns)) q)
 
   marked-numbers : markedIn new ≡ keep (λ v. ltb v mostVariables) ns
   marked-numbers = ext (markedIn new) (keep (λ v. ltb v mostVariables) ns) (pairwise-keep ltb _ (from 0 mostVariables) (from-asc 0 mostVariables))
@@ -152,14 +130,14 @@ module _ {ns new : List ℕ} (r : Raised 0 ns (replicate mostVariables 0) new) (
       into : (z : ℕ) → (mem z (from 0 mostVariables) && leb 1 (getD new z 0)) ≡ true → (mem z ns && ltb z mostVariables) ≡ true
       into z t =
           let q = both (mem z (from 0 mostVariables)) (leb 1 (getD new z 0)) t in
-          let l : z < mostVariables = omega (arith, row-in 0 mostVariables z (q .0) .1) in
+          let l : z < mostVariables = omega (arith, from-out 0 mostVariables z (q .0) .1) in
           together (mem z ns) (ltb z mostVariables) (sym (marked-is z l) ∙ q .1) (lt-ltb z mostVariables l)
 
       back : (z : ℕ) → (mem z ns && ltb z mostVariables) ≡ true → (mem z (from 0 mostVariables) && leb 1 (getD new z 0)) ≡ true
       back z t =
           let q = both (mem z ns) (ltb z mostVariables) t in
           let l = ltb-true z mostVariables (q .1) in
-          together (mem z (from 0 mostVariables)) (leb 1 (getD new z 0)) (in-row 0 mostVariables z (omega arith) (omega arith)) (marked-is z l ∙ q .0)
+          together (mem z (from 0 mostVariables)) (leb 1 (getD new z 0)) (from-in 0 mostVariables z (omega arith) (omega arith)) (marked-is z l ∙ q .0)
 
   -- where the first of them are few, those stand first
   pub marked-front : (vs ts : List ℕ) → ns ≡ vs ++ ts → all (λ v. ltb v mostVariables) vs ≡ true
@@ -206,12 +184,6 @@ module _ {s : List ℕ} {at : ℕ} {vs c : List ℕ} {i : ℕ} {w t : List ℕ} 
 
 -- ---- rows read one by one
 
--- the signs of a row begin it
-row-front : (w : List ℕ) → (t : List ℕ) × (rowLine w ≡ w ++ t)
-unfolding rowLine
-row-front [] = (spelled "1", refl)
-row-front (b ∷ w) = (spelled " 1", refl)
-
 -- of the rows ws, some are left, and the cubes of those before stand in the words
 pub record RowsTo (s : List ℕ) (p : ℕ) (vs old new : List ℕ) (at i : ℕ) (ws : List (List ℕ)) (more : List ℕ) : Type 0 where
   pub rest : List (List ℕ)
@@ -231,7 +203,7 @@ rows-first vs {old} at {ws} h l =
 module _ {s : List ℕ} {p : ℕ} {vs old new : List ℕ} {at i : ℕ} {ws : List (List ℕ)} {more : List ℕ} (k : RowsTo s p vs old new at i ws more) where
   -- the first of the rows left
   row-text : (w : List ℕ) (ls : List (List ℕ)) → k .rest ≡ w ∷ ls → left s p ≡ rowLine w ++ (10 ∷ (ended (map rowLine ls) ++ more))
-  row-text w ls e = k .rows .text ∙ ap (λ x. ended (map rowLine x) ++ more) e ∙ ended-more (rowLine w) (map rowLine ls) more
+  row-text w ls e = k .rows .text ∙ ap (λ x. ended (map rowLine x) ++ more) e ∙ ended-apart (rowLine w) (map rowLine ls) more
 
   row-signs : (w : List ℕ) (ls : List (List ℕ)) → k .rest ≡ w ∷ ls → Signs (length vs) w
   row-signs w ls e = k .rows .each w (subst (w ∈_) (sym e) (here refl))
@@ -241,19 +213,14 @@ module _ {s : List ℕ} {p : ℕ} {vs old new : List ℕ} {at i : ℕ} {ws : Lis
   unfolding ended
   rows-next {next = next} {c} {q} g r f u = go (k .rest) refl (k .going)
     where
-      plain : lacks 10 (rowLine (r .word)) ≡ true
-      plain = both (lacks 10 (rowLine (r .word))) (not (pointed (rowLine (r .word)))) (row-plain (r .word) (r .signs .each)) .0
-
       go : (ls : List (List ℕ)) → k .rest ≡ ls → Going old new at (at + i) (map (cubeIn vs) ls) (map (cubeIn vs) ws) → RowsTo s q vs old next at (i + 1) ws more
-      go [] e d = clash (k .rows .point)
-          (ap pointed (sym (k .rows .text ∙ ap (λ x. ended (map rowLine x) ++ more) e) ∙ r .text)
-          ∙ plain-front (rowLine (r .word)) (left s q) (row-plain (r .word) (r .signs .each)))
+      go [] e d = absurd (unpointed (length vs) (r .word) (10 ∷ left s q) (r .signs)
+          (ap pointed (sym (r .text) ∙ k .rows .text ∙ ap (λ x. ended (map rowLine x) ++ more) e) ∙ k .rows .point))
       go (w ∷ ls) e d =
           let x = row-signs w ls e in
-          let l = line-one (rowLine w) (rowLine (r .word)) (ended (map rowLine ls) ++ more) (left s q)
-          (both (lacks 10 (rowLine w)) (not (pointed (rowLine w))) (row-plain w (x .each)) .0) plain (sym (row-text w ls e) ∙ r .text) in
-          let t = row-front w in
-          let y : c ≡ cubeIn vs w = f w _ g (x .number) (row-text w ls e ∙ ap (_++ (10 ∷ (ended (map rowLine ls) ++ more))) (t .1) ∙ append-assoc w (t .0) _) in
+          let l = one-row (length vs) w (r .word) (ended (map rowLine ls) ++ more) (left s q) x (r .signs) (sym (row-text w ls e) ∙ r .text) in
+          let start = row-text w ls e ∙ ap (_++ (10 ∷ (ended (map rowLine ls) ++ more))) (row-as w) ∙ append-assoc w (rowEnd (length w)) _ in
+          let y : c ≡ cubeIn vs w = f w _ g (x .number) start in
           let z : (at + i) + 1 ≡ at + (i + 1) = omega arith in
           record {
             rest = ls;

@@ -9,10 +9,10 @@ use lib.Dec.{eqb, ltb}
 use lib.ListN.{length}
 use Rattle.sets.specs.{Lists.all, Lists.from, Sets.mem}
 use Rattle.sets.proofs.{Truth.or-left, Truth.refuted, Lists.all-cong, Lists.total-append}
-use Rattle.sets.proofs.Sets.{mem-of, all-mem, mem-append}
+use Rattle.sets.proofs.Sets.{mem-of, all-mem, mem-append, from-out}
 use Rattle.blif_laws.specs.Text.{Name, variable, output, Block}
 use Rattle.blif_laws.specs.Reading.{standing, sameName, blocksFor, timesDefined}
-use Rattle.blif_lines.{specs.Marking.times, proofs.Windows.row-in}
+use Rattle.blif_lines.specs.Marking.{times}
 use Rattle.blif_form.specs.Surveying.{namedBy}
 use Rattle.blif_read.specs.Defining.{numberIf, definedBy, timesIn, modelBy}
 
@@ -73,5 +73,5 @@ module _ (n m : ℕ) (bs : List Block) where
   -- from n on those stand that blocks name
   pub others-stand : (base k : ℕ) → n ≤ base → all (λ v. mem v (standing (modelBy n m bs))) (from base k) ≡ all (λ v. mem v (namedBy bs)) (from base k)
   others-stand base k h = all-cong _ _ (from base k) (λ v i.
-      let out : mem v (from 0 n) ≡ false = refuted (λ t. omega (arith, row-in base k v (mem-of i) .0, row-in 0 n v t .1)) in
+      let out : mem v (from 0 n) ≡ false = refuted (λ t. omega (arith, from-out base k v (mem-of i) .0, from-out 0 n v t .1)) in
       mem-append v (from 0 n) (namedBy bs) ∙ ap (_|| mem v (namedBy bs)) out)

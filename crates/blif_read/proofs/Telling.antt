@@ -158,8 +158,8 @@ module _ {s : List ℕ} {v : Survey} (g : SurveyGot s v) (small : v .outputs ≤
             let z = both (leb (v .top) mostVariables) (leb (v .rows) mostCubes) (w .1) in
             (p .0, w .0, z .0, z .1)
 
-        pub buildable : Buildable (v .inputs) (v .outputs) (v .top - v .inputs)
-        buildable = record {
+        pub can-build : Buildable (v .inputs) (v .outputs) (v .top - v .inputs)
+        can-build = record {
           inputs = up-out mostInputs (v .inputs) (limits .0) .1;
           outputs = up-out mostOutputs (v .outputs) (limits .1) .1;
           variables = omega (arith, inputs-below, leb-true (v .top) mostVariables (limits .2));

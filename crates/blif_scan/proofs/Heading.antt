@@ -6,12 +6,13 @@ use mathlib.Core.List.{List, [], _∷_, _++_, map, map-append, append-nil, appen
 use native.Mathlib.Omega.{arith}
 use native.Mathlib.Numerals.{add-one}
 use lib.Dec.{eqb}
-use borrow.Author.Tests.{eq-eqb, ne-eqb, not-true}
+use lib.ListN.{length, length-append}
+use borrow.Author.Tests.{eq-eqb, not-true}
 use Rattle.sets.{specs.Lists.all, specs.Lists.isNil, specs.Lists.from, proofs.Truth.both, proofs.Truth.together, proofs.Truth.clash}
-use Rattle.sets.proofs.{Lists.all-in, Lists.all-out, Lists.all-append, Rows.map-from}
-use Rattle.letters.specs.{Letters.decimal, Letters.nameText, Meaning.isDigit}
-use Rattle.letters.proofs.Numbers.{decimal-digits}
+use Rattle.sets.proofs.{Lists.all-in, Lists.all-out, Lists.all-append, Rows.map-from, Rows.nil-some}
+use Rattle.letters.specs.{Letters.nameText}
 use Rattle.letters_products.specs.Spelled.{spelled}
+use Rattle.blif_laws.{specs.Reading.cutAt, specs.Meaning.isClear, proofs.Cutting.cut-more, proofs.Cutting.clear-line, proofs.Naming.names-clear}
 use Rattle.network.{specs.Handed.flat, proofs.Handing.flat-last}
 use Rattle.blif_laws.specs.Text.{spaced, ended, firstNames, headLines}
 use Rattle.blif_scan.specs.Scanning.{left, NextIs, Starts, bySpace, byLine, EndedIs}
@@ -23,7 +24,7 @@ use Rattle.blif_scan.specs.declared.Head.{Head}
 use Rattle.blif_scan.specs.declared.Count.the-variants as Count
 use Rattle.blif_scan.specs.declared.Place.the-variants as Place
 use Rattle.blif_scan.specs.declared.Head.the-variants as Head
-use Rattle.blif_scan.proofs.Numerals.{digit-out}
+use Rattle.blif_scan.proofs.Scanning.{word-longer}
 
 -- ---- words with a space before each
 
@@ -38,11 +39,8 @@ line-starts t w (u ∷ ws) r e = bySpace ((u ++ led ws) ++ (10 ∷ r)) e
 
 -- and the text does not end with it
 line-more : (w : List ℕ) (ws : List (List ℕ)) (r : List ℕ) → w ≡ w ++ (led ws ++ (10 ∷ r)) → ⊥
-line-more w ws r e = go ws (append-cancel-left w [] (led ws ++ (10 ∷ r)) (append-nil w ∙ e))
-  where
-    go : (ws : List (List ℕ)) → [] ≡ led ws ++ (10 ∷ r) → ⊥
-    go [] f = let z : _≡_ {A = ℕ} 0 1 = cc in omega arith
-    go (u ∷ ws) f = let z : _≡_ {A = ℕ} 0 1 = cc in omega arith
+line-more w [] r e = word-longer w 10 r e
+line-more w (u ∷ ws) r e = word-longer w 32 ((u ++ led ws) ++ (10 ∷ r)) e
 
 -- ---- names in turn
 
@@ -151,16 +149,13 @@ line-past (b ∷ u) {t} {w = c ∷ w} {r} h e =
     let m = line-past u (both (not (eqb b 10)) (whole u) h .1) g in
     (m .0, ap (_∷ w) f ∙ ap (b ∷_) (m .1), m .2)
 
--- two lines of one text, and what follows them
-line-after : (u w t r : List ℕ) → whole u ≡ true → whole w ≡ true → u ++ (10 ∷ t) ≡ w ++ (10 ∷ r) → t ≡ r
-line-after u w t r h k e = let m = line-past u h e in go (m .0) (m .1) (m .2)
-  where
-    go : (v : List ℕ) → w ≡ u ++ v → 10 ∷ t ≡ v ++ (10 ∷ r) → t ≡ r
-    go [] f g = cc
-    go (c ∷ v) f g =
-        let z : c ≡ 10 = cc in
-        let l = both (whole u) (whole (c ∷ v)) (sym (all-append (λ b. not (eqb b 10)) u (c ∷ v)) ∙ ap whole (sym f) ∙ k) .1 in
-        absurd (no-line c (both (not (eqb c 10)) (whole v) l .0) z)
+-- a text has one first line
+pub line-one : (l k t u : List ℕ) → whole l ≡ true → whole k ≡ true → l ++ (10 ∷ t) ≡ k ++ (10 ∷ u) → (l ≡ k) × (t ≡ u)
+line-one l k t u h i e =
+    let c : l ∷ cutAt 10 t ≡ k ∷ cutAt 10 u = sym (cut-more 10 l t h) ∙ ap (cutAt 10) e ∙ cut-more 10 k u i in
+    let p : l ≡ k = cc in
+    let q : 10 ∷ t ≡ 10 ∷ u = append-cancel-left k (10 ∷ t) (10 ∷ u) (ap (_++ (10 ∷ t)) (sym p) ∙ e) in
+    (p, cc)
 
 -- ---- the name of a model
 
@@ -221,11 +216,7 @@ module _ (s : List ℕ) (at p : ℕ) (passed : Passed s at p) where
       )
 
   pub word-ends : left s p ≡ [] → WordIs s at Place.No
-  word-ends e = λ r l. let m = rest r l in go (m .0) r (sym e ∙ m .2)
-    where
-      go : (v r : List ℕ) → [] ≡ v ++ (10 ∷ r) → ⊥
-      go [] r f = let z : _≡_ {A = ℕ} 0 1 = cc in omega arith
-      go (c ∷ v) r f = let z : _≡_ {A = ℕ} 0 1 = cc in omega arith
+  word-ends e = λ r l. let m = rest r l in omega (arith, ap length (sym e ∙ m .2), length-append (m .0) (10 ∷ r))
 
   module _ (b q : ℕ) (next : NextIs s p (Next.Byte b q)) where
     pub word-is : b ≡ 10 → at < p → WordIs s at (Place.At q)
@@ -262,13 +253,9 @@ module _ (s : List ℕ) (at p : ℕ) (passed : Passed s at p) where
       text = passed .text ∙ ap (passed .word ++_) (next .0) ∙ sym (append-assoc (passed .word) (b ∷ []) (left s q));
       plain = all-append isPlain (passed .word) (b ∷ []) ∙ rw (passed .plain, h);
       on = omega (arith, passed .on, next .1 .on);
-      some = λ l. longer (passed .word);
+      some = λ l. nil-some (passed .word ++ (b ∷ [])) (λ z. omega (arith, length-append (passed .word) (b ∷ [])));
       none = λ l. absurd (omega (arith, passed .on, next .1 .on));
     }
-      where
-        longer : (w : List ℕ) → isNil (w ++ (b ∷ [])) ≡ false
-        longer [] = refl
-        longer (x ∷ w) = refl
 
 -- ---- the first line
 
@@ -306,13 +293,14 @@ module _ (s : List ℕ) where
 
 -- ---- the three lines
 
-abbrev inputsLine : ℕ → List ℕ
+abbrev pub inputsLine : ℕ → List ℕ
 inputsLine n = spaced (spelled ".inputs" ∷ firstNames 120 n)
 
-abbrev outputsLine : ℕ → List ℕ
+abbrev pub outputsLine : ℕ → List ℕ
 outputsLine m = spaced (spelled ".outputs" ∷ firstNames 121 m)
 
-ended-apart : (l : List ℕ) (ls : List (List ℕ)) (r : List ℕ) → ended (l ∷ ls) ++ r ≡ l ++ (10 ∷ (ended ls ++ r))
+-- a line, and what comes after it
+pub ended-apart : (l : List ℕ) (ls : List (List ℕ)) (r : List ℕ) → ended (l ∷ ls) ++ r ≡ l ++ (10 ∷ (ended ls ++ r))
 unfolding ended
 ended-apart l ls r = append-assoc (l ++ (10 ∷ [])) (ended ls) r ∙ append-assoc l (10 ∷ []) (ended ls ++ r)
 
@@ -322,38 +310,23 @@ lines-apart a b c r =
     ended-apart a (b ∷ c ∷ []) r
     ∙ ap (λ (x : List ℕ). a ++ (10 ∷ x)) (ended-apart b (c ∷ []) r ∙ ap (λ (x : List ℕ). b ++ (10 ∷ x)) (ended-apart c [] r))
 
-head-apart : (name : List ℕ) (n m : ℕ) (r : List ℕ)
+pub head-apart : (name : List ℕ) (n m : ℕ) (r : List ℕ)
     → ended (headLines name n m) ++ r ≡ modelLine name ++ (10 ∷ (inputsLine n ++ (10 ∷ (outputsLine m ++ (10 ∷ r)))))
 unfolding headLines
 head-apart name n m r = lines-apart (modelLine name) (inputsLine n) (outputsLine m) r
 
 -- no LF is in them
-words-whole : (w : List ℕ) (ws : List (List ℕ)) → whole w ≡ true → whole (led ws) ≡ true → whole (spaced (w ∷ ws)) ≡ true
-unfolding spaced
-words-whole w ws h k = all-append _ w (led ws) ∙ rw (h, k)
-
-decimal-whole : (k : ℕ) → whole (decimal k) ≡ true
-decimal-whole k = all-in _ (decimal k) (λ b m.
-    let d = digit-out b (all-out isDigit m (decimal-digits k)) in
-    let f : eqb b 10 ≡ false = ne-eqb b 10 (λ e. omega (arith, d .0)) in
-    rw f)
-
-names-whole : (b : ℕ) → not (eqb b 10) ≡ true → (l : List ℕ) → whole (led (map (nameText b) l)) ≡ true
-names-whole b h [] = refl
-names-whole b h (k ∷ l) =
-    rw h (all-append (λ (x : ℕ). not (eqb x 10)) (decimal k) (led (map (nameText b) l)) ∙ rw (decimal-whole k, names-whole b h l))
-
-inputs-whole : (n : ℕ) → whole (inputsLine n) ≡ true
+pub inputs-whole : (n : ℕ) → whole (inputsLine n) ≡ true
 unfolding spelled
-inputs-whole n = words-whole (spelled ".inputs") (firstNames 120 n) refl (names-whole 120 refl (from 0 n))
+inputs-whole n = clear-line (spelled ".inputs" ∷ firstNames 120 n) (names-clear 120 n refl)
 
-outputs-whole : (m : ℕ) → whole (outputsLine m) ≡ true
+pub outputs-whole : (m : ℕ) → whole (outputsLine m) ≡ true
 unfolding spelled
-outputs-whole m = words-whole (spelled ".outputs") (firstNames 121 m) refl (names-whole 121 refl (from 0 m))
+outputs-whole m = clear-line (spelled ".outputs" ∷ firstNames 121 m) (names-clear 121 m refl)
 
-model-whole : (w : List ℕ) → Titled w → whole (modelLine w) ≡ true
+pub model-whole : (w : List ℕ) → Titled w → whole (modelLine w) ≡ true
 unfolding spelled
-model-whole w h = words-whole (spelled ".model") (w ∷ []) refl (all-append _ w [] ∙ rw (plain-whole w (titled-plain h)))
+model-whole w h = clear-line (spelled ".model" ∷ w ∷ []) (together (isClear w) true (h .clear) refl)
 
 module _ (s : List ℕ) where
   pub head-model : ModelIs s Place.No → HeadIs s Head.No
@@ -364,9 +337,9 @@ module _ (s : List ℕ) where
   module _ (p : ℕ) (model : ModelIs s (Place.At p)) where
     after-model : (n m : ℕ) (r : List ℕ) → Headed (left s 0) n m r → left s p ≡ inputsLine n ++ (10 ∷ (outputsLine m ++ (10 ∷ r)))
     after-model n m r g =
-        line-after (modelLine (model .0 .name)) (modelLine (g .name)) (left s p) (inputsLine n ++ (10 ∷ (outputsLine m ++ (10 ∷ r))))
+        line-one (modelLine (model .0 .name)) (modelLine (g .name)) (left s p) (inputsLine n ++ (10 ∷ (outputsLine m ++ (10 ∷ r))))
         (model-whole (model .0 .name) (model .0 .titled)) (model-whole (g .name) (g .titled))
-        (sym (model .0 .text) ∙ g .text ∙ head-apart (g .name) n m r)
+        (sym (model .0 .text) ∙ g .text ∙ head-apart (g .name) n m r) .1
 
     pub head-inputs : ListIs (spelled ".inputs") 120 s p Count.No → HeadIs s Head.No
     head-inputs h = λ n m r g. h n (outputsLine m ++ (10 ∷ r)) (after-model n m r g)
@@ -374,8 +347,8 @@ module _ (s : List ℕ) where
     module _ (i q : ℕ) (inputs : ListIs (spelled ".inputs") 120 s p (Count.Names i q)) where
       pub head-outputs : ListIs (spelled ".outputs") 121 s q Count.No → HeadIs s Head.No
       head-outputs h = λ n m r g.
-          h m r (line-after (inputsLine i) (inputsLine n) (left s q) (outputsLine m ++ (10 ∷ r)) (inputs-whole i) (inputs-whole n)
-          (sym (inputs .0) ∙ after-model n m r g))
+          h m r (line-one (inputsLine i) (inputsLine n) (left s q) (outputsLine m ++ (10 ∷ r)) (inputs-whole i) (inputs-whole n)
+          (sym (inputs .0) ∙ after-model n m r g) .1)
 
       pub head-is : (o r : ℕ) → ListIs (spelled ".outputs") 121 s q (Count.Names o r) → HeadIs s (Head.Is i o r)
       head-is o r outputs = (

@@ -6,16 +6,17 @@ use mathlib.Core.List.{List, [], _∷_, _++_, append-nil, append-assoc, append-c
 use native.Mathlib.Omega.{arith}
 use lib.ListN.{length, getD}
 use borrow.Author.Tests.{leb-true}
-use Rattle.sets.{specs.Lists.all, specs.Word.largest, proofs.Truth.both, proofs.Lists.all-in, proofs.Lists.all-out, proofs.Lists.all-append}
+use Rattle.sets.{specs.Lists.all, specs.Word.largest, proofs.Truth.both, proofs.Lists.all-append}
 use Rattle.letters.specs.{Letters.decimal, Meaning.readBack, Meaning.isDigit}
 use Rattle.letters.proofs.Numbers.{decimal-one, decimal-more, decimal-value, decimal-digits, decimal-some, decimal-lead}
 use Rattle.blif_laws.specs.{Text.Name, Text.variable, Text.output, Text.nameWord, Meaning.isClear}
+use Rattle.blif_laws.proofs.{Cutting.clear-in, Naming.decimal-lacks}
 use Rattle.blif_scan.specs.Scanning.{left, NextIs, Starts, bySpace, byLine, byEnd, EndedIs, DigitIs, NumeralBy, CalledBy}
 use Rattle.blif_scan.specs.declared.{Next.Next, Ended.Ended, Digit.Digit}
 use Rattle.blif_scan.specs.declared.Next.the-variants as Next
 use Rattle.blif_scan.specs.declared.Ended.the-variants as Ended
 use Rattle.blif_scan.specs.declared.Digit.the-variants as Digit
-use Rattle.blif_scan.proofs.Scanning.{stays-in, starts-tail, starts-none, starts-empty, starts-as, starts-past, ended-past}
+use Rattle.blif_scan.proofs.Scanning.{starts-tail, starts-none, starts-empty, starts-as, starts-past, ended-past}
 
 -- ---- digits
 
@@ -25,8 +26,7 @@ digit-out b h = let f = both _ _ h in (leb-true 48 b (f .0), leb-true b 57 (f .1
 
 -- neither space nor LF is in a number
 pub decimal-clear : (n : ℕ) → isClear (decimal n) ≡ true
-decimal-clear n = all-in _ (decimal n) (λ b m.
-    let d = digit-out b (all-out isDigit m (decimal-digits n)) in stays-in b (λ e. omega (arith, d .0)) (λ e. omega (arith, d .0)))
+decimal-clear n = clear-in (decimal n) (decimal-lacks 32 n refl) (decimal-lacks 10 n refl)
 
 -- one digit more
 pub decimal-next : (n d : ℕ) → 1 ≤ n → d < 10 → decimal (10 * n + d) ≡ decimal n ++ ((48 + d) ∷ [])

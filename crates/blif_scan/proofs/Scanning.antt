@@ -6,28 +6,16 @@ use mathlib.Core.Logic.{inl, inr}
 use mathlib.Core.List.{List, [], _∷_, _++_, append-nil, append-assoc}
 use native.Mathlib.Omega.{arith}
 use lib.Dec.{eqb, ltb}
-use lib.ListN.{length, getD, take, drop, drop-of-length-le, List·getD-eq-default, take-append-drop}
-use lib.Seq.{getD-drop, drop-drop}
-use borrow.Author.Tests.{eqb-true, eqb-false, eq-eqb, ne-eqb, ltb-true, ltb-false, not-true}
-use Rattle.sets.proofs.{Truth.both, Truth.decided, Truth.clash, Places.drop-next, Rows.take-next}
-use Rattle.blif_laws.specs.{Reading.joined, Meaning.isClear}
+use lib.ListN.{length, getD, take, drop, List·getD-eq-default, length-append, take-append-drop}
+use borrow.Author.Tests.{eqb-true, eq-eqb, ltb-true, ltb-false, not-true}
+use Rattle.sets.proofs.{Truth.both, Truth.together, Truth.decided, Truth.clash, Places.drop-next, Rows.take-next}
+use Rattle.blif_laws.{specs.Meaning.isClear, proofs.Breaking.joined-break, proofs.Breaking.joined-byte}
 use Rattle.blif_scan.specs.Scanning.{left, isJoint, NextIs, Starts, bySpace, byLine, byEnd, EndedIs}
 use Rattle.blif_scan.specs.declared.{Next.Next, Ended.Ended}
 use Rattle.blif_scan.specs.declared.Next.the-variants as Next
 use Rattle.blif_scan.specs.declared.Ended.the-variants as Ended
 
 -- ---- bytes
-
--- a backslash right before an LF, and any other byte
-joined-joint : (b : ℕ) (t : List ℕ) → (eqb b 92 && eqb (getD t 0 0) 10) ≡ true → joined (b ∷ t) ≡ joined (drop 1 t)
-unfolding joined
-joined-joint b [] h = absurd (eqb-false 0 10 refl (eqb-true 0 10 (both (eqb b 92) (eqb 0 10) h .1)))
-joined-joint b (d ∷ t) h = rw h
-
-joined-byte : (b : ℕ) (t : List ℕ) → (eqb b 92 && eqb (getD t 0 0) 10) ≡ false → joined (b ∷ t) ≡ b ∷ joined t
-unfolding joined
-joined-byte b [] h = refl
-joined-byte b (d ∷ t) h = rw h
 
 module _ (s : List ℕ) (p : ℕ) where
   -- the byte after it is inside
@@ -40,24 +28,13 @@ module _ (s : List ℕ) (p : ℕ) where
         absurd (omega arith)
   ]
 
-  -- the byte after it is the first of those after it
-  after : getD (drop (p + 1) s) 0 0 ≡ getD s (p + 1) 0
-  after = let e : (p + 1) + 0 ≡ p + 1 = omega arith in getD-drop (p + 1) s 0 0 ∙ ap (λ (n : ℕ). getD s n 0) e
-
   pub left-joint : isJoint s p ≡ true → left s p ≡ left s (p + 2)
   left-joint h =
-      let k = joint-inside h in
-      let e : (p + 1) + 1 ≡ p + 2 = omega arith in
-      ap joined (drop-next s p 0 (omega arith))
-      ∙ joined-joint (getD s p 0) (drop (p + 1) s) (rw after h)
-      ∙ ap joined (drop-drop 1 (p + 1) s ∙ ap (λ (n : ℕ). drop n s) e)
+      let e = both (eqb (getD s p 0) 92) (eqb (getD s (p + 1) 0) 10) h in
+      joined-break s p (joint-inside h) (eqb-true (getD s p 0) 92 (e .0)) (eqb-true (getD s (p + 1) 0) 10 (e .1))
 
   pub left-byte : p < length s → isJoint s p ≡ false → left s p ≡ getD s p 0 ∷ left s (p + 1)
-  left-byte l h = ap joined (drop-next s p 0 l) ∙ joined-byte (getD s p 0) (drop (p + 1) s) (rw after h)
-
-  pub left-end : length s ≤ p → left s p ≡ []
-  unfolding joined
-  left-end l = ap joined (drop-of-length-le s l)
+  left-byte l h = joined-byte s p l (λ k e f. clash (together _ _ (eq-eqb (getD s p 0) 92 e) (eq-eqb (getD s (p + 1) 0) 10 f)) h)
 
 -- ---- words
 
@@ -86,6 +63,10 @@ starts-cancel (b ∷ u) h = starts-cancel u (starts-tail h .1)
 pub starts-as : {t u w v : List ℕ} → t ≡ u → w ≡ v → Starts t w → Starts u v
 starts-as {t} {v = v} e f h = subst (λ x. Starts x v) e (subst (Starts t) f h)
 
+-- a word is not itself with more after it
+pub word-longer : (w : List ℕ) (b : ℕ) (t : List ℕ) → w ≡ w ++ (b ∷ t) → ⊥
+word-longer w b t e = omega (arith, ap length e, length-append w (b ∷ t))
+
 -- ---- bytes that end no word
 
 abbrev pub stays : ℕ → Bool
@@ -95,9 +76,6 @@ pub stays-out : (b : ℕ) → stays b ≡ true → (b ≡ 32 → ⊥) × (b ≡ 
 stays-out b h =
     let f = both (not (eqb b 32)) (not (eqb b 10)) h in
     (λ e. clash (eq-eqb b 32 e) (not-true (eqb b 32) (f .0)), λ e. clash (eq-eqb b 10 e) (not-true (eqb b 10) (f .1)))
-
-pub stays-in : (b : ℕ) → (b ≡ 32 → ⊥) → (b ≡ 10 → ⊥) → stays b ≡ true
-stays-in b h k = rw (ne-eqb b 32 h, ne-eqb b 10 k)
 
 -- what neither a space nor an LF ends is a part of the word
 pub starts-past : (u : List ℕ) {t w : List ℕ} → isClear u ≡ true → Starts (u ++ t) w → (v : List ℕ) × (w ≡ u ++ v) × Starts t v

@@ -6,12 +6,11 @@ use mathlib.Core.List.{List, [], _∷_, _++_, map}
 use native.Mathlib.Numerals.{add-one}
 use native.Mathlib.Omega.{arith}
 use lib.Dec.{ltb, eqb}
-use borrow.Author.Tests.{le-leb, lt-ltb}
 use Rattle.sets.specs.Lists.{keep, isNil, from}
 use Rattle.sets.specs.{Literal.plainOf, Sets.mem, Sets.asc}
 use Rattle.sets.proofs.Truth.{iff, both, together, clash, refuted}
 use Rattle.sets.proofs.Lists.{pairwise-keep}
-use Rattle.sets.proofs.Sets.{ext, keep-mem, from-mem, from-asc, mem-head, mem-nil, nil-mem}
+use Rattle.sets.proofs.Sets.{ext, keep-mem, from-in, from-asc, mem-head, mem-nil, nil-mem}
 use Rattle.cube.{specs.Cube.width, specs.Cube.lits, specs.declared.Cube.Cube, proofs.Lits.lits-inside}
 use Rattle.letters.specs.Letters.{nameText}
 use Rattle.network_reads.{specs.Reading.readsOf, specs.Reading.Marks, proofs.Marking.marks-plain, proofs.Reading.reads-asc}
@@ -93,7 +92,7 @@ plains-marked c l h p = ext (plainsOf (lits c)) l (pairwise-keep ltb test (from 
     same z = iff
         (λ t. sym (marks-plain p z) ∙ both (mem z (from 0 width)) (test z) t .1)
         (λ t. let m : test z ≡ true = marks-plain p z ∙ t in
-        together _ _ (from-mem 0 width z ∙ together _ _ (le-leb 0 z (omega arith)) (lt-ltb z (0 + width) (omega (arith, lits-inside c (plainOf z) m)))) m)
+        together _ _ (from-in 0 width z (omega arith) (omega (arith, lits-inside c (plainOf z) m))) m)
 
 -- the cube that marks it has plain literals only
 pub reads-plain : (c : Cube) (f : List (List ℕ)) → Marks (lits c) (readsOf f) → AllPlain (lits c)

@@ -7,12 +7,12 @@ use mathlib.Core.Bool.{Bool, true, false, not, _||_}
 use mathlib.Core.List.{List, [], _∷_, _++_, map, append-nil, append-assoc, List·Memᴰ·head as here, List·Memᴰ·not-nil, List·Memᴰ·cases-cons}
 use mathlib.Core.List.{List·Memᴰ·append-cases, Memᴰ·append-left, Memᴰ·append-right, Memᴰ·cast}
 use native.Mathlib.Omega.{arith}
-use lib.Dec.{leb, ltb}
+use lib.Dec.{ltb}
 use lib.ListN.{length, length-map}
-use borrow.Author.Tests.{eq-eqb, ltb-true, ltb-false, le-leb, lt-ltb}
+use borrow.Author.Tests.{eq-eqb, ltb-true, ltb-false, lt-ltb}
 use Rattle.sets.specs.Lists.{all, total, from}
-use Rattle.sets.{specs.Sets.mem, specs.Masks.bit, specs.Masks.packed, proofs.Sets.from-mem, proofs.Rows.from-snoc}
-use Rattle.sets.proofs.Truth.{both, together, decided, clash, refuted}
+use Rattle.sets.{specs.Sets.mem, specs.Masks.bit, specs.Masks.packed, proofs.Sets.from-in, proofs.Sets.from-out, proofs.Rows.from-snoc}
+use Rattle.sets.proofs.Truth.{decided, clash, refuted}
 use Rattle.sets.proofs.Lists.{_∈_, all-in, map-in, map-out, map-cong, map-map, total-append, total-cong, total-map, total-same, pairwise-imp}
 use Rattle.expression.specs.Expression.{expression, ordered, literalsOf}
 use Rattle.expression.specs.Value.{lit, value}
@@ -280,12 +280,8 @@ module _ (n : Net) where
 
 -- ---- where each divisor reads smaller numbers alone, they are listed in turn
 
-in-from : (k m z : ℕ) → k ≤ z → z < k + m → mem z (from k m) ≡ true
-in-from k m z h i = from-mem k m z ∙ together (leb k z) (ltb z (k + m)) (le-leb k z h) (lt-ltb z (k + m) i)
-
 past-from : (k m : ℕ) → mem (k + m) (from k m) ≡ false
-past-from k m = refuted (λ h. let q = both (leb k (k + m)) (ltb (k + m) (k + m)) (sym (from-mem k m (k + m)) ∙ h) in
-    omega (arith, ltb-true (k + m) (k + m) (q .1)))
+past-from k m = refuted (λ h. omega (arith, from-out k m (k + m) h))
 
 module _ (n : Net) (w : Lawful n) (k : ReadsBack n) where
   -- the smallest number that is left is ready
@@ -298,7 +294,7 @@ module _ (n : Net) (w : Lawful n) (k : ReadsBack n) where
 
       go : (v : ℕ) → v < g .number → (ltb v (n .inputs) || mem v (from (n .inputs) m)) ≡ true
       go v h = elim (decided (ltb v (n .inputs)))
-          [ inl t ↦ rw t | inr t ↦ rw (t, in-from (n .inputs) m v (ltb-false v (n .inputs) t) (omega arith)) ]
+          [ inl t ↦ rw t | inr t ↦ rw (t, from-in (n .inputs) m v (ltb-false v (n .inputs) t) (omega arith)) ]
 
   -- so it comes next
   turn-next : (m : ℕ) (b : List ℕ) (v : ℕ) → m < length (n .divisors) → listing n ≡ from (n .inputs) m ++ (v ∷ b) → v ≡ n .inputs + m
@@ -309,7 +305,7 @@ module _ (n : Net) (w : Lawful n) (k : ReadsBack n) where
         let most : v ≤ g .number = x .least g i (rw (← p) (past-from (n .inputs) m)) (turn-ready m g i (sym p)) in
         let above : n .inputs ≤ v = rw (x .number) ((lawful-sound n w) .distinct .above (x .node) (x .inside)) in
         elim (decided (ltb v (n .inputs + m))) [
-          | inl t ↦ clash (in-from (n .inputs) m v above (ltb-true v (n .inputs + m) t)) (x .fresh)
+          | inl t ↦ clash (from-in (n .inputs) m v above (ltb-true v (n .inputs + m) t)) (x .fresh)
           | inr t ↦ omega (arith, ltb-false v (n .inputs + m) t)
         ]
   ]

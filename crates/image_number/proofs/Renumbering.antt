@@ -6,11 +6,11 @@ use mathlib.Core.List.{List, [], _∷_, map, List·Memᴰ·tail as there, Memᴰ
 use native.Mathlib.Omega.{arith}
 use lib.Dec.{ltb}
 use lib.ListN.{length, getD, take, length-append, length-map, List·getD-append}
-use lib.Seq.{getD-append-add, getD-take, take-all}
+use lib.Seq.{getD-append-add, getD-take}
 use borrow.Author.Tests.{ltb-true, ltb-false}
 use Rattle.sets.{specs.Lists.all, specs.Lists.total, specs.Sets.insert, proofs.Truth.both, proofs.Truth.decided, proofs.Rows.getD-map}
-use Rattle.sets.proofs.Lists.{_∈_, all-out, map-cong, total-take-le}
-use Rattle.sets.proofs.Places.{at-in, pairwise-at, total-next}
+use Rattle.sets.proofs.Lists.{_∈_, all-out, map-cong}
+use Rattle.sets.proofs.Places.{at-in, pairwise-at, total-room}
 use Rattle.expression.specs.{Words.cubesOf, Expression.sort}
 use Rattle.network.specs.Net.{Net, nodes, variables, cubesAt}
 use Rattle.network.specs.{Listing.listing, Held.reach, Answers.padded, Answers.listedOf, declared.Network.Network}
@@ -126,15 +126,7 @@ module _ {n m k : ℕ} {words counts order : List ℕ} (b : Numberable n m k wor
   -- there is room for the next
   pub new-room : {i at : ℕ} → i < m + k → at ≡ total length (take i fs) → at + length (getD fs i []) ≤ cubeSlots
   new-room {i} h e =
-      let all = ap (total length) (take-all (length fs) fs (omega arith)) in
-      omega (
-        arith,
-        new-many,
-        total-next length fs i [] (omega (arith, new-many)),
-        total-take-le length fs (i + 1) (length fs) (omega (arith, new-many)),
-        renumbered-cubes net lawful,
-        lawful .within .cubes,
-      )
+      omega (arith, total-room length fs i [] (omega (arith, new-many)), renumbered-cubes net lawful, lawful .within .cubes)
 
   new-output : (i : ℕ) → i < m → getD fs i [] ≡ new (getD old i [])
   new-output i h =

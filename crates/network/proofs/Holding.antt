@@ -106,7 +106,7 @@ module _ (n : Network) where
 pub up-out : (most k : ℕ) → upTo most k ≡ true → (1 ≤ k) × (k ≤ most)
 up-out most k h = let q = both (leb 1 k) (leb k most) h in (leb-true 1 k (q .0), leb-true k most (q .1))
 
-up-in : (most k : ℕ) → (1 ≤ k) × (k ≤ most) → upTo most k ≡ true
+pub up-in : (most k : ℕ) → (1 ≤ k) × (k ≤ most) → upTo most k ≡ true
 up-in most k h = together (leb 1 k) (leb k most) (le-leb 1 k (h .0)) (le-leb k most (h .1))
 
 module _ (n : Network) where

@@ -1,6 +1,6 @@
 -- Elements of a list by their places: members, what a store changes, a test over what is left. Assumes nothing.
 use Prim.Native.Nat.{ℕ, zero, suc, _+_, _<_, _≤_, suc-le-suc}
-use mathlib.Core.Path.{_≡_, refl, sym}
+use mathlib.Core.Path.{_≡_, refl, sym, ap}
 use mathlib.Core.Logic.{_⊎_, inl, inr}
 use mathlib.Core.Bool.{Bool, true, false}
 use mathlib.Core.List.{List, [], _∷_, List·Memᴰ·head as here, List·Memᴰ·tail as there, List·Memᴰ·cases-cons}
@@ -8,10 +8,10 @@ use native.Mathlib.Nat.{zero-lt-suc, not-suc-le-zero, le-of-suc-le-suc}
 use native.Mathlib.Numerals.{add-one}
 use native.Mathlib.Omega.{arith}
 use lib.ListN.{length, getD, take, drop, set, drop-of-length-le}
-use lib.Seq.{take-suc, drop-cons}
+use lib.Seq.{take-suc, take-length, drop-cons}
 use Rattle.sets.specs.Lists.{all, pairwise, total}
 use Rattle.sets.proofs.Truth.{together}
-use Rattle.sets.proofs.Lists.{_∈_, all-in, all-out, ahead, total-append}
+use Rattle.sets.proofs.Lists.{_∈_, all-in, all-out, ahead, total-append, total-take-le}
 
 module _ {A : Type 0} where
   -- ---- members and places
@@ -77,3 +77,7 @@ module _ {A : Type 0} where
 -- one element more in a total
 pub total-next : {A : Type 0} (g : A → ℕ) (f : List A) (i : ℕ) (d : A) → i < length f → total g (take (i + 1) f) ≡ total g (take i f) + g (getD f i d)
 total-next g f i d h = rw (add-one i, take-suc f i d h, total-append g (take i f) (getD f i d ∷ [])) (omega arith)
+
+-- the next element is within the whole
+pub total-room : {A : Type 0} (g : A → ℕ) (f : List A) (i : ℕ) (d : A) → i < length f → total g (take i f) + g (getD f i d) ≤ total g f
+total-room g f i d h = omega (arith, total-next g f i d h, total-take-le g f (i + 1) (length f) (omega arith), ap (total g) (take-length f))

@@ -3,7 +3,7 @@ use mathlib.Core.Path.{_≡_, refl, sym, ap, ap₂, _∙_, subst}
 use mathlib.Core.Logic.{_⊎_, inl, inr}
 use mathlib.Core.Bool.{Bool, true, false, cond, not, _&&_, _||_, false≢true, and-assoc, or-comm, or-assoc, or-self-left}
 use mathlib.Core.List.{List, [], _∷_, _++_, List·Memᴰ·head as here, List·Memᴰ·tail as there, Memᴰ·cast}
-use Prim.Native.Nat.{ℕ, zero, suc, _+_, _≤_}
+use Prim.Native.Nat.{ℕ, zero, suc, _+_, _<_, _≤_}
 use native.Mathlib.Omega.{arith}
 use lib.Dec.{leb, ltb, eqb}
 use lib.ListN.{length}
@@ -76,6 +76,12 @@ from-mem k (suc m) z = let r = from-mem (suc k) m z in
     back r q (inl e) = rw e
     back r q (inr e) = rw e (r ∙ together (leb (suc k) z) (ltb z (suc k + m)) (omega (arith, leb-true k z (q .0), eqb-false z k e, le-leb))
         (omega (arith, ltb-true z (k + suc m) (q .1), lt-ltb)))
+
+pub from-in : (k m z : ℕ) → k ≤ z → z < k + m → mem z (from k m) ≡ true
+from-in k m z h i = from-mem k m z ∙ together (leb k z) (ltb z (k + m)) (le-leb k z h) (lt-ltb z (k + m) i)
+
+pub from-out : (k m z : ℕ) → mem z (from k m) ≡ true → (k ≤ z) × (z < k + m)
+from-out k m z h = let q = both (leb k z) (ltb z (k + m)) (sym (from-mem k m z) ∙ h) in (leb-true k z (q .0), ltb-true z (k + m) (q .1))
 
 pub mem-append : (z : ℕ) (a b : List ℕ) → mem z (a ++ b) ≡ (mem z a || mem z b)
 unfolding mem

@@ -53,7 +53,7 @@ joined-last : (l : ℕ) (c : List ℕ) → l < 2 * width → all (λ x. ltb x l)
 joined-last l c h k = rw (lt-ltb l (2 * width) h) (insert-last l c k)
 
 -- the literal of the next place goes last
-placed-last : (v b : ℕ) (c : List ℕ) → v < width → all (λ x. ltb x (2 * v)) c ≡ true → placed v b c ≡ c ++ cubeFrom v (b ∷ [])
+pub placed-last : (v b : ℕ) (c : List ℕ) → v < width → all (λ x. ltb x (2 * v)) c ≡ true → placed v b c ≡ c ++ cubeFrom v (b ∷ [])
 unfolding placed cubeFrom
 placed-last v b c h k = go (eqb b 49) (eqb b 48)
   where

@@ -14,11 +14,11 @@ use Rattle.blif_scan.specs.Scanning.{labelOf}
 use Rattle.blif_lines.specs.Lining.{NamesBy, RowsBy}
 use Rattle.blif_form.specs.Surveying.{UsedIs, BlockBy, BlockNot}
 use Rattle.blif_form.specs.declared.Found.{Found}
-use Rattle.blif_form.proofs.Taking.{nameless, outside, rowless, unused, found}
+use Rattle.blif_form.proofs.Taking.{nameless, outside, rowless, unused, block-found}
 use Rattle.blif_form.proofs.read_block.Statement.{statement}
 use Rattle.blif_form.proofs.read_block.Tie as tie
 
--- the states: the names read, the name compared, the rows read, the columns tested
+-- the states: the names read, the name compared, the rows read, the rows there, the columns tested
 abbrev start : tie.After-read-names → tie.Start
 start a = a .before .before .before .before
 
@@ -28,8 +28,11 @@ named c = c .before .before .before .before .before
 abbrev compared : tie.After-read-rows → tie.After-is-among
 compared r = r .before .before .before
 
+abbrev filled : tie.After-all-used → tie.Else3
+filled u = u .before .before
+
 abbrev rowed : tie.After-all-used → tie.After-read-rows
-rowed u = u .before .before .before .before .before .before
+rowed u = filled u .before .before .before .before
 
 abbrev text : tie.After-read-names → List ℕ
 text a = start a .args .s .now
@@ -114,7 +117,7 @@ returns-5 c =
     let r = rowed u in
     let k = compared r in
     let top : named k .read-names .result .top ≤ largest = omega (arith, k .before .before .struct-known .given) in (
-      found _ (names (named k) true (there k)) (rows r true (not-false _ (u .before .before .if3 .left)))
+      block-found _ (names (named k) true (there k)) (rows r true (not-false _ (filled u .if3 .left)))
           (name k true (not-false _ (r .before .before .if2 .left))) (columns u true (not-false _ (c .if4 .left))) top,
       u .all-used .ensures .1 ∙ after-rows r,
     )

@@ -28,9 +28,9 @@ head : (h : tie.After-read-head) (e : Head) → h .read-head .result ≡ e → H
 head h e q = subst (HeadIs (text h)) q (h .read-head .ensures)
 
 -- the blocks after it, or that there are none
-blocks : (r : tie.After-read-blocks) (x : Bool) → r .read-blocks .result .are ≡ x
+blocks-told : (r : tie.After-read-blocks) (x : Bool) → r .read-blocks .result .are ≡ x
     → let h = headed r in BlocksBy x (text (h .before .before)) (h .h .given .0 .1 .1 .0) (h .h .given .0 .1 .0) (r .read-blocks .result)
-blocks r x q = let h = headed r in
+blocks-told r x q = let h = headed r in
     subst (λ y. BlocksBy y (text (h .before .before)) (h .h .given .0 .1 .1 .0) (h .h .given .0 .1 .0) (r .read-blocks .result)) q (r .read-blocks .ensures)
 
 -- an answer that says so
@@ -47,7 +47,7 @@ returns-2 c =
     let h = headed r in
     let short : length (text (h .before .before)) ≤ largest = omega arith in
     none (c .no-survey2 .result) (c .no-survey2 .ensures)
-    (blockless short (head (h .before .before) _ (h .h .given .1) .0) (blocks r false (not-true _ (t .if1 .taken))))
+    (blockless short (head (h .before .before) _ (h .h .given .1) .0) (blocks-told r false (not-true _ (t .if1 .taken))))
 
 returns-3 : tie.Need-returns-3
 returns-3 c =
@@ -55,7 +55,7 @@ returns-3 c =
     let r = e .before .before in
     let h = headed r in
     let q = head (h .before .before) _ (h .h .given .1) in
-    surveyed (q .0) (q .2) (q .3) (blocks r true (not-false _ (e .if1 .left))) (c .larger .ensures)
+    surveyed (q .0) (q .2) (q .3) (blocks-told r true (not-false _ (e .if1 .left))) (c .larger .ensures)
 
 pub take-survey-spec : {M : Type 1} → statement M
 take-survey-spec =

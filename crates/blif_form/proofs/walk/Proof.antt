@@ -32,8 +32,8 @@ start h = h .before .before .before
 abbrev head : tie.After-keyword Inv-loop μ-loop → tie.At-loop Inv-loop μ-loop
 head k = k .before .before
 
-abbrev found : tie.After-read-block Inv-loop μ-loop → tie.After-keyword Inv-loop μ-loop
-found r = r .before .before .before .before .before
+abbrev word-found : tie.After-read-block Inv-loop μ-loop → tie.After-keyword Inv-loop μ-loop
+word-found r = r .before .before .before .before .before
 
 abbrev text : tie.At-loop Inv-loop μ-loop → List ℕ
 text h = start h .args .s .now
@@ -47,13 +47,13 @@ word k e q = subst (EndedIs (text (head k)) (head k .loop .p) (spelled ".names")
 abbrev after : tie.After-read-block Inv-loop μ-loop → ℕ
 after r = r .before .before .before .e .given .0 .0
 
-begins : (r : tie.After-read-block Inv-loop μ-loop) → let h = head (found r) in EndedIs (text h) (h .loop .p) (spelled ".names") (Ended.Space (after r))
-begins r = word (found r) _ (r .before .before .before .e .given .1)
+begins : (r : tie.After-read-block Inv-loop μ-loop) → let h = head (word-found r) in EndedIs (text h) (h .loop .p) (spelled ".names") (Ended.Space (after r))
+begins r = word (word-found r) _ (r .before .before .before .e .given .1)
 
 -- the block that begins with it, or that there is none
 block : (r : tie.After-read-block Inv-loop μ-loop) (x : Bool) → r .read-block .result .is ≡ x
-    → let h = head (found r) in BlockBy x (text h) (after r) (start h .args .m) (r .read-block .result)
-block r x q = let h = head (found r) in
+    → let h = head (word-found r) in BlockBy x (text h) (after r) (start h .args .m) (r .read-block .result)
+block r x q = let h = head (word-found r) in
     subst (λ y. BlockBy y (text h) (after r) (start h .args .m) (r .read-block .result)) q (r .read-block .ensures .0)
 
 returns : tie.Need-returns Inv-loop μ-loop
@@ -66,7 +66,7 @@ returns c =
 returns-2 : tie.Need-returns-2 Inv-loop μ-loop
 returns-2 c =
     let r = c .before .before .before .before in
-    let k = found r in
+    let k = word-found r in
     walked-not (head k .loop .inv .0) _ (begins r .0) (block r false (not-true _ (c .if1 .taken)))
 
 loop-less : tie.Need-loop-less Inv-loop μ-loop
@@ -79,14 +79,14 @@ loop-again : tie.Need-loop-again Inv-loop μ-loop
 loop-again c =
     let i = c .before .before in
     let r = i .before .before .before .before in
-    let k = found r in (
+    let k = word-found r in (
       passed-more (head k .loop .inv .0) _ (begins r .0) (r .read-block .result) (block r true (not-false _ (i .if1 .left))) _ _
           (c .before .more-rows .ensures) (c .larger .ensures),
       r .read-block .ensures .1 ∙ head k .loop .inv .1,
     )
 
 few : tie.Need-more-rows-requires Inv-loop μ-loop
-few c κs = passed-few (head (found (c .before .before .before .before)) .loop .inv .0)
+few c κs = passed-few (head (word-found (c .before .before .before .before)) .loop .inv .0)
 
 pub walk-spec : {M : Type 1} → statement M
 walk-spec =

@@ -27,11 +27,11 @@ abbrev start : tie.At-loop Inv-loop μ-loop → tie.Start Inv-loop μ-loop
 start h = h .before .before .before
 
 -- a row comes
-comes : (k : tie.After-a Inv-loop μ-loop) →
+row-here : (k : tie.After-a Inv-loop μ-loop) →
     let w = k .before .before .before .before in
     let a = start (head w) .args in
     RowGot (a .s .now) (head w .loop .p) (a .r) (a .base) (head w .loop .marks) (w .read-row .last .1 .1 .1 .1 .0) (k .a .given .0 .0)
-comes k = rw (k .a .given .1) at (k .before .before .before .before .read-row .ensures)
+row-here k = rw (k .a .given .1) at (k .before .before .before .before .read-row .ensures)
 
 -- or none does
 none : (c : tie.After-enum-told Inv-loop μ-loop) →
@@ -52,13 +52,13 @@ returns c =
 add-count : tie.Need-add-count Inv-loop μ-loop
 add-count c =
     let k = c .before in
-    record { fits = omega (arith, comes k .forth, head (k .before .before .before .before) .loop .inv .room) }
+    record { fits = omega (arith, row-here k .forth, head (k .before .before .before .before) .loop .inv .room) }
 
 loop-less : tie.Need-loop-less Inv-loop μ-loop
-loop-less c = omega (arith, comes (c .before) .forth .on, comes (c .before) .forth .within)
+loop-less c = omega (arith, row-here (c .before) .forth .on, row-here (c .before) .forth .within)
 
 loop-again : tie.Need-loop-again Inv-loop μ-loop
-loop-again c = let k = c .before in rowing-next (head (k .before .before .before .before) .loop .inv) _ (comes k)
+loop-again c = let k = c .before in rowing-next (head (k .before .before .before .before) .loop .inv) _ (row-here k)
 
 same-length-2 : tie.Need-same-length-2 Inv-loop μ-loop
 same-length-2 c = c .before .before .loop .inv .marks .size

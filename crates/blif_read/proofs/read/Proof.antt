@@ -5,7 +5,7 @@ use Rattle.sets.specs.Word.{largest}
 use borrow.Author.Needs.{needs}
 use borrow.Author.Tests.{not-true, not-false}
 use Rattle.blif_form.specs.Surveying.{SurveyGot}
-use Rattle.blif_read.proofs.Telling.{survey-got, survey-not, formless-told, gap-told, once-told, many-told, inputs-below, buildable, finish-told}
+use Rattle.blif_read.proofs.Telling.{survey-got, survey-not, formless-told, gap-told, once-told, many-told, inputs-below, can-build, finish-told}
 use Rattle.blif_read.proofs.read.Statement.{statement}
 use Rattle.blif_read.proofs.read.Tie as tie
 
@@ -68,7 +68,7 @@ finish-requires c κs =
     let f = c .before .before in
     let o = f .before .before in
     let g = o .before .before in
-    buildable (got (g .before)) (small (g .before)) _ (g .is-gapless .ensures) (gapless (o .before)) _ (o .is-once .ensures) (once (f .before)) _
+    can-build (got (g .before)) (small (g .before)) _ (g .is-gapless .ensures) (gapless (o .before)) _ (o .is-once .ensures) (once (f .before)) _
     (f .is-few .ensures)
     (few (c .before))
 

@@ -28,22 +28,16 @@ module _ (l : tie.At-loop Inv-loop μ-loop) where
   abbrev start : ℕ
   start = l .before .before .before .args .at
 
-module _ (k : tie.After-known-told Inv-loop μ-loop) where
-  abbrev top : tie.At-loop Inv-loop μ-loop
-  top = k .before .before .before .before .before
+abbrev top : tie.After-known-told Inv-loop μ-loop → tie.At-loop Inv-loop μ-loop
+top k = k .before .before .before .before .before
 
-  -- the byte that was read, and the place after it
-  abbrev byte : ℕ
-  byte = k .before .a .given .0 .0
+-- the byte that was read, and the place after it
+byte-here : (k : tie.After-known-told Inv-loop μ-loop) → let l = top k in
+    NextIs (text l) (l .loop .p) (Next.Byte (k .before .a .given .0 .0) (k .before .a .given .0 .1 .0))
+byte-here k = rw (k .before .a .given .1) at (k .before .before .before .read-byte .ensures)
 
-  abbrev after : ℕ
-  after = k .before .a .given .0 .1 .0
-
-  next : NextIs (text top) (top .loop .p) (Next.Byte byte after)
-  next = rw (k .before .a .given .1) at (k .before .before .before .read-byte .ensures)
-
-  inside : top .loop .i < length (word top)
-  inside = k .before .before .before .before .loop-test .taken
+inside : (k : tie.After-known-told Inv-loop μ-loop) → top k .loop .i < length (word (top k))
+inside k = k .before .before .before .before .loop-test .taken
 
 loop-holds : tie.Need-loop-holds Inv-loop μ-loop
 loop-holds c = (omega arith, omega arith, refl)
@@ -59,15 +53,15 @@ returns-2 : tie.Need-returns-2 Inv-loop μ-loop
 returns-2 c =
     let k = c .before .before in
     let l = top k in
-    word-other (text l) (word l) (start l) (l .loop .p) (l .loop .i) (inside k) (l .loop .inv .2) (byte k) (after k) (next k) (c .if1 .taken)
+    word-other (text l) (word l) (start l) (l .loop .p) (l .loop .i) (inside k) (l .loop .inv .2) _ _ (byte-here k) (c .if1 .taken)
 
 loop-again : tie.Need-loop-again Inv-loop μ-loop
 loop-again c =
     let k = c .before .before in
     let l = top k in (
       omega (arith, inside k),
-      omega (arith, next k .1 .on, l .loop .inv .1),
-      word-next (text l) (word l) (start l) (l .loop .p) (l .loop .i) (inside k) (l .loop .inv .2) (byte k) (after k) (next k) (c .if1 .left),
+      omega (arith, byte-here k .1 .on, l .loop .inv .1),
+      word-next (text l) (word l) (start l) (l .loop .p) (l .loop .i) (inside k) (l .loop .inv .2) _ _ (byte-here k) (c .if1 .left),
     )
 
 returns-3 : tie.Need-returns-3 Inv-loop μ-loop

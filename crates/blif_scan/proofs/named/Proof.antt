@@ -1,6 +1,5 @@
 -- `blif_scan::named` meets its contract: the letter, then the number. Assumes nothing.
-use Prim.Native.Nat.{ℕ, _≤_}
-use mathlib.Core.List.{List}
+use Prim.Native.Nat.{_≤_}
 use native.Mathlib.Omega.{arith}
 use borrow.Author.Needs.{needs}
 use Rattle.sets.specs.Word.{largest}
@@ -12,25 +11,16 @@ use Rattle.blif_scan.proofs.Numerals.{lettered, lettered-not, lettered-
 use Rattle.blif_scan.proofs.named.Statement.{statement}
 use Rattle.blif_scan.proofs.named.Tie as tie
 
-module _ (k : tie.After-known-told) where
-  abbrev start : tie.Start
-  start = k .before .before .before .before .before
+abbrev start : tie.After-known-told → tie.Start
+start k = k .before .before .before .before .before
 
-  abbrev text : List ℕ
-  text = start .args .s .now
+-- the byte that was read, and the place after it
+byte-here : (k : tie.After-known-told) → let s = start k .args in
+    NextIs (s .s .now) (s .at) (Next.Byte (k .before .a .given .0 .0) (k .before .a .given .0 .1 .0))
+byte-here k = rw (k .before .a .given .1) at (k .before .before .before .read-byte .ensures)
 
-  -- the byte that was read, and the place after it
-  abbrev byte : ℕ
-  byte = k .before .a .given .0 .0
-
-  abbrev after : ℕ
-  after = k .before .a .given .0 .1 .0
-
-  next : NextIs text (start .args .at) (Next.Byte byte after)
-  next = rw (k .before .a .given .1) at (k .before .before .before .read-byte .ensures)
-
-  small : start .args .k ≤ largest
-  small = omega (arith, start .fits .k)
+number-small : (k : tie.After-known-told) → start k .args .k ≤ largest
+number-small k = omega (arith, start k .fits .k)
 
 returns : tie.Need-returns
 returns c =
@@ -42,15 +32,16 @@ returns-2 : tie.Need-returns-2
 returns-2 c =
     let k = c .before in
     let s = start k .args in
-    lettered-not (text k) (s .at) (byte k) (after k) (next k) (s .letter) (decimal (s .k)) (c .if1 .taken)
+    lettered-not _ _ _ _ (byte-here k) (s .letter) (decimal (s .k)) (c .if1 .taken)
 
 returns-3 : tie.Need-returns-3
 returns-3 c =
     let n = c .before .before in
     let k = n .before .before in
     let s = start k .args in
-    lettered (text k) (s .at) (byte k) (after k) (next k) (s .letter) (decimal (s .k)) Ended.No (n .before .if1 .left)
-    (numeral-other (text k) (after k) (n .read-number .result .value) (s .k) (small k) (c .if2 .taken) (n .read-number .result .ended)
+    lettered _ _ _ _ (byte-here k) (s .letter) (decimal (s .k)) Ended.No (n .before .if1 .left)
+    (numeral-other (s .s .now) (k .before .a .given .0 .1 .0) (n .read-number .result .value) (s .k) (number-small k) (c .if2 .taken)
+    (n .read-number .result .ended)
     (n .read-number .ensures))
 
 returns-4 : tie.Need-returns-4
@@ -58,8 +49,9 @@ returns-4 c =
     let n = c .before .before in
     let k = n .before .before in
     let s = start k .args in
-    lettered (text k) (s .at) (byte k) (after k) (next k) (s .letter) (decimal (s .k)) (n .read-number .result .ended) (n .before .if1 .left)
-    (numeral-same (text k) (after k) (n .read-number .result .value) (s .k) (small k) (c .if2 .left) (n .read-number .result .ended) (n .read-number .ensures))
+    lettered _ _ _ _ (byte-here k) (s .letter) (decimal (s .k)) (n .read-number .result .ended) (n .before .if1 .left)
+    (numeral-same (s .s .now) (k .before .a .given .0 .1 .0) (n .read-number .result .value) (s .k) (number-small k) (c .if2 .left)
+    (n .read-number .result .ended) (n .read-number .ensures))
 
 pub named-spec : {M : Type 1} → statement M
 named-spec =

@@ -6,8 +6,9 @@ use native.Mathlib.Omega.{arith}
 use lib.ListN.{length}
 use borrow.Author.Needs.{needs}
 use borrow.Author.Tests.{not-true, not-false}
+use Rattle.blif_laws.proofs.Breaking.{joined-done}
 use Rattle.blif_scan.specs.Scanning.{left, isJoint}
-use Rattle.blif_scan.proofs.Scanning.{joint-inside, left-joint, left-byte, left-end}
+use Rattle.blif_scan.proofs.Scanning.{joint-inside, left-joint, left-byte}
 use Rattle.blif_scan.proofs.read_byte.Statement.{statement}
 use Rattle.blif_scan.proofs.read_byte.Tie as tie
 
@@ -51,7 +52,7 @@ loop-again : tie.Need-loop-again Inv-loop μ-loop
 loop-again c = (omega arith, top c .loop .inv .1 ∙ left-joint (text c) (top c .loop .p) (joint c))
 
 returns-2 : tie.Need-returns-2 Inv-loop μ-loop
-returns-2 c = c .before .loop .inv .1 ∙ left-end _ _ (c .loop-test .left)
+returns-2 c = c .before .loop .inv .1 ∙ joined-done _ _ (c .loop-test .left)
 
 pub read-byte-spec : {M : Type 1} → statement M
 read-byte-spec =

@@ -1,5 +1,4 @@
 -- `blif_scan::read_digit` meets its contract: by the next byte. Assumes nothing.
-use Prim.Native.Nat.{ℕ}
 use native.Mathlib.Omega.{arith}
 use borrow.Author.Needs.{needs}
 use Rattle.blif_scan.specs.Scanning.{NextIs}
@@ -8,19 +7,13 @@ use Rattle.blif_scan.proofs.Numerals.{digit-is, digit-not, digit-cut}
 use Rattle.blif_scan.proofs.read_digit.Statement.{statement}
 use Rattle.blif_scan.proofs.read_digit.Tie as tie
 
-module _ (k : tie.After-known-told) where
-  abbrev start : tie.Start
-  start = k .before .before .before .before .before
+abbrev start : tie.After-known-told → tie.Start
+start k = k .before .before .before .before .before
 
-  -- the byte that was read, and the place after it
-  abbrev byte : ℕ
-  byte = k .before .a .given .0 .0
-
-  abbrev after : ℕ
-  after = k .before .a .given .0 .1 .0
-
-  next : NextIs (start .args .s .now) (start .args .at) (Next.Byte byte after)
-  next = rw (k .before .a .given .1) at (k .before .before .before .read-byte .ensures)
+-- the byte that was read, and the place after it
+byte-here : (k : tie.After-known-told) → let s = start k .args in
+    NextIs (s .s .now) (s .at) (Next.Byte (k .before .a .given .0 .0) (k .before .a .given .0 .1 .0))
+byte-here k = rw (k .before .a .given .1) at (k .before .before .before .read-byte .ensures)
 
 returns : tie.Need-returns
 returns c =
@@ -30,17 +23,17 @@ returns c =
 returns-2 : tie.Need-returns-2
 returns-2 c =
     let k = c .before in
-    digit-not (start k .args .s .now) (start k .args .at) (byte k) (after k) (next k) (λ l h. omega (arith, c .if1 .taken))
+    digit-not _ _ _ _ (byte-here k) (λ l h. omega (arith, c .if1 .taken))
 
 returns-3 : tie.Need-returns-3
 returns-3 c =
     let k = c .before .before in
-    digit-not (start k .args .s .now) (start k .args .at) (byte k) (after k) (next k) (λ l h. omega (arith, c .if2 .taken))
+    digit-not _ _ _ _ (byte-here k) (λ l h. omega (arith, c .if2 .taken))
 
 returns-4 : tie.Need-returns-4
 returns-4 c =
     let k = c .before .before in
-    digit-is (start k .args .s .now) (start k .args .at) (byte k) (after k) (next k) (c .before .if1 .left) (c .if2 .left)
+    digit-is _ _ _ _ (byte-here k) (c .before .if1 .left) (c .if2 .left)
 
 pub read-digit-spec : {M : Type 1} → statement M
 read-digit-spec =

@@ -54,8 +54,8 @@ module _ (k : tie.After-known-told2 Inv-loop μ-loop) where
   abbrev beyond : ℕ
   beyond = k .before .g .given .0 .1 .0
 
-  next : DigitIs whole (top .loop .p) (Digit.Is digit beyond)
-  next = rw (k .before .g .given .1) at (k .before .before .before .read-digit2 .ensures)
+  digit-here : DigitIs whole (top .loop .p) (Digit.Is digit beyond)
+  digit-here = rw (k .before .g .given .1) at (k .before .before .before .read-digit2 .ensures)
 
 returns : tie.Need-returns Inv-loop μ-loop
 returns c =
@@ -87,29 +87,29 @@ returns-3 c =
     (rw (t .enum-told2 .given .1) at (d .read-digit2 .ensures)) (c .end-of-word2 .result) (c .end-of-word2 .ensures)
 
 sub-if2 : tie.Need-sub-if2 Inv-loop μ-loop
-sub-if2 c = omega (arith, next c .2)
+sub-if2 c = omega (arith, digit-here c .2)
 
 returns-4 : tie.Need-returns-4 Inv-loop μ-loop
 returns-4 c =
     let k = c .before in
     let l = top k in
-    numeral-large (whole k) (begin k) (l .loop .p) (l .loop .n) (l .loop .inv .3) (digit k) (beyond k) (l .loop .inv .0) (next k) 0
-    (omega (arith, c .if2 .taken, next k .2))
+    numeral-large (whole k) (begin k) (l .loop .p) (l .loop .n) (l .loop .inv .3) (digit k) (beyond k) (l .loop .inv .0) (digit-here k) 0
+    (omega (arith, c .if2 .taken, digit-here k .2))
 
 mul-n : tie.Need-mul-n Inv-loop μ-loop
-mul-n c = omega (arith, c .if2 .left, next (c .before) .2)
+mul-n c = omega (arith, c .if2 .left, digit-here (c .before) .2)
 
 add-n : tie.Need-add-n Inv-loop μ-loop
-add-n c = omega (arith, c .if2 .left, next (c .before) .2)
+add-n c = omega (arith, c .if2 .left, digit-here (c .before) .2)
 
 loop-less : tie.Need-loop-less Inv-loop μ-loop
-loop-less c = let d = next (c .before) in omega (arith, d .1 .on, d .1 .within)
+loop-less c = let d = digit-here (c .before) in omega (arith, d .1 .on, d .1 .within)
 
 loop-again : tie.Need-loop-again Inv-loop μ-loop
 loop-again c =
     let k = c .before in
     let l = top k in
-    let d = next k in (
+    let d = digit-here k in (
       omega (arith, l .loop .inv .0),
       omega (arith, c .if2 .left, d .2),
       omega (arith, l .loop .inv .2, d .1 .on),

@@ -24,19 +24,13 @@ module _ (l : tie.At-loop Inv-loop μ-loop) where
   abbrev start : ℕ
   start = l .before .before .args .at
 
-module _ (k : tie.After-known-told Inv-loop μ-loop) where
-  abbrev top : tie.At-loop Inv-loop μ-loop
-  top = k .before .before .before .before
+abbrev top : tie.After-known-told Inv-loop μ-loop → tie.At-loop Inv-loop μ-loop
+top k = k .before .before .before .before
 
-  -- the byte that was read, and the place after it
-  abbrev byte : ℕ
-  byte = k .before .a .given .0 .0
-
-  abbrev after : ℕ
-  after = k .before .a .given .0 .1 .0
-
-  next : NextIs (text top) (top .loop .p) (Next.Byte byte after)
-  next = rw (k .before .a .given .1) at (k .before .before .before .read-byte .ensures)
+-- the byte that was read, and the place after it
+byte-here : (k : tie.After-known-told Inv-loop μ-loop) → let l = top k in
+    NextIs (text l) (l .loop .p) (Next.Byte (k .before .a .given .0 .0) (k .before .a .given .0 .1 .0))
+byte-here k = rw (k .before .a .given .1) at (k .before .before .before .read-byte .ensures)
 
 loop-holds : tie.Need-loop-holds Inv-loop μ-loop
 loop-holds c = pass-none (c .before .args .s .now) (c .before .args .at)
@@ -51,31 +45,31 @@ returns-2 : tie.Need-returns-2 Inv-loop μ-loop
 returns-2 c =
     let k = c .before .before in
     let l = top k in
-    word-is (text l) (start l) (l .loop .p) (l .loop .inv) (byte k) (after k) (next k) (c .before .if1 .taken) (c .if2 .taken)
+    word-is (text l) (start l) (l .loop .p) (l .loop .inv) _ _ (byte-here k) (c .before .if1 .taken) (c .if2 .taken)
 
 returns-3 : tie.Need-returns-3 Inv-loop μ-loop
 returns-3 c =
     let k = c .before .before in
     let l = top k in
-    word-empty (text l) (start l) (l .loop .p) (l .loop .inv) (byte k) (after k) (next k) (c .before .if1 .taken) (c .if2 .left)
+    word-empty (text l) (start l) (l .loop .p) (l .loop .inv) _ _ (byte-here k) (c .before .if1 .taken) (c .if2 .left)
 
 returns-4 : tie.Need-returns-4 Inv-loop μ-loop
 returns-4 c =
     let a = c .before in
     let k = a .before .before in
     let l = top k in
-    word-odd (text l) (start l) (l .loop .p) (l .loop .inv) (byte k) (after k) (next k) (a .before .if1 .left)
+    word-odd (text l) (start l) (l .loop .p) (l .loop .inv) _ _ (byte-here k) (a .before .if1 .left)
     (sym (a .is-plain .ensures) ∙ not-true (a .is-plain .result) (c .if3 .taken))
 
 loop-less : tie.Need-loop-less Inv-loop μ-loop
-loop-less c = let n = next (c .before .before .before) in omega (arith, n .1 .on, n .1 .within)
+loop-less c = let n = byte-here (c .before .before .before) in omega (arith, n .1 .on, n .1 .within)
 
 loop-again : tie.Need-loop-again Inv-loop μ-loop
 loop-again c =
     let a = c .before in
     let k = a .before .before in
     let l = top k in
-    pass-next (text l) (start l) (l .loop .p) (l .loop .inv) (byte k) (after k) (next k)
+    pass-next (text l) (start l) (l .loop .p) (l .loop .inv) _ _ (byte-here k)
     (sym (a .is-plain .ensures) ∙ not-false (a .is-plain .result) (c .if3 .left))
 
 pub word-spec : {M : Type 1} → statement M

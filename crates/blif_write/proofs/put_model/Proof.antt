@@ -12,14 +12,20 @@ use Rattle.blif_write.proofs.put_model.Tie as tie
 room : (s : tie.After-slice-known) → length (s .before .args .o .now) ≤ largest
 room s = omega arith
 
--- the states of the walk: after the head, the divisors, the outputs, `.end`
+-- the states of the walk: the room after the head, and after the divisors
+abbrev headed : tie.After-put-blocks → tie.After-slice-known2
+headed d = d .before .before .before .before
+
+abbrev divided : tie.After-put-blocks2 → tie.After-slice-known3
+divided o = o .before .before .before .before
+
 returns : tie.Need-returns
 unfolding spelled
 returns c =
     let e = c .before .before in
     let o = e .before .before .before .before .before in
-    let d = o .before .before .before .before .before .before in
-    let h = d .before .before .before .before .before .before in
+    let d = divided o .before .before in
+    let h = headed d .before .before in
     let k = h .before .before .before .before in
     let from-blocks = due-next (due-all _ _ (room k) (omega arith) (model-start _ (k .before .pre))) (h .put-head .ensures) in
     due-last (due-next (due-next from-blocks (d .put-blocks .ensures)) (o .put-blocks2 .ensures)) (e .put-bytes .ensures)

@@ -22,15 +22,22 @@ abbrev μ-loop : tie.MeasureT-loop
 loop-holds : tie.Need-loop-holds Inv-loop μ-loop
 loop-holds c = (omega arith, due-all _ _ (omega arith) (omega arith) refl, refl)
 
+-- the states: the entry, the loop's head, the cube read
+abbrev start : tie.At-loop Inv-loop μ-loop → tie.Start Inv-loop μ-loop
+start h = h .before .before .before .before
+
+abbrev head : tie.After-cube-at Inv-loop μ-loop → tie.At-loop Inv-loop μ-loop
+head r = r .before .before .before
+
 put-row-requires : tie.Need-put-row-requires Inv-loop μ-loop
-put-row-requires c κs = c .before .before .before .before .before .before .before .pre
+put-row-requires c κs = start (head c) .pre
 
 loop-again : tie.Need-loop-again Inv-loop μ-loop
 loop-again c =
     let w = c .before .before in
     let r = w .before in
     let i = r .before .before in
-    let h = i .before in
+    let h = head r in
     let n = h .before .number .ensures in
     let next = due-as (h .loop .inv .1) (rows-next _ _ (h .loop .i) _ (omega (arith, n, i .loop-test .taken)) (r .cube-at .ensures)) in
     (omega arith, due-next next (w .put-row .ensures), w .put-row .kept .0 ∙ h .loop .inv .2)

@@ -8,10 +8,10 @@ use borrow.Author.Needs.{needs}
 use borrow.Author.Tests.{not-true, not-false}
 use lib.ListN.{length}
 use Rattle.sets.{specs.Word.largest, proofs.Truth.clash}
-use Rattle.blif_laws.specs.{Text.Block, Reading.sameName}
+use Rattle.blif_laws.{specs.Text.Block, specs.Reading.sameName, proofs.Standing.same-name, proofs.Standing.name-self}
 use Rattle.blif_scan.specs.Scanning.{left, labelOf}
 use Rattle.blif_form.specs.Surveying.{BlocksOf, SmallBlocks}
-use Rattle.blif_read.proofs.{Building.name-eq, Building.name-self, build.find.Statement.statement}
+use Rattle.blif_read.proofs.build.find.Statement.{statement}
 use Rattle.blif_read.proofs.Finding.{Left, left-first, left-next, left-none, found-here}
 use Rattle.blif_read.proofs.build.find.Tie as tie
 
@@ -46,7 +46,7 @@ returns-2 c =
     let p = block a in
     let s = start (head p) in
     found-here (s .args .first) (s .args .name) (c .begin .result) (p .pass .ensures .one (not-false _ (a .before .if1 .left)))
-    (name-eq _ _ (sym (a .same .ensures) ∙ c .before .if2 .taken)) (c .begin .ensures) (head p .loop .inv .1)
+    (sym (same-name _ _ (sym (a .same .ensures) ∙ c .before .if2 .taken))) (c .begin .ensures) (head p .loop .inv .1)
 
 loop-less : tie.Need-loop-less Inv-loop μ-loop
 loop-less c =

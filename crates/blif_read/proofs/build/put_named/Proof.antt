@@ -6,7 +6,7 @@ use borrow.Author.Needs.{needs}
 use lib.ListN.{length}
 use Rattle.expression.{proofs.Sorting.sort-length, proofs.Placing.placed-as}
 use Rattle.blif_read.specs.Building.{FoundIs}
-use Rattle.blif_read.proofs.Building.{one-cubes, one-found, small-in}
+use Rattle.blif_read.proofs.{Summing.one-block, Building.one-cubes, Building.small-in}
 use Rattle.blif_read.proofs.build.put_named.Statement.{statement}
 use Rattle.blif_read.proofs.build.put_named.Tie as tie
 
@@ -15,7 +15,7 @@ returns c =
     let f = c .before .before in
     let s = f .before .before .before in
     let r = subst (FoundIs (s .args .s .now) (s .args .first) (s .args .name)) (c .enum-told .given .1) (f .find .ensures) in
-    (λ m bs h k l one small room. absurd (one-found _ bs one (r m bs h k l)), omega arith)
+    (λ m bs h k l one small room. let b = one-block _ bs one in absurd (r m bs h k l (b .0) (b .1) (sym (b .2))), omega arith)
 
 returns-2 : tie.Need-returns-2
 returns-2 c =

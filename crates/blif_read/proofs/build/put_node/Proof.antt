@@ -1,6 +1,7 @@
 -- `blif_read::build::put_node` meets its contract: the variables marked are those that the block reads, its rows are put as cubes, and these are sorted.
 -- Assumes nothing.
 use mathlib.Core.Path.{_≡_, sym, ap, _∙_}
+use mathlib.Core.Bool.{true, false}
 use native.Mathlib.Omega.{arith}
 use borrow.Author.Needs.{needs}
 use borrow.Author.Tests.{not-true, not-false}
@@ -9,7 +10,7 @@ use lib.Seq.{length-take-le}
 use Rattle.network.specs.Held.{mostVariables}
 use Rattle.expression.{proofs.Words.cubes-few, proofs.Placing.placed-sort}
 use Rattle.blif_form.proofs.Blocking.{namedFor, block-blocked, block-ascends}
-use Rattle.blif_form.proofs.Passing.{names-are, names-none}
+use Rattle.blif_form.proofs.Passing.{names-by}
 use Rattle.blif_read.proofs.Putting.{padded-many, node-few, node-put}
 use Rattle.blif_read.proofs.build.put_node.Statement.{statement}
 use Rattle.blif_read.proofs.build.put_node.Tie as tie
@@ -33,7 +34,8 @@ put o = o .before .before .before .before
 returns : tie.Need-returns
 returns c =
     let n = c .before .before .before in
-    let f = names-none (start n .args .s .now) (start n .args .from) 0 _ _ (n .read-names .result) (n .read-names .ensures) (not-true _ (c .if1 .taken)) in (
+    let f = names-by false (start n .args .s .now) (start n .args .from) 0 _ _ (n .read-names .result) (n .read-names .ensures)
+    (not-true _ (c .if1 .taken)) in (
       λ m b more l d h w k.
           let o = block-blocked h in absurd (f .none (namedFor b) (o .rest) (block-ascends (h .formed) d l) (o .names)),
       omega arith,
@@ -42,7 +44,7 @@ returns c =
 returns-2 : tie.Need-returns-2
 returns-2 c =
     let n = named (c .before) in
-    let g = names-are (start n .args .s .now) (start n .args .from) 0 _ _ (n .read-names .result) (n .read-names .ensures)
+    let g = names-by true (start n .args .s .now) (start n .args .from) 0 _ _ (n .read-names .result) (n .read-names .ensures)
     (not-false _ (c .before .if1 .left)) in
     (λ m b more l d h w k. absurd (omega (arith, node-few g h w, c .if2 .taken)), omega arith)
 
@@ -54,7 +56,8 @@ returns-3 c =
     let e = few k in
     let n = named e in
     let s = start n in
-    let g = names-are (start n .args .s .now) (start n .args .from) 0 _ _ (n .read-names .result) (n .read-names .ensures) (not-false _ (e .if1 .left)) in (
+    let g = names-by true (start n .args .s .now) (start n .args .from) 0 _ _ (n .read-names .result) (n .read-names .ensures)
+    (not-false _ (e .if1 .left)) in (
       λ m b more l d h w i.
           let q = node-put g h w (k .marked .ensures) (p .put-rows .ensures) i in
           (q .0, placed-sort (q .1) (omega arith) (omega (arith, q .0)) (o .sort-part .ensures)),

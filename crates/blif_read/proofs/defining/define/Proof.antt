@@ -47,8 +47,7 @@ same-length c = head (c .before .before .before) .loop .inv .0
 returns : tie.Need-returns Inv-loop μ-loop
 returns c = λ m bs f b k.
     let p = c .before .before .before in
-    let x = head p .loop .inv .2 m bs f b k in
-    tally-done x (p .pass .ensures .none (not-true _ (c .if1 .taken)) .none m (x .rest) f (x .blocks) (x .small) .0)
+    tally-done f (head p .loop .inv .2 m bs f b k) (p .pass .ensures .none (not-true _ (c .if1 .taken)))
 
 loop-less : tie.Need-loop-less Inv-loop μ-loop
 loop-less c =
@@ -64,9 +63,7 @@ loop-again c =
     let q = p .pass .ensures .one (not-false _ (n .before .before .if1 .left)) in (
       n .mark-name .ensures .size ∙ head p .loop .inv .0,
       q .size ∙ head p .loop .inv .1,
-      λ m bs f b k.
-          let x = head p .loop .inv .2 m bs f b k in
-          tally-next _ x (q .first m (x .rest) f (x .blocks) (x .small))
+      λ m bs f b k. tally-next f (head p .loop .inv .2 m bs f b k) q
           (λ b e r. subst (λ (a : Name). Raised (entry n .args .base) (numberIf o a) (head p .loop .marks) (n .mark-name .last .1 .1 .1 .0)) e
           (n .mark-name .ensures)),
     )

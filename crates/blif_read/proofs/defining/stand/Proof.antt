@@ -36,8 +36,8 @@ returns : tie.Need-returns Inv-loop μ-loop
 returns c = λ m bs f b k.
     let p = c .before .before .before .before in
     let x = head p .loop .inv .1 m bs f b k in
-    let q = p .pass .ensures .none (not-true _ (c .if1 .taken)) .none m (x .rest) f (x .blocks) (x .small) in
-    rw (q .1) (tally-done x (q .0))
+    let q = p .pass .ensures .none (not-true _ (c .if1 .taken)) in
+    rw (q .none m (x .place .rest) f (x .place .blocks) (x .place .small) .1) (tally-done f x q)
 
 loop-less : tie.Need-loop-less Inv-loop μ-loop
 loop-less c = let p = c .before .before .before .before in
@@ -49,9 +49,7 @@ loop-again c =
     let p = c .before .before .before .before in
     let q = p .pass .ensures .one (not-false _ (c .if1 .left)) in (
       q .size ∙ head p .loop .inv .0,
-      λ m bs f b k.
-          let x = head p .loop .inv .1 m bs f b k in
-          tally-next _ x (q .first m (x .rest) f (x .blocks) (x .small)) (λ b e r. r),
+      λ m bs f b k. tally-next f (head p .loop .inv .1 m bs f b k) q (λ b e r. r),
     )
 
 pub stand-spec : {M : Type 1} → statement M
