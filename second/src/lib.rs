@@ -4,6 +4,7 @@
 
 pub mod blif;
 pub mod cokernel;
+pub mod column;
 pub mod compare;
 pub mod cubes;
 pub mod divide;
@@ -11,9 +12,11 @@ pub mod extract;
 pub mod factor;
 pub mod generate;
 pub mod image;
+pub mod line;
 pub mod map;
 pub mod network;
 pub mod protocol;
 pub mod refusal;
 pub mod report;
+pub mod spoil;
 pub mod table;

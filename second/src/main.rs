@@ -1,14 +1,16 @@
 //! Without an argument it answers the line protocol; else it generates
-//! requests, compares two programs' answers, counts what answers reach, or
-//! says what `show` and `map` of the shop's program should, or a table's BLIF.
+//! requests, spoils a table, compares two programs' answers, counts what answers
+//! reach, or says what `show` and `map` of the shop's program should, or a
+//! table's BLIF.
 
 use second::network::Network;
-use second::{blif, compare, extract, generate, image, map, protocol, report, table};
+use second::{blif, compare, extract, generate, image, map, protocol, report, spoil, table};
 use std::io::{self, BufWriter, Write};
 use std::process::ExitCode;
 
 const USAGE: &str = "second
 second generate SEED COUNT [OPERATION ...]
+second spoil TABLE [BYTE ...]
 second compare REQUESTS LEFT RIGHT
 second cover REQUESTS ANSWERS
 second show IMAGE
@@ -21,6 +23,7 @@ fn main() -> ExitCode {
     let done = match words.as_slice() {
         [] => serve(),
         ["generate", seed, count, names @ ..] => print_requests(seed, count, names),
+        ["spoil", file, bytes @ ..] => print_spoiled(file, bytes),
         ["compare", requests, left, right] => compare_files(requests, left, right),
         ["cover", requests, answers] => cover_files(requests, answers),
         ["show", file] => show_file(file),
@@ -45,9 +48,20 @@ fn print_requests(seed: &str, count: &str, names: &[&str]) -> io::Result<ExitCod
     if !names.iter().all(known) {
         return Err(io::Error::other(format!("operations are {}", generate::KINDS.join(" "))));
     }
+    print_lines(generate::requests(number(seed)?, number(count)?, names))
+}
+
+/// Every further argument is a byte in hex.
+fn print_spoiled(file: &str, bytes: &[&str]) -> io::Result<ExitCode> {
+    let byte = |text: &&str| u8::from_str_radix(text, 16).map_err(|_| io::Error::other(USAGE));
+    let bytes: Vec<u8> = bytes.iter().map(byte).collect::<io::Result<_>>()?;
+    print_lines(spoil::requests(&std::fs::read(file)?, &bytes))
+}
+
+fn print_lines(lines: impl Iterator<Item = Vec<u8>>) -> io::Result<ExitCode> {
     let mut out = BufWriter::new(io::stdout().lock());
-    for request in generate::requests(number(seed)?, number(count)?, names) {
-        out.write_all(&request)?;
+    for line in lines {
+        out.write_all(&line)?;
         out.write_all(b"\n")?;
     }
     out.flush()?;
@@ -78,7 +92,7 @@ fn show_file(file: &str) -> io::Result<ExitCode> {
 /// What is to be said of a table's network, once the program's steps are made.
 fn print_extracted(file: &str, said: fn(&Network) -> String) -> io::Result<ExitCode> {
     let read = table::read(&std::fs::read(file)?);
-    let mut network = read.map_err(|refusal| io::Error::other(format!("refused {}", refusal.number)))?;
+    let mut network = read.map_err(|refusal| io::Error::other(refusal.text()))?;
     extract::run(&mut network, report::STEPS);
     print!("{}", said(&network));
     Ok(ExitCode::SUCCESS)

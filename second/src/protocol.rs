@@ -43,7 +43,7 @@ fn respond(line: &str) -> Option<Answer> {
     let groups = groups_of(line)?;
     let (head, rest) = groups.split_first()?;
     match (head.as_slice(), rest) {
-        (["table", text], []) => Some(network_answer(table::read(&bytes_of(text)?))),
+        (["table", text], []) => Some(table_answer(table::read(&bytes_of(text)?))),
         (["divide"], [f, d, q, r]) => {
             Some(divide_answer(&numbers_of(f)?, &numbers_of(d)?, numbers_of(q)?, numbers_of(r)?))
         }
@@ -183,6 +183,14 @@ fn network_answer(result: Result<Network, Refusal>) -> Answer {
         }
         Err(refusal) => refused(refusal),
     }
+}
+
+/// A table's refusal alone says its column.
+fn table_answer(result: Result<Network, Refusal>) -> Answer {
+    let column = result.as_ref().err().map(|refusal| number_text(refusal.column));
+    let mut answer = network_answer(result);
+    answer.extend(column);
+    answer
 }
 
 fn number_answer(result: Option<u64>) -> Answer {

@@ -11,7 +11,7 @@ pub const STEPS: u64 = 64;
 pub fn report(text: &[u8]) -> String {
     let mut network = match table::read(text) {
         Ok(network) => network,
-        Err(refusal) => return format!("refused {} at line {}\n", refusal.number, refusal.line),
+        Err(refusal) => return refusal.text() + "\n",
     };
     let first = network.variables();
     let mut now = network.literal_count() as i64;

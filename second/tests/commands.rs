@@ -1,8 +1,9 @@
-//! Comparing, counting and generating.
+//! Comparing, counting, generating and spoiling.
 
 use second::compare::{compare, cover, lines_of, operation_of};
 use second::generate::{requests, KINDS};
 use second::protocol::answer;
+use second::spoil;
 
 #[test]
 fn lines_of_a_file() {
@@ -34,6 +35,8 @@ fn comparisons() {
 fn counts_of_answers() {
     let text = cover(b"read -\nread 0\nread 1\n", b"refused b 0\nno request\nrefused b 0\n");
     assert_eq!(text, "read: no request: 1, refused 11: 2\n");
+    let text = cover(b"table 2e\ntable 2f\n", b"refused 2 1 2\nrefused 2 1 1\n");
+    assert_eq!(text, "table: refused 2: 2\n");
 }
 
 #[test]
@@ -42,6 +45,18 @@ fn the_same_seed_gives_the_same_requests() {
     assert_eq!(some, requests(3, 300, &[]).collect::<Vec<_>>());
     assert_ne!(some, requests(4, 300, &[]).collect::<Vec<_>>());
     assert!(some.iter().all(|line| !line.contains(&b'\n')));
+}
+
+#[test]
+fn a_table_cut_short_and_changed() {
+    let spoiled = |text: &[u8], bytes: &[u8]| -> Vec<String> {
+        spoil::requests(text, bytes).map(|line| String::from_utf8_lossy(&line).into_owned()).collect()
+    };
+    let beginnings = ["table -", "table 2e", "table 2e65"];
+    assert_eq!(spoiled(b".e", b""), beginnings);
+    let changed = ["table 0065", "table 6565", "table 2e00", "table 2e2e"];
+    assert_eq!(spoiled(b".e", b"\0.e"), [beginnings.as_slice(), &changed].concat());
+    assert_eq!(spoiled(b"", b"\0"), ["table -"]);
 }
 
 #[test]

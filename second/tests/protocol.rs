@@ -74,7 +74,7 @@ fn the_longest_line() {
     assert!(answer(longest.as_bytes()).starts_with("ok 0 ; 10 0 0"));
     says(&format!("{longest} 0"), "no request");
     let bytes = "0a".repeat((MOST_LINE - 6) / 2);
-    says(&format!("table {bytes}"), "refused 1 0");
+    says(&format!("table {bytes}"), "refused 1 0 0");
     says(&format!("table {bytes}0a"), "no request");
 }
 
@@ -101,36 +101,36 @@ fn tables() {
 #[test]
 fn table_refusals() {
     let cases: [(&[u8], &str); 30] = [
-        (b"", "refused 5 0"),
-        (b".i 4\n.o 1\n", "refused 5 0"),
-        (b".e", "refused 2 1"),
-        (b".i 1\n.e", "refused 2 2"),
-        (b"1 1\n.i 1\n.o 1\n.e", "refused 2 1"),
-        (b".i 0", "refused 3 1"),
-        (b".i 33", "refused 3 1"),
-        (b".o 33", "refused 3 1"),
-        (b".i 000001", "refused 2 1"),
-        (b".i4", "refused 2 1"),
-        (b".i", "refused 2 1"),
-        (b".i 4 4", "refused 2 1"),
-        (b".i 1\n.i 99", "refused 2 2"),
-        (b".i 1\n.o 1\n1 0\n.o 99", "refused 2 4"),
-        (b".i 1\n.o 1\n1 0\n.p 1", "refused 2 4"),
-        (b".p 32769", "refused 3 1"),
-        (b".p 32768\n.p 32769", "refused 2 2"),
-        (b".p 32768\n.i 1\n.o 1\n.e", "refused 4 4"),
-        (b".p 1\n.e", "refused 2 2"),
-        (b".i 1\n.o 1\n.e 5", "refused 2 3"),
-        (b".i 1\n.o 1\n1 1 1", "refused 2 3"),
-        (b".i 1\n.o 1\n11", "refused 2 3"),
-        (b".i 1\n.o 1\n1 -", "refused 2 3"),
-        (b".i 1\n.o 1\n11 1", "refused 2 3"),
-        (b".i 1\n.o 1\n1 11", "refused 2 3"),
-        (b".i 1\n.o 1\n\x00\n.e", "refused 2 3"),
-        (b".i 1\n.o 1\n\x80\n.e", "refused 2 3"),
-        (b".i 1\n.o 1\n1\x0b1\n.e", "refused 2 3"),
-        (b"\n\n.type fd\n", "refused 2 3"),
-        (b".i 1\n\n#\n.o 1\n.en", "refused 2 5"),
+        (b"", "refused 5 0 0"),
+        (b".i 4\n.o 1\n", "refused 5 0 0"),
+        (b".e", "refused 2 1 1"),
+        (b".i 1\n.e", "refused 2 2 1"),
+        (b"1 1\n.i 1\n.o 1\n.e", "refused 2 1 1"),
+        (b".i 0", "refused 3 1 4"),
+        (b".i 33", "refused 3 1 4"),
+        (b".o 33", "refused 3 1 4"),
+        (b".i 000001", "refused 2 1 9"),
+        (b".i4", "refused 2 1 3"),
+        (b".i", "refused 2 1 3"),
+        (b".i 4 4", "refused 2 1 6"),
+        (b".i 1\n.i 99", "refused 2 2 1"),
+        (b".i 1\n.o 1\n1 0\n.o 99", "refused 2 4 1"),
+        (b".i 1\n.o 1\n1 0\n.p 1", "refused 2 4 1"),
+        (b".p 32769", "refused 3 1 4"),
+        (b".p 32768\n.p 32769", "refused 2 2 1"),
+        (b".p 32768\n.i 1\n.o 1\n.e", "refused 4 4 1"),
+        (b".p 1\n.e", "refused 2 2 1"),
+        (b".i 1\n.o 1\n.e 5", "refused 2 3 4"),
+        (b".i 1\n.o 1\n1 1 1", "refused 2 3 5"),
+        (b".i 1\n.o 1\n11", "refused 2 3 2"),
+        (b".i 1\n.o 1\n1 -", "refused 2 3 3"),
+        (b".i 1\n.o 1\n11 1", "refused 2 3 2"),
+        (b".i 1\n.o 1\n1 11", "refused 2 3 4"),
+        (b".i 1\n.o 1\n\x00\n.e", "refused 2 3 1"),
+        (b".i 1\n.o 1\n\x80\n.e", "refused 2 3 1"),
+        (b".i 1\n.o 1\n1\x0b1\n.e", "refused 2 3 2"),
+        (b"\n\n.type fd\n", "refused 2 3 2"),
+        (b".i 1\n\n#\n.o 1\n.en", "refused 2 5 4"),
     ];
     for (text, expected) in cases {
         assert_eq!(table(text), expected, "{}", String::from_utf8_lossy(text));
@@ -145,15 +145,15 @@ fn table_limits() {
         table(format!(".i 1\n.o 32\n{all}{more}.e").as_bytes())
     };
     assert!(rows(32, "").starts_with("ok ; 1 20 0 ; 1 1 "));
-    assert_eq!(rows(32, &format!("1 {}1\n", "0".repeat(31))), "refused 6 23");
+    assert_eq!(rows(32, &format!("1 {}1\n", "0".repeat(31))), "refused 6 23 22");
     assert!(rows(32, &format!("1 {}\n", "0".repeat(32))).starts_with("ok"));
     let good = b".i 1\n.o 1\n.e\n".to_vec();
     let padded = |whole: usize| [good.clone(), vec![b'x'; whole - good.len()]].concat();
     assert_eq!(table(&padded(65_536)), "ok ; 1 1 0 ; 0 ;");
-    assert_eq!(table(&padded(65_537)), "refused 1 0");
+    assert_eq!(table(&padded(65_537)), "refused 1 0 0");
     let inputs = |n: usize| table(format!(".i {n}\n.o 1\n{} 1\n.e", "1".repeat(n)).as_bytes());
     assert_eq!(inputs(32), "ok ; 20 1 0 ; 1 ; ffffffff 0");
-    assert_eq!(inputs(33), "refused 3 1");
+    assert_eq!(inputs(33), "refused 3 1 4");
 }
 
 #[test]
@@ -326,7 +326,7 @@ fn image_sums_come_after_the_end_and_before_the_order() {
 
 #[test]
 fn reports() {
-    says("report -", &format!("ok ; {}", bytes_text(b"refused 5 at line 0\n")));
+    says("report -", &format!("ok ; {}", bytes_text(b"refused 5 at line 0 column 0\n")));
     let table = bytes_text(b".i 1\n.o 1\n.e");
     says(&format!("report {table}"), &format!("ok ; {}", bytes_text(b"start 0\nend 0 done\n")));
 }

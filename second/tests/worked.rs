@@ -124,9 +124,9 @@ fn reports_of_pairs_parts_and_refusals() {
     assert_eq!(report(pair), "start 9\nx5 = x0*x1 weight 1 now 8\nend 8 done\n");
     let parts = b".i 6\n.o 1\n11--1- 1\n--001- 1\n11---1 1\n--00-1 1\n.e";
     assert_eq!(report(parts), "start 12\nx6 = x0*x1 + x2'*x3' weight 4 now 8\nend 8 done\n");
-    assert_eq!(report(b".i 4\n.o 1\n1-1 1\n.e"), "refused 2 at line 3\n");
-    assert_eq!(report(b""), "refused 5 at line 0\n");
-    assert_eq!(report(&[b'#'; 65_537]), "refused 1 at line 0\n");
+    assert_eq!(report(b".i 4\n.o 1\n1-1 1\n.e"), "refused 2 at line 3 column 4\n");
+    assert_eq!(report(b""), "refused 5 at line 0 column 0\n");
+    assert_eq!(report(&[b'#'; 65_537]), "refused 1 at line 0 column 0\n");
 }
 
 #[test]

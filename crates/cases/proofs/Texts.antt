@@ -13,6 +13,7 @@ use Rattle.extract_laws.specs.Run.{roomFor, choose, moveOf, prepare, runFrom, i
 use Rattle.table_lines.specs.Text.{linesOf, uncommented, trimFront, trimEnd}
 use Rattle.table_kinds.specs.Kinds.{numberOf, argument, named, kindOf}
 use Rattle.table_rows.specs.Lines.{cubeLineOf, cubeFrom}
+use Rattle.table_columns.specs.{Forms.front, Forms.reach, Forms.farthest, Columns.placeIn, Columns.placeOf}
 use Rattle.table.specs.Table.{setWide, setTall, setStated, finish, readLine, readLines, readText, tableNet}
 use Rattle.report.specs.Report.{divisorText, integer, stepLine, stepLines, stopText, runText, refusalText, ranText, outcomeText, reportOf}
 use Rattle.cases.specs.Texts.{Example, row, bytesOf, isPrinted, Prints, printedForms}
@@ -25,6 +26,7 @@ texts-hold = unfold
     small useOf swap rewrite allUses basesLiterals weight pairsIn smallerFirst sumOf sumsIn candidates sooner better bestOf best
     nextFree roomFor choose moveOf prepare runFrom inOrder run cubesAt
     linesOf uncommented trimFront trimEnd numberOf argument named kindOf cubeLineOf cubeFrom
+    front reach farthest placeIn placeOf
     setWide setTall setStated finish readLine readLines readText tableNet
     divisorText integer stepLine stepLines stopText runText refusalText ranText outcomeText reportOf
     in refl

@@ -22,8 +22,8 @@ pub data Printed : Type 0 where
   step : ℕ → Divisor → ℤ → ℕ → Printed
   -- a run of no step: the literals, and the reason to stop
   idle : ℕ → Stop → Printed
-  -- a refusal: its number and line
-  refusal : ℕ → ℕ → Printed
+  -- a refusal: its number, line and column
+  refusal : ℕ → ℕ → ℕ → Printed
   -- the report on a table text
   report : String → Printed
 
@@ -33,7 +33,7 @@ bytesOf (divisor d) = divisorText d
 bytesOf (weighing w) = integer w
 bytesOf (step v d w l) = stepLine v d w (pos l)
 bytesOf (idle l r) = runText l [] l r
-bytesOf (refusal k l) = refusalText (record { number = k; line = l })
+bytesOf (refusal k l c) = refusalText (record { number = k; line = l; column = c })
 bytesOf (report t) = reportOf (spelled t)
 
 pub data Example : Type 0 where
@@ -77,10 +77,32 @@ printedForms =
     ∷ row (idle 8 asked) "start 8\nend 8 asked\n"
     ∷ row (idle 8 numbers) "start 8\nend 8 numbers\n"
     ∷ row (idle 8 rows) "start 8\nend 8 rows\n"
-    ∷ row (refusal 2 3) "refused 2 at line 3\n"
-    ∷ row (refusal 13 0) "refused 13 at line 0\n"
+    ∷ row (refusal 2 3 7) "refused 2 at line 3 column 7\n"
+    ∷ row (refusal 5 0 0) "refused 5 at line 0 column 0\n"
     -- whole reports: the paper's example, and a refusal alone
     ∷ row (report ".i 4\n.o 1\n1-1- 1\n1--1 1\n-11- 1\n-1-1 1\n.e\n") "start 8\nx4 = x0 + x1 weight 2 now 6\nend 6 done\n"
-    ∷ row (report ".i 4\n.o 1\n1-1-\n.e\n") "refused 2 at line 3\n"
-    ∷ row (report "") "refused 5 at line 0\n"
+    ∷ row (report ".i 4\n.o 1\n1-1-\n.e\n") "refused 2 at line 3 column 5\n"
+    ∷ row (report "") "refused 5 at line 0 column 0\n"
+    -- columns: the first byte that no good line could hold there
+    ∷ row (report ".i 1 2\n") "refused 2 at line 1 column 6\n"
+    ∷ row (report ".e x\n") "refused 2 at line 1 column 4\n"
+    ∷ row (report ".i 4\n.o 2\n0101 11 1\n") "refused 2 at line 3 column 9\n"
+    ∷ row (report ".i 123456\n") "refused 2 at line 1 column 9\n"
+    ∷ row (report ".i4\n") "refused 2 at line 1 column 3\n"
+    ∷ row (report ".i 4\n.o 1\n01 1\n") "refused 2 at line 3 column 3\n"
+    ∷ row (report ".i 4\n.i 4x\n") "refused 2 at line 2 column 5\n"
+    -- a line that merely ends too soon: its length plus 1, counted before comment and blanks come off
+    ∷ row (report ".en\n") "refused 2 at line 1 column 4\n"
+    ∷ row (report ".\n") "refused 2 at line 1 column 2\n"
+    ∷ row (report ".i 4\n.o 1\n01  #\n") "refused 2 at line 3 column 6\n"
+    -- a cube line is good only where `.i` and `.o` are known
+    ∷ row (report "0101 1\n") "refused 2 at line 1 column 1\n"
+    ∷ row (report ".i 4\n -101 1\n") "refused 2 at line 2 column 2\n"
+    -- repeated, too late, `.e` with 2: the first byte that isn't blank
+    ∷ row (report ".i 4\n  .i 4\n") "refused 2 at line 2 column 3\n"
+    ∷ row (report ".i 1\n.o 1\n1 1\n .p 1\n") "refused 2 at line 4 column 2\n"
+    ∷ row (report ".i 4\n .e\n") "refused 2 at line 2 column 2\n"
+    -- 3: the first digit; 4: the point of `.e`
+    ∷ row (report " .i  33\n") "refused 3 at line 1 column 6\n"
+    ∷ row (report ".i 1\n.o 1\n.p 2\n1 1\n  .e\n") "refused 4 at line 5 column 3\n"
     ∷ []

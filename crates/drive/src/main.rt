@@ -14,7 +14,7 @@ use letters::Wrote;
 use libc::STDIN_FILENO;
 use network::Network;
 use table::Answer;
-use wire::Told;
+use table::Refusal;
 
 // What has come of the present line: how much, and whether it is too long to be one.
 struct Coming {
@@ -24,11 +24,10 @@ struct Coming {
 
 // ---- operations on bytes
 
-fn read(a: Answer) -> Told {
-    match a {
-        Answer::Read => wire::found(0),
-        Answer::Refused(q) => wire::refused(q.number, q.line),
-    }
+// Refused by number, at a line and a column.
+fn put_refusal(out: &mut [u8], q: Refusal) -> usize {
+    let at = wire::put_told(out, wire::refused(q.number, q.line));
+    wire::put_number(out, at, q.column as u64)
 }
 
 // `table BYTES`
@@ -36,7 +35,10 @@ fn on_table(text: &[u8], out: &mut [u8]) -> usize {
     let t = table::read(text);
     let answer = t.answer;
     let network = t.network;
-    nets::put_handed(out, read(answer), network)
+    match answer {
+        Answer::Read => nets::put_handed(out, wire::found(0), network),
+        Answer::Refused(q) => put_refusal(out, q),
+    }
 }
 
 // Bytes that every report fits.

@@ -38,7 +38,7 @@ weightWord = 32 ∷ 119 ∷ 101 ∷ 105 ∷ 103 ∷ 104 ∷ 116 ∷ 32 ∷ []
 abbrev pub nowWord : List ℕ
 nowWord = 32 ∷ 110 ∷ 111 ∷ 119 ∷ 32 ∷ []
 
--- `start `, `end `, `refused `, ` at line `
+-- `start `, `end `, `refused `, ` at line `, ` column `
 abbrev pub startWord : List ℕ
 startWord = 115 ∷ 116 ∷ 97 ∷ 114 ∷ 116 ∷ 32 ∷ []
 
@@ -50,6 +50,9 @@ refusedWord = 114 ∷ 101 ∷ 102 ∷ 117 ∷ 115 ∷ 101 ∷ 100 ∷ 32 ∷ []
 
 abbrev pub lineWord : List ℕ
 lineWord = 32 ∷ 97 ∷ 116 ∷ 32 ∷ 108 ∷ 105 ∷ 110 ∷ 101 ∷ 32 ∷ []
+
+abbrev pub columnWord : List ℕ
+columnWord = 32 ∷ 99 ∷ 111 ∷ 108 ∷ 117 ∷ 109 ∷ 110 ∷ 32 ∷ []
 
 -- ---- each text in the order in which it is written
 
@@ -94,7 +97,8 @@ pub run-start : (a : ℕ) (l : List Made) (e : ℕ) (r : Stop)
 unfolding runText
 run-start a l e r = refl
 
-pub refusal-start : (q : Refusal) → refusalText q ≡ field refusedWord (q .number) ++ (field lineWord (q .line) ++ lineEnd)
+pub refusal-start : (q : Refusal)
+    → refusalText q ≡ field refusedWord (q .number) ++ (field lineWord (q .line) ++ (field columnWord (q .column) ++ lineEnd))
 unfolding refusalText
 refusal-start q = refl
 

@@ -39,6 +39,7 @@ unfolding stopText spelled
 stop-printed = (refl, refl, refl, refl)
 
 pub refusal-printed : (q : Refusal)
-    → refusalText q ≡ spelled "refused " ++ (decimal (q .number) ++ (spelled " at line " ++ (decimal (q .line) ++ spelled "\n")))
+    → refusalText q ≡ spelled "refused " ++ (decimal (q .number) ++
+    (spelled " at line " ++ (decimal (q .line) ++ (spelled " column " ++ (decimal (q .column) ++ spelled "\n")))))
 unfolding refusalText spelled
 refusal-printed q = refl

@@ -43,10 +43,11 @@ unfoldable pub runText : ℕ → List Made → ℕ → Stop → List ℕ
 runText start steps end stop =
     115 ∷ 116 ∷ 97 ∷ 114 ∷ 116 ∷ 32 ∷ (decimal start ++ (10 ∷ (stepLines steps ++ (101 ∷ 110 ∷ 100 ∷ 32 ∷ (decimal end ++ stopText stop)))))
 
--- `refused 2 at line 3`
+-- `refused 2 at line 3 column 7`
 unfoldable pub refusalText : Refusal → List ℕ
 refusalText q =
-    114 ∷ 101 ∷ 102 ∷ 117 ∷ 115 ∷ 101 ∷ 100 ∷ 32 ∷ (decimal (q .number) ++ (32 ∷ 97 ∷ 116 ∷ 32 ∷ 108 ∷ 105 ∷ 110 ∷ 101 ∷ 32 ∷ (decimal (q .line) ++ (10 ∷ []))))
+    114 ∷ 101 ∷ 102 ∷ 117 ∷ 115 ∷ 101 ∷ 100 ∷ 32 ∷ (decimal (q .number) ++ (32 ∷ 97 ∷ 116 ∷ 32 ∷ 108 ∷ 105 ∷ 110 ∷ 101 ∷ 32 ∷
+    (decimal (q .line) ++ (32 ∷ 99 ∷ 111 ∷ 108 ∷ 117 ∷ 109 ∷ 110 ∷ 32 ∷ (decimal (q .column) ++ (10 ∷ []))))))
 
 -- a run on a network: the count at the end is over the network that is left
 unfoldable pub ranText : Net → Result → List ℕ

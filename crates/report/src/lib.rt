@@ -130,15 +130,17 @@ fn put_run(o: &mut [u8], f: Findings) -> usize
     put_stop(o, s, stop)
 }
 
-// `refused 2 at line 3`.
+// `refused 2 at line 3 column 7`.
 fn put_refusal(o: &mut [u8], refusal: Refusal) -> usize
     ensures { λ r. ⌜ Laid (now (o .entry)) (now (o .exit)) 0 r (refusalText refusal) ⌝ }
 {
     let number = refusal.number as u64;
     let line = refusal.line as u64;
+    let column = refusal.column as u64;
     let p = put_field(o, 0, b"refused ", number);
     let q = put_field(o, p, b" at line ", line);
-    letters::put(o, q, b'\n')
+    let r = put_field(o, q, b" column ", column);
+    letters::put(o, r, b'\n')
 }
 
 // What was found, as far as there is room, and its length.

@@ -1,4 +1,4 @@
-// What is written to standard output, with the column after it, and complaints. Safety and an end are all that is promised.
+// What is written to standard output, with the column after it, and to standard error. Safety and an end are all that is promised.
 use libc::STDERR_FILENO;
 use libc::STDOUT_FILENO;
 use std::num;
@@ -97,26 +97,56 @@ pub fn print(text: &[u8]) {
     say(STDOUT_FILENO, text);
 }
 
-// `refused 2 at line 3`.
-pub fn refuse(number: u32, line: u32) {
+fn put_refusal(number: u32, line: u32) {
     put_labelled(0, b"refused ", number as u64);
     put_labelled(0, b" at line ", line as u64);
+}
+
+// `refused 12 at line 0`: an image, a BLIF text or a network.
+pub fn refuse(number: u32, line: u32) {
+    put_refusal(number, line);
     new();
 }
 
-// ---- complaints
-
-// What is wrong with the thing named, to standard error.
-pub fn complain(name: &[u8], text: &[u8]) {
-    io::write_all(STDERR_FILENO, b"spindle: ");
-    io::write_all(STDERR_FILENO, name);
-    io::write_all(STDERR_FILENO, text);
-    io::write_all(STDERR_FILENO, b"\n");
+// `refused 2 at line 3 column 7`.
+pub fn refuse_table(number: u32, line: u32, column: usize) {
+    put_refusal(number, line);
+    put_labelled(0, b" column ", column as u64);
+    new();
 }
 
-// A call on the thing named has failed: errno's words, to standard error.
+// ---- complaints: each of these writes to standard error
+
+pub fn tell(text: &[u8]) {
+    io::write_all(STDERR_FILENO, text);
+}
+
+pub fn tell_byte(b: u8) {
+    let text = [b];
+    tell(&text);
+}
+
+// A number in decimal.
+pub fn tell_number(x: u64) {
+    io::print_decimal(STDERR_FILENO, x);
+}
+
+// A number after the text.
+pub fn tell_labelled(text: &[u8], x: u64) {
+    tell(text);
+    tell_number(x);
+}
+
+// What is wrong with the thing named.
+pub fn complain(name: &[u8], text: &[u8]) {
+    tell(b"spindle: ");
+    tell(name);
+    say(STDERR_FILENO, text);
+}
+
+// A call on the thing named has failed: errno's words.
 pub fn fail(name: &[u8]) {
-    io::write_all(STDERR_FILENO, b"spindle: ");
+    tell(b"spindle: ");
     if name.len() == 0 {
         os::fail(b"an empty name");
         return;

@@ -1,5 +1,7 @@
 // The shop's program: reports, images, BLIF texts, and the dispatcher's map. Safety and an end are all that is promised here; what a
 // table, an image or a text answers is promised by the crates that are called.
+mod before;
+mod fault;
 mod file;
 mod form;
 mod help;
@@ -7,12 +9,14 @@ mod line;
 mod map;
 mod node;
 mod show;
+mod shown;
 
 use letters::Wrote;
 use libc::STDERR_FILENO;
 use libc::STDOUT_FILENO;
 use network::Handed;
 use network::Network;
+use table::Refusal;
 
 // Room for any file: a byte more than the longest image whose fields are each in range, and than any table. A BLIF text has no
 // longest length: one that fills it is not read.
@@ -50,11 +54,28 @@ fn with(network: Network) -> Loaded {
     Loaded { ok: true, network }
 }
 
-// A refusal, printed.
-fn refused(number: u32, line: u32) -> Loaded {
-    line::refuse(number, line);
+fn without() -> Loaded {
     let network = network::blank();
     Loaded { ok: false, network }
+}
+
+// A refusal, printed.
+fn refused(number: u32) -> Loaded {
+    line::refuse(number, 0);
+    without()
+}
+
+// ---- refused tables
+
+fn explain(path: &[u8], text: &[u8], q: Refusal) {
+    fault::explain(path, text, q.number, q.line, q.column);
+}
+
+// A table's refusal, printed and explained.
+fn refused_table(path: &[u8], text: &[u8], q: Refusal) -> Loaded {
+    line::refuse_table(q.number, q.line, q.column);
+    explain(path, text, q);
+    without()
 }
 
 // ---- reports
@@ -63,29 +84,53 @@ fn print_front(page: &[u8], n: usize) {
     line::put_front(0, page, n);
 }
 
-fn print_report(text: &[u8]) {
+// The table is read again, for its refusal.
+fn explain_report(path: &[u8], text: &[u8]) {
+    let t = table::read(text);
+    let answer = t.answer;
+    if let table::Answer::Refused(q) = answer {
+        explain(path, text, q);
+    }
+}
+
+// A page of a refused table begins with `refused`, any other with `start`.
+fn is_refusal(page: &[u8]) -> bool {
+    if page.len() == 0 {
+        return false;
+    }
+    page[0] == b'r'
+}
+
+fn print_page(path: &[u8], text: &[u8], page: &[u8], n: usize) {
+    print_front(page, n);
+    if is_refusal(page) {
+        explain_report(path, text);
+    }
+}
+
+fn print_report(path: &[u8], text: &[u8]) {
     let mut room = [0u8; 16384];
     let a = report::report(text, &mut room);
     match a {
-        Wrote::Bytes(n) => print_front(&room, n),
-        Wrote::Refused(k) => line::refuse(k, 0),
+        Wrote::Bytes(n) => print_page(path, text, &room, n),
+        Wrote::Refused(k) => line::refuse_table(k, 0, 0),
     }
 }
 
 // ---- networks
 
 // The network of a table after its steps; a refusal is printed.
-fn extracted(text: &[u8]) -> Loaded {
+fn extracted(path: &[u8], text: &[u8]) -> Loaded {
     let t = table::read(text);
     let answer = t.answer;
     if let table::Answer::Refused(q) = answer {
-        return refused(q.number, q.line);
+        return refused_table(path, text, q);
     }
     let read = t.network;
     let r = extract::run(read, report::ASKED);
     let stop = r.answer;
     if let extract::Answer::Refused(k) = stop {
-        return refused(k, 0);
+        return refused(k);
     }
     let network = r.network;
     with(network)
@@ -95,7 +140,7 @@ fn extracted(text: &[u8]) -> Loaded {
 fn handed(h: Handed) -> Loaded {
     let answer = h.answer;
     if let expression::Verdict::Refused(k) = answer {
-        return refused(k, 0);
+        return refused(k);
     }
     let network = h.network;
     with(network)
@@ -210,9 +255,9 @@ fn on_loaded(c: Command, l: Loaded, word: &[u8], text: &[u8]) {
     }
 }
 
-fn on_kind(c: Command, k: Kind, bytes: &[u8], word: &[u8]) {
+fn on_kind(c: Command, k: Kind, bytes: &[u8], path: &[u8], word: &[u8]) {
     match k {
-        Kind::Table => on_loaded(c, extracted(bytes), word, bytes),
+        Kind::Table => on_loaded(c, extracted(path, bytes), word, bytes),
         Kind::Image => on_loaded(c, handed(image_read::read(bytes)), word, b""),
         Kind::Blif => on_loaded(c, handed(blif_read::read(bytes)), word, b""),
     }
@@ -228,7 +273,7 @@ fn is_whole(k: Kind, bytes: &[u8]) -> bool {
 
 fn on_whole(c: Command, k: Kind, bytes: &[u8], path: &[u8], word: &[u8]) {
     if is_whole(k, bytes) {
-        on_kind(c, k, bytes, word);
+        on_kind(c, k, bytes, path, word);
         return;
     }
     line::complain(path, b": a BLIF text so long is not read");
@@ -236,17 +281,26 @@ fn on_whole(c: Command, k: Kind, bytes: &[u8], path: &[u8], word: &[u8]) {
 
 fn on_bytes(c: Command, bytes: &[u8], path: &[u8], word: &[u8]) {
     if let Command::Report = c {
-        print_report(bytes);
+        print_report(path, bytes);
         return;
     }
     on_whole(c, kind_for(c, kind_of(bytes)), bytes, path, word);
+}
+
+// Complaints name standard input so.
+fn on_read(c: Command, bytes: &[u8], path: &[u8], word: &[u8]) {
+    if check::same(path, b"-") {
+        on_bytes(c, bytes, b"standard input", word);
+        return;
+    }
+    on_bytes(c, bytes, path, word);
 }
 
 fn file_into(c: Command, path: &[u8], word: &[u8], room: &mut [u8]) {
     let got = file::read(path, room);
     let n = got.count;
     if got.ok {
-        on_bytes(c, &room[0..n], path, word);
+        on_read(c, &room[0..n], path, word);
     }
 }
 

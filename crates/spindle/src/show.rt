@@ -2,7 +2,6 @@
 use crate::form;
 use crate::line;
 use crate::node;
-use libc::STDERR_FILENO;
 use network::Network;
 use network::Number;
 use std::num;
@@ -66,9 +65,8 @@ pub fn show(n: Network) {
 
 // How many characters a setting needs, to standard error.
 fn complain(inputs: usize) {
-    io::write_all(STDERR_FILENO, b"spindle: the setting needs ");
-    io::print_decimal(STDERR_FILENO, inputs as u64);
-    io::write_all(STDERR_FILENO, b" characters, each 0 or 1, input 0 first\n");
+    line::tell_labelled(b"spindle: the setting needs ", inputs as u64);
+    line::tell(b" characters, each 0 or 1, input 0 first\n");
 }
 
 fn print_answer(j: usize, is_on: bool) {

@@ -16,7 +16,8 @@ use Rattle.expression.proofs.Absorbing.{absorbed-sub, absorbed-covers, absorbed
 use Rattle.expression.proofs.Sorting.{sort-in, sort-out, loose-flip}
 use Rattle.network.specs.{Net.Net, Held.netOf}
 use Rattle.table_rows.specs.Lines.{CubeLine, cubeOf}
-use Rattle.table.specs.Table.{cubesFor, outputFor, tableNet, orZero, readText}
+use Rattle.table_columns.specs.Columns.{orZero}
+use Rattle.table.specs.Table.{cubesFor, outputFor, tableNet, readText}
 use Rattle.table.specs.{Written.outputsOf, Written.cubeLinesOf, Answers.Told, Rows.RowOf, Rows.NotDropped}
 use Rattle.table.specs.declared.{Answer.the-variants.Read, Table.Table}
 use Rattle.table.proofs.Outputs.{cubes-are, output-form, net-output}

@@ -9,7 +9,8 @@ use borrow.Author.Tests.{le-leb}
 use Rattle.sets.proofs.Lists.{_∈_, total-append}
 use Rattle.network.specs.Held.{mostInputs, mostOutputs, upTo}
 use Rattle.table_rows.{specs.Lines.CubeLine, specs.Lines.rowsIn, specs.Meaning.LineOf, proofs.Writing.line-shaped}
-use Rattle.table.specs.Table.{State, orZero, start}
+use Rattle.table_columns.specs.Columns.{orZero}
+use Rattle.table.specs.Table.{State, start}
 use Rattle.table.specs.Meaning.{Bounded, Timely, Goes, blank, inputs, outputs, products, cube, Reads, nothing, line}
 
 pub start-bounded : Bounded start

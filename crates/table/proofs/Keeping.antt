@@ -16,7 +16,8 @@ use Rattle.network.specs.Meaning.{Through, itself, others}
 use Rattle.network.specs.Held.{mostLiterals, numbered, netOf, rules}
 use Rattle.network.{specs.declared.Number.the-variants.Is, proofs.Evaluating.evaluate-past, proofs.Handing.holds-net, proofs.Ruling.holds-lawful}
 use Rattle.table_rows.specs.Lines.{CubeLine}
-use Rattle.table.specs.Table.{mostRows, State, cubesFor, outputFor, tableNet, orZero, accepted, readText}
+use Rattle.table_columns.specs.Columns.{orZero}
+use Rattle.table.specs.Table.{mostRows, State, cubesFor, outputFor, tableNet, accepted, readText}
 use Rattle.table.specs.Written.{inputsOf, outputsOf, cubeLinesOf, someCovers}
 use Rattle.table.specs.{Answers.Told, Meaning.Complete, Meaning.Says, declared.Answer.the-variants.Read}
 use Rattle.table.specs.declared.Table.{Table}

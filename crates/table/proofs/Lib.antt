@@ -2,7 +2,9 @@ pub mod Picking
 pub mod Building
 pub mod Reasons
 pub mod Going
+pub mod Pointing
 pub mod Refusals
+pub mod Numbering
 pub mod Writing
 pub mod Standing
 pub mod Adding

@@ -12,8 +12,9 @@ use Rattle.sets.{specs.Masks.bit, specs.Masks.packed, proofs.Truth.clash, proof
 use Rattle.sets.proofs.Lists.{_∈_, keep-keep, total-cong, total-sum, total-times, total-map, map-cong}
 use Rattle.expression.specs.{Words.cubesOf, Expression.sort, Expression.absorbed}
 use Rattle.table_rows.specs.Lines.{CubeLine, rowsIn, cubeOf}
+use Rattle.table_columns.specs.Columns.{orZero}
 use Rattle.table.specs.Table as table
-use Rattle.table.specs.Table.{mostRows, cubesFor, outputFor, tableNet, orZero}
+use Rattle.table.specs.Table.{mostRows, cubesFor, outputFor, tableNet}
 use Rattle.table.specs.{Meaning.Complete, declared.State.State}
 use Rattle.table.specs.Parts.{picked, pick, marked, Stands, formed, Buildable, netFrom}
 

@@ -18,8 +18,9 @@ use Rattle.network.specs.{Listing.listMore, Listing.listing, Evaluation.settle,
 use Rattle.network.proofs.Evaluating.{evaluate-bit}
 use Rattle.table_rows.specs.Lines.{CubeLine, cubeFrom, cubeOf, covers}
 use Rattle.table_rows.proofs.Covering.{covers-value, from-bounds, from-asc, from-proper}
-use Rattle.table.specs.Table.{State, cubesFor, outputFor, tableNet, orZero}
+use Rattle.table.specs.Table.{State, cubesFor, outputFor, tableNet}
 use Rattle.table_rows.specs.Meaning.{LineOf}
+use Rattle.table_columns.specs.Columns.{orZero}
 use Rattle.table.specs.{Written.someCovers, Meaning.Complete}
 
 -- ---- the cubes of an output

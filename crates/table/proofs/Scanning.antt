@@ -17,13 +17,13 @@ use Rattle.table_kinds.specs.Kinds.{kindOf}
 use Rattle.table_lines.proofs.Lining.{lines-next, lines-last, line-part, line-ends, line-after}
 use Rattle.table_lines.proofs.Spans.{part-front, span-inside, span-content}
 use Rattle.table.specs.Table as table
-use Rattle.table.specs.Table.{mostBytes, mostRows, start, byKind, readLine, readLines, readText}
+use Rattle.table.specs.Table.{mostBytes, mostRows, start, byKind, readLine, readLines, readText, columnAt}
 use Rattle.table.specs.{Meaning.Bounded, declared.State.State, declared.Turn.Turn, declared.Refusal.Refusal}
-use Rattle.table.specs.Parts.{Stands, LineTurned, Leaves, Roomy, linesFrom, stoppedAt, Scans}
+use Rattle.table.specs.Parts.{Stands, LineTurned, Leaves, Roomy, linesFrom, columnBy, stoppedAt, Scans}
 use Rattle.table.specs.declared.Turn.the-variants.{Next, Done, Refused}
 use Rattle.table.specs.declared.Answer.the-variants as answer
 use Rattle.table.specs.{declared.Scanned.Scanned, declared.Table.Table, Answers.Told}
-use Rattle.table.proofs.{Marking.marked-few, Reasons.next-iff}
+use Rattle.table.proofs.{Marking.marked-few, Reasons.next-iff, Standing.column-same}
 use Rattle.table.proofs.Going.{start-bounded, goes-bounded, goes-more}
 use Rattle.table.proofs.Refusals.{lines-turn, lines-end, text-lines}
 
@@ -95,10 +95,13 @@ reading-first text words marks = record {
 }
 
 module _ {text words marks : List ℕ} {s : State} {line at : ℕ} (r : Reading text words marks s line at) where
+  pub reading-rows : s .rows ≤ mostRows
+  reading-rows = omega (arith, r .stands .rows, r .good .rows)
+
   pub reading-roomy : at ≤ mostBytes → length (cubesOf words) ≡ mostRows → length marks ≡ mostRows → Roomy s words marks
   reading-roomy h p q = record {
     kept = omega (arith, r .stands .kept, r .stands .rows, marked-few (r .now .lines));
-    rows = omega (arith, r .stands .rows, r .good .rows);
+    rows = reading-rows;
     lines = omega (arith, r .stands .lines, r .few);
     places = p;
     masks = q;
@@ -106,9 +109,9 @@ module _ {text words marks : List ℕ} {s : State} {line at : ℕ} (r : Reading 
 
   -- no line is left
   pub reading-over : length text < at → Scans (readLines 1 (linesOf text) start)
-      (record { answer = answer.Refused (record { number = 5; line = 0 }); state = s }) words marks
+      (record { answer = answer.Refused (record { number = 5; line = 0; column = 0 }); state = s }) words marks
   reading-over h =
-      let e : readLines 1 (linesOf text) start ≡ table.refusedAt 5 0 =
+      let e : readLines 1 (linesOf text) start ≡ table.refusedAt 5 0 0 =
       sym (r .left) ∙ ap (λ (l : List (List ℕ)). readLines line l (r .now)) (from-over text at h) ∙ lines-end line (r .now) in
       rw e
 
@@ -142,7 +145,8 @@ module _ {text words marks : List ℕ} {s : State} {line at : ℕ} (r : Reading 
         go (table.refuse n) y z = absurd z
 
     -- a line that does not go on gives the outcome
-    pub reading-stop : ((s' : State) → p ≡ Next s' → ⊥) → Scans (readLines 1 (linesOf text) start) (stoppedAt p line s) words' marks'
+    pub reading-stop : ((s' : State) → p ≡ Next s' → ⊥)
+        → Scans (readLines 1 (linesOf text) start) (stoppedAt p (take (e - at) (drop at text)) line s) words' marks'
     reading-stop f = go (readLine here (r .now)) refl p refl turned
       where
         came : {x : table.Turn} → readLine here (r .now) ≡ x → readLines 1 (linesOf text) start
@@ -150,19 +154,23 @@ module _ {text words marks : List ℕ} {s : State} {line at : ℕ} (r : Reading 
               | table.next t ↦ readLines (suc line)
                   (linesFrom text (e + 1)) t
               | table.done t ↦ table.accepted t
-              | table.refuse n ↦ table.refusedAt n line
+              | table.refuse n ↦ table.refusedAt n line (columnAt (r .now) here n)
             ]
         came y = sym whole ∙ lines-turn line here (linesFrom text (e + 1)) (r .now) y
 
+        columns : {n m : ℕ} → n ≡ m → columnBy s (take (e - at) (drop at text)) n ≡ columnAt (r .now) here m
+        columns {n} {m} d = ap (λ (l : List ℕ). columnBy s l n) (line-part text at e q) ∙ ap (columnBy s here) d ∙ column-same (r .good) (r .stands) here m
+
         go : (x : table.Turn) → readLine here (r .now) ≡ x → (z : Turn) → p ≡ z → LineTurned x z words' marks'
-            → Scans (readLines 1 (linesOf text) start) (stoppedAt z line s) words' marks'
+            → Scans (readLines 1 (linesOf text) start) (stoppedAt z (take (e - at) (drop at text)) line s) words' marks'
         go x y (Next s') i d = absurd (f s' i)
         go (table.next t) y (Done s') i d = absurd d
         go (table.next t) y (Refused n) i d = absurd d
         go (table.done t) y (Done s') i d = rw (came y) (refl, d)
         go (table.done t) y (Refused n) i d = absurd d
         go (table.refuse m) y (Done s') i d = absurd d
-        go (table.refuse m) y (Refused n) i d = rw (came y) (ap (λ (v : ℕ). answer.Refused (record { number = v; line = line })) d)
+        go (table.refuse m) y (Refused n) i d =
+            rw (came y) (ap₂ (λ (v w : ℕ). answer.Refused (record { number = v; line = line; column = w })) d (columns d))
 
 -- ---- the answer to a whole text
 

@@ -1,5 +1,5 @@
--- What the numbers that stand for what was read say of it: what is missing, in time or agrees. Assumes nothing.
-use Prim.Native.Nat.{ℕ, _+_, _-_, _≤_}
+-- What the numbers that stand for what was read say of it: what is missing, in time or agrees, and the column of a refusal. Assumes nothing.
+use Prim.Native.Nat.{ℕ, zero, suc, _+_, _-_, _≤_}
 use mathlib.Core.Path.{_≡_, refl, sym, ap, _∙_}
 use mathlib.Core.Bool.{true, false}
 use mathlib.Core.List.{List, [], _∷_}
@@ -8,15 +8,21 @@ use native.Mathlib.Omega.{arith}
 use lib.Dec.{leb, eqb}
 use lib.ListN.{length}
 use borrow.Author.Tests.{leb-true, eq-eqb, ne-eqb}
-use Rattle.sets.{specs.Lists.isNil, proofs.Truth.both}
+use Rattle.sets.{specs.Lists.isNil, proofs.Truth.both, proofs.Truth.clash}
 use Rattle.network.specs.Held.{mostInputs, mostOutputs}
 use Rattle.table_rows.specs.Lines.{CubeLine}
+use Rattle.table_columns.specs.Columns.{known, orZero}
 use Rattle.table.specs.Table as table
-use Rattle.table.specs.Table.{missing, rightCount, orZero}
-use Rattle.table.specs.{Meaning.within, Meaning.Bounded, Parts.oneMore, Parts.Stands, declared.State.State}
+use Rattle.table.specs.Table.{missing, rightCount, columnAt}
+use Rattle.table.specs.{Meaning.within, Meaning.Bounded, Parts.oneMore, Parts.Stands, Parts.columnBy, declared.State.State}
 use Rattle.table.proofs.Reasons.{is-none}
 
 -- ---- a number from 1 on stands for itself, 0 for a missing one
+
+pub known-same : (most : ℕ) (o : Option ℕ) → within most o ≡ true → known (orZero o) ≡ o
+known-same most none h = refl
+known-same most (some zero) h = clash h refl
+known-same most (some (suc n)) h = refl
 
 pub record Stored (most : ℕ) (o : Option ℕ) (k : ℕ) : Type 0 where
   pub gone : missing o ≡ eqb k 0
@@ -69,3 +75,10 @@ module _ {t : table.State} {s : State} {words marks : List ℕ} (g : Bounded t) 
 
   pub agrees-so : s .stated - 1 ≡ s .lines → rightCount (t .stated) (t .lines) ≡ true
   agrees-so d = equal (t .stated) (t .lines) (s .stated) (s .lines) (h .stated) (h .lines) d
+
+  -- the column of a refusal is the same by what was read and by the numbers
+  pub column-same : (l : List ℕ) (k : ℕ) → columnBy s l k ≡ columnAt t l k
+  column-same l k =
+      let a : known (s .inputs) ≡ t .wide = ap known (h .wide) ∙ known-same mostInputs (t .wide) (g .wide) in
+      let b : known (s .outputs) ≡ t .tall = ap known (h .tall) ∙ known-same mostOutputs (t .tall) (g .tall) in
+      cc (h .rows)

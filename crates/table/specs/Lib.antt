@@ -1,4 +1,5 @@
 pub mod Table
+pub mod Numbered
 pub mod Written
 pub mod Rows
 pub mod Meaning

@@ -1,20 +1,23 @@
 -- What holds of a table as its lines are read, and of one that is accepted.
-use Prim.Native.Nat.{ℕ, _+_, _<_, _≤_}
+use Prim.Native.Nat.{ℕ, _+_, _-_, _<_, _≤_}
 use mathlib.Core.{Path._≡_, Logic._⊎_}
-use mathlib.Core.Bool.{Bool, true, false}
+use mathlib.Core.Bool.{Bool, true, false, not}
 use mathlib.Core.List.{List, [], _∷_, _++_, List·Memᴰ}
 use mathlib.Core.Option.{Option, none, some}
 use lib.ListN.{length}
 use Rattle.sets.specs.{Lists.total, Lists.isNil, Sets.mem}
 use Rattle.network.specs.Held.{mostInputs, mostOutputs, upTo}
-use Rattle.table_lines.specs.Text.{linesOf, content}
+use Rattle.letters.specs.Meaning.{isDigit}
+use Rattle.table_lines.specs.Text.{isBlank, linesOf, content}
 use Rattle.table_kinds.specs.Kinds.{kindOf}
 use Rattle.table_rows.specs.Lines.{CubeLine, cubeLineOf, rowsIn}
 use Rattle.table_rows.specs.Meaning.{LineOf}
+use Rattle.table_columns.specs.{Columns.orZero, Meaning.Fault, Meaning.FirstOf, Meaning.RowMore}
 use Rattle.table_kinds.specs.declared.Kind.the-variants.{Empty, Inputs, Outputs, Products, End, Other}
 use Rattle.table.specs.Written.{listed, inputsIn, outputsIn, productsIn, inputsOf, outputsOf, cubeLinesOf}
-use Rattle.table.specs.Table.{State, Turn, next, done, refuse, missing, rightCount, Outcome, accepted, refusedAt, orZero}
+use Rattle.table.specs.Table.{State, Turn, next, done, refuse, missing, rightCount, Outcome, accepted, refusedAt}
 use Rattle.table.specs.Table.{start, mostBytes, mostProducts, mostRows}
+use Rattle.table.specs.Numbered.{Numbered, taken, turned}
 
 -- from 1 to the most, where it is there
 abbrev pub within : ℕ → Option ℕ → Bool
@@ -101,6 +104,19 @@ pub data Refuses (s : State) (c : List ℕ) : ℕ → Type 0 where
 abbrev pub isLine : ℕ → Bool
 isLine k = mem k (2 ∷ 3 ∷ 4 ∷ 6 ∷ [])
 
+-- the column of the refusal of the line l by a number; that it is refused so is for `Refuses` to say
+pub data Points (s : State) (l : List ℕ) : ℕ → ℕ → Type 0 where
+  -- 2, by itself of no other kind and no cube line either: the first byte that no good line could hold there, or one past a line that merely ends too soon
+  fault : {c : ℕ} → kindOf (content l) ≡ Other → Fault (s .wide) (s .tall) l c → Points s l 2 c
+  -- 2, of a kind, and repeated or misplaced: its first byte that isn't blank
+  misplaced : (p : ℕ) → (kindOf (content l) ≡ Other → ⊥) → FirstOf (λ b. not (isBlank b)) l p → Points s l 2 (p + 1)
+  -- 3: the first byte of the number
+  digit : (p : ℕ) → FirstOf isDigit l p → Points s l 3 (p + 1)
+  -- 4: the first byte of `.e`
+  point : (p : ℕ) → FirstOf (λ b. not (isBlank b)) l p → Points s l 4 (p + 1)
+  -- 6: the output character that made one row too many
+  row : (n m p : ℕ) → s .wide ≡ some n → s .tall ≡ some m → RowMore n m (mostRows - total rowsIn (s .lines)) l p → Points s l 6 (p + 1)
+
 -- what a line does
 pub data Does (s : State) (c : List ℕ) : Turn → Type 0 where
   going : {t : State} → Goes s c t → Does s c (next t)
@@ -112,18 +128,30 @@ pub data Reads : State → List (List ℕ) → State → Type 0 where
   nothing : {s : State} → Reads s [] s
   line : {s t u : State} {l : List ℕ} {ls : List (List ℕ)} → Goes s (content l) t → Reads t ls u → Reads s (l ∷ ls) u
 
--- ---- the outcome of lines from number k on: accepted at the line that ends the table, refused at a line, or by 5 where none is left
+-- ---- the outcome of lines from number k on: accepted at the line that ends the table, refused at a line and a column, or by 5 where none is left
 
 pub data Ended (k : ℕ) (s : State) : List (List ℕ) → Outcome → Type 0 where
   whole : (ls : List (List ℕ)) (l : List ℕ) (rest : List (List ℕ)) {t : State}
       → Reads s ls t → Closes t (content l) → Ended k s (ls ++ (l ∷ rest)) (accepted t)
-  stopped : (ls : List (List ℕ)) (l : List ℕ) (rest : List (List ℕ)) {t : State} {r : ℕ}
-      → Reads s ls t → Refuses t (content l) r → Ended k s (ls ++ (l ∷ rest)) (refusedAt r (k + length ls))
-  short : (ls : List (List ℕ)) {t : State} → Reads s ls t → Ended k s ls (refusedAt 5 0)
+  stopped : (ls : List (List ℕ)) (l : List ℕ) (rest : List (List ℕ)) {t : State} {r c : ℕ}
+      → Reads s ls t → Refuses t (content l) r → Points t l r c → Ended k s (ls ++ (l ∷ rest)) (refusedAt r (k + length ls) c)
+  short : (ls : List (List ℕ)) {t : State} → Reads s ls t → Ended k s ls (refusedAt 5 0 0)
 
 -- the outcome of a text: 1 is tested first, then lines in turn
 abbrev pub Comes : List ℕ → Outcome → Type 0
-Comes t o = ((mostBytes < length t) × (o ≡ refusedAt 1 0)) ⊎ ((length t ≤ mostBytes) × Ended 1 start (linesOf t) o)
+Comes t o = ((mostBytes < length t) × (o ≡ refusedAt 1 0 0)) ⊎ ((length t ≤ mostBytes) × Ended 1 start (linesOf t) o)
+
+-- ---- the same with no word on columns: the numbers and lines of the base paper
+
+pub data Halts (k : ℕ) (s : State) : List (List ℕ) → Numbered → Type 0 where
+  atEnd : (ls : List (List ℕ)) (l : List ℕ) (rest : List (List ℕ)) {t : State}
+      → Reads s ls t → Closes t (content l) → Halts k s (ls ++ (l ∷ rest)) (taken t)
+  atLine : (ls : List (List ℕ)) (l : List ℕ) (rest : List (List ℕ)) {t : State} {r : ℕ}
+      → Reads s ls t → Refuses t (content l) r → Halts k s (ls ++ (l ∷ rest)) (turned r (k + length ls))
+  nowhere : (ls : List (List ℕ)) {t : State} → Reads s ls t → Halts k s ls (turned 5 0)
+
+abbrev pub Gives : List ℕ → Numbered → Type 0
+Gives t o = ((mostBytes < length t) × (o ≡ turned 1 0)) ⊎ ((length t ≤ mostBytes) × Halts 1 start (linesOf t) o)
 
 -- ---- what was read is what is written: `.i` and `.o` once each, `.p` at most once, and the cube lines in their order
 

@@ -12,6 +12,7 @@ use Rattle.network.specs.{Net.Net, Held.mostOutputs}
 use Rattle.table_lines.specs.Text.{linesOf}
 use Rattle.table_kinds.specs.Kinds.{kindOf}
 use Rattle.table_rows.specs.Lines.{CubeLine, rowsIn, cubeOf}
+use Rattle.table_columns.specs.Columns.{known, orZero, columnOf}
 use Rattle.table.specs.Table as table
 use Rattle.table.specs.{Table.mostBytes, Table.mostRows, Meaning.Bounded, declared.Scanned.Scanned}
 use Rattle.table.specs.declared.Answer.the-variants as Answer
@@ -31,8 +32,8 @@ marked l = keep (λ (c : CubeLine). ltb 0 (rowsIn c)) l
 
 -- what has been read, as numbers, and the cubes and masks of the lines that make a row
 pub record Stands (t : table.State) (s : State) (words marks : List ℕ) : Type 0 where
-  pub wide : s .inputs ≡ table.orZero (t .wide)
-  pub tall : s .outputs ≡ table.orZero (t .tall)
+  pub wide : s .inputs ≡ orZero (t .wide)
+  pub tall : s .outputs ≡ orZero (t .tall)
   pub stated : s .stated ≡ oneMore (t .stated)
   pub lines : s .lines ≡ length (t .lines)
   pub rows : s .rows ≡ total rowsIn (t .lines)
@@ -96,11 +97,15 @@ pub record Ready (text words marks : List ℕ) : Type 0 where
   pub places : length (cubesOf words) ≡ mostRows
   pub masks : length marks ≡ mostRows
 
--- the answer to a line that is the last to be read: what was read, or the refusal
-abbrev pub stoppedAt : Turn → ℕ → State → Scanned
-stoppedAt (Next t) line s = record { answer = Answer.Read; state = t }
-stoppedAt (Done t) line s = record { answer = Answer.Read; state = t }
-stoppedAt (Refused k) line s = record { answer = Answer.Refused (record { number = k; line = line }); state = s }
+-- the column of the refusal of line l by number k
+abbrev pub columnBy : State → List ℕ → ℕ → ℕ
+columnBy s l k = columnOf k (known (s .inputs)) (known (s .outputs)) (mostRows - s .rows) l
+
+-- the answer to line l, which is the last to be read: what was read, or the refusal
+abbrev pub stoppedAt : Turn → List ℕ → ℕ → State → Scanned
+stoppedAt (Next t) l line s = record { answer = Answer.Read; state = t }
+stoppedAt (Done t) l line s = record { answer = Answer.Read; state = t }
+stoppedAt (Refused k) l line s = record { answer = Answer.Refused (record { number = k; line = line; column = columnBy s l k }); state = s }
 
 -- the outcome of the lines: what was read, or the refusal
 abbrev pub Scans : table.Outcome → Scanned → List ℕ → List ℕ → Type 0

@@ -1,5 +1,5 @@
 -- The table that a text holds, or why it is refused; its network.
-use Prim.Native.Nat.{ℕ, suc, _+_}
+use Prim.Native.Nat.{ℕ, suc, _+_, _-_}
 use mathlib.Core.Bool.{Bool, true, false, cond, _&&_}
 use mathlib.Core.List.{List, [], _∷_, _++_, map}
 use mathlib.Core.Option.{Option, none, some}
@@ -12,6 +12,7 @@ use Rattle.network.specs.Held.{mostInputs, mostOutputs, upTo}
 use Rattle.table_lines.specs.Text.{linesOf, content}
 use Rattle.table_kinds.specs.{Kinds.kindOf, declared.Kind.Kind}
 use Rattle.table_rows.specs.Lines.{CubeLine, cubeLineOf, rowsIn, cubeOf}
+use Rattle.table_columns.specs.Columns.{orZero, columnOf}
 use Rattle.table.specs.declared.Refusal.{Refusal}
 use Rattle.table_kinds.specs.declared.Kind.the-variants.{Empty, Inputs, Outputs, Products, End, Other}
 
@@ -113,25 +114,25 @@ pub data Outcome : Type 0 where
   accepted : State → Outcome
   refused : Refusal → Outcome
 
--- by number r, at line k
-abbrev pub refusedAt : ℕ → ℕ → Outcome
-refusedAt r k = refused (record { number = r; line = k })
+-- by number r, at line k, column c
+abbrev pub refusedAt : ℕ → ℕ → ℕ → Outcome
+refusedAt r k c = refused (record { number = r; line = k; column = c })
+
+-- the column of the refusal of a line by number r
+abbrev pub columnAt : State → List ℕ → ℕ → ℕ
+columnAt s l r = columnOf r (s .wide) (s .tall) (mostRows - total rowsIn (s .lines)) l
 
 -- lines in turn, k being the number of the first
 unfoldable pub readLines : ℕ → List (List ℕ) → State → Outcome
-readLines k [] s = refusedAt 5 0
+readLines k [] s = refusedAt 5 0 0
 readLines k (l ∷ ls) s =
-    elim (readLine l s) [ next t ↦ readLines (suc k) ls t | done t ↦ accepted t | refuse r ↦ refusedAt r k ]
+    elim (readLine l s) [ next t ↦ readLines (suc k) ls t | done t ↦ accepted t | refuse r ↦ refusedAt r k (columnAt s l r) ]
 
 -- 1 is tested first
 unfoldable pub readText : List ℕ → Outcome
-readText t = cond (ltb mostBytes (length t)) (refusedAt 1 0) (readLines 1 (linesOf t) start)
+readText t = cond (ltb mostBytes (length t)) (refusedAt 1 0 0) (readLines 1 (linesOf t) start)
 
 -- ---- the network of a table
-
-abbrev pub orZero : Option ℕ → ℕ
-orZero none = 0
-orZero (some n) = n
 
 -- the cubes of output j, row by row
 abbrev pub cubesFor : ℕ → List CubeLine → List (List ℕ)

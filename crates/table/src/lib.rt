@@ -7,15 +7,16 @@ ghost use mathlib.Core.Path.{_≡_};
 ghost use mathlib.Core.Bool.{_&&_};
 ghost use Prim.Native.Nat.{_+_, _<_, _≤_};
 ghost use lib.Dec.{leb};
+ghost use lib.ListN.{length};
 ghost use Rattle.sets.specs.Masks.{bit};
 ghost use Rattle.cube.specs.Cube.{lits};
 ghost use Rattle.expression.specs.Words.{Appends};
 ghost use Rattle.network.specs.Held.{mostOutputs};
 ghost use Rattle.network.specs.Handed.{Holds, AllZero};
 ghost use Rattle.table_lines.specs.Text.{linesOf};
-ghost use Rattle.table.specs.Table.{mostRows, start, readLines, readText, setWide, setTall, setStated, finish};
+ghost use Rattle.table.specs.Table.{mostBytes, mostRows, start, readLines, readText, setWide, setTall, setStated, finish};
 ghost use Rattle.table.specs.Answers.{Told};
-ghost use Rattle.table.specs.Parts.{Numbers, Answers, Roomy, Keeps, Leaves, byLine, byCube, Ready, stoppedAt, Scans};
+ghost use Rattle.table.specs.Parts.{Numbers, Answers, Roomy, Keeps, Leaves, byLine, byCube, Ready, columnBy, stoppedAt, Scans};
 ghost use Rattle.table.specs.Parts.{pick, Room, formed, Buildable, netFrom};
 
 // The limits of a table.
@@ -29,10 +30,11 @@ const MOST_PRODUCTS: u32 = 32768;
 
 const MOST_ROWS: u64 = 1024;
 
-// The number and the line of a refusal.
+// The number, the line and the column of a refusal.
 pub struct Refusal {
     pub number: u32,
     pub line: u32,
+    pub column: usize,
 }
 
 pub enum Answer {
@@ -192,15 +194,38 @@ fn take_line(c: &[u8], s: State, words: &mut [u64], marks: &mut [u64]) -> Turn
     }
 }
 
+// The refusal of a whole text: of no line.
+fn whole(number: u32) -> Refusal
+    ensures { λ r. ⌜ r ≡ record { number = number; line = 0; column = 0 } ⌝ }
+{
+    Refusal {
+        number,
+        line: 0,
+        column: 0,
+    }
+}
+
 // What was read up to the line that ends the table, or the refusal.
 struct Scanned {
     answer: Answer,
     state: State,
 }
 
-// The answer to a line that is the last to be read.
-fn stopped(turn: Turn, line: u32, s: State) -> Scanned
-    ensures { λ r. ⌜ r ≡ stoppedAt turn line s ⌝ }
+// The column of the refusal of line l by a number.
+fn column(l: &[u8], number: u32, s: State) -> usize
+    requires { ⌜ length (now l) ≤ mostBytes ⌝ }
+    requires { ⌜ s .rows ≤ mostRows ⌝ }
+    ensures { λ r. ⌜ r ≡ columnBy s (now (l .entry)) number ⌝ }
+{
+    let left = (MOST_ROWS - s.rows) as usize;
+    table_columns::place_of(l, number, s.inputs, s.outputs, left) + 1
+}
+
+// The answer to line l, which is the last to be read.
+fn stopped(turn: Turn, l: &[u8], line: u32, s: State) -> Scanned
+    requires { ⌜ length (now l) ≤ mostBytes ⌝ }
+    requires { ⌜ s .rows ≤ mostRows ⌝ }
+    ensures { λ r. ⌜ r ≡ stoppedAt turn (now (l .entry)) line s ⌝ }
 {
     match turn {
         Turn::Next(t) => Scanned {
@@ -212,7 +237,11 @@ fn stopped(turn: Turn, line: u32, s: State) -> Scanned
             state: t,
         },
         Turn::Refused(k) => Scanned {
-            answer: Answer::Refused(Refusal { number: k, line }),
+            answer: Answer::Refused(Refusal {
+                number: k,
+                line,
+                column: column(l, k, s),
+            }),
             state: s,
         },
     }
@@ -240,14 +269,14 @@ fn scan(text: &[u8], words: &mut [u64], marks: &mut [u64]) -> Scanned
         let to = at + span.end;
         let turn = take_line(&text[from..to], s, words, marks);
         let Turn::Next(t) = turn else {
-            return stopped(turn, line, s);
+            return stopped(turn, &text[at..e], line, s);
         };
         s = t;
         at = e + 1;
         line += 1;
     }
     Scanned {
-        answer: Answer::Refused(Refusal { number: 5, line: 0 }),
+        answer: Answer::Refused(whole(5)),
         state: s,
     }
 }
@@ -330,12 +359,12 @@ fn refused(answer: Answer) -> Table
     }
 }
 
-// The network of a table text, or the number and line of its refusal.
+// The network of a table text, or the number, line and column of its refusal.
 pub fn read(text: &[u8]) -> Table
     ensures { λ r. ⌜ Told (readText (now (text .entry))) r ⌝ }
 {
     if text.len() > MOST_BYTES {
-        return refused(Answer::Refused(Refusal { number: 1, line: 0 }));
+        return refused(Answer::Refused(whole(1)));
     }
     let mut words = [0u64; expression::WORDS * MOST_ROWS as usize];
     let mut marks = [0u64; MOST_ROWS as usize];

@@ -2,6 +2,7 @@
 
 mod blif_damage;
 mod blifs;
+mod columns;
 mod damage;
 mod expressions;
 mod images;

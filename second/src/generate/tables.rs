@@ -1,23 +1,26 @@
 //! Random table texts: good ones, spoiled ones, and ones at the limits.
 
+use super::columns;
 use super::expressions::{cube, cubes, first_variables, from_kit, kit, pool, unions};
 use super::random::Random;
 use crate::cubes::Cube;
 
-type Line = Vec<u8>;
+pub type Line = Vec<u8>;
 
 /// Any table text. A heavy one has hundreds of rows to extract from.
 pub fn text(r: &mut Random) -> Vec<u8> {
     match r.below(400) {
-        0..=169 => finished(r, |_, _| ()),
-        170..=319 => finished(r, spoil),
-        320..=349 => finished(r, |r, lines| {
+        0..=139 => finished(r, |_, _| ()),
+        140..=194 => finished(r, spoil),
+        195..=204 => finished(r, |r, lines| {
             spoil(r, lines);
             spoil(r, lines);
         }),
-        350..=369 => soup(r),
+        205..=214 => soup(r),
+        215..=369 => columns::text(r),
         370..=394 => edge(r),
-        395..=397 => long(r),
+        395 | 396 => long(r),
+        397 => columns::wide(r),
         _ => heavy(r),
     }
 }
@@ -116,7 +119,7 @@ fn blanks(r: &mut Random, least: usize) -> Vec<u8> {
 }
 
 /// A line with blanks and comments that change nothing.
-fn messy(r: &mut Random, line: &[u8], text: &mut Vec<u8>) {
+pub fn messy(r: &mut Random, line: &[u8], text: &mut Vec<u8>) {
     if r.one_in(5) {
         text.extend([b"".as_slice(), b"# .e", b" \t", b"\r", b"#"][r.below(5)]);
         text.push(b'\n');

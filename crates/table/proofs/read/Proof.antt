@@ -10,7 +10,7 @@ use borrow.Author.Needs.{needs}
 use Rattle.table.proofs.read.Tie as tie
 
 returns : tie.Need-returns
-returns c = rw (text-long _ (c .before .if1 .taken)) (c .refused .ensures)
+returns c = rw (text-long _ (c .before .before .if1 .taken)) (rw (c .before .whole .ensures) at (c .refused .ensures))
 
 -- the states of the walk: what was scanned, and that it was read
 abbrev start : tie.After-scan → tie.Start
@@ -52,6 +52,7 @@ pub read-spec : {M : Type 1} → statement M
 read-spec =
     tie.close
     (tie.spec
+    (λ c κs. search needs)
     (λ c κs. search needs)
     returns
     (λ c. search needs)

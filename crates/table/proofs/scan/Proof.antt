@@ -3,7 +3,7 @@ use Prim.Native.Nat.{_+_, _-_, _≤_}
 use mathlib.Core.Path.{_≡_, refl, sym, _∙_, ap, subst}
 use mathlib.Core.Logic.{_⊎_, inl, inr}
 use native.Mathlib.Omega.{arith}
-use lib.ListN.{length}
+use lib.ListN.{length, drop, length-take}
 use denote.Enum.Declared.{tagOf}
 use Rattle.expression.proofs.Words.{same-room}
 use Rattle.table_lines.{specs.Text.linesOf, proofs.Lining.line-ends}
@@ -11,7 +11,7 @@ use Rattle.table.specs.Table as table
 use Rattle.table.specs.{Table.readLines, Parts.Scans, declared.State.State, declared.Scanned.Scanned}
 use Rattle.table.specs.declared.{Turn.Turn, Turn.the-variants.Next}
 use Rattle.table.proofs.{Turn.the-type, Scanning.Remains, Scanning.left-there, scan.Statement.statement}
-use Rattle.table.proofs.Scanning.{Reading, reading-first, reading-roomy, reading-over, reading-next, reading-stop}
+use Rattle.table.proofs.Scanning.{Reading, reading-first, reading-rows, reading-roomy, reading-over, reading-next, reading-stop}
 use borrow.Author.Needs.{needs}
 use Rattle.table.proofs.scan.Tie as tie
 
@@ -44,6 +44,10 @@ taken d = d .before .before .before .before
 abbrev gone : tie.After-known-told Inv-loop μ-loop → tie.After-take-line Inv-loop μ-loop
 gone c = taken (c .before .before .before)
 
+-- a line that does not go on
+abbrev halted : tie.At-match-keys2 Inv-loop μ-loop → tie.After-line-end Inv-loop μ-loop
+halted c = measured (spanned (lent (taken (c .before))))
+
 loop-holds : tie.Need-loop-holds Inv-loop μ-loop
 loop-holds c = (omega arith, omega arith, refl, refl, reading-first _ _ _)
 
@@ -65,6 +69,13 @@ take-line-requires c κs =
     reading-roomy (h .loop .inv .4) (omega (arith, s .pre .short, e .before .loop-test .taken))
     (same-room (h .loop .words) (s .args .words .now) (h .loop .inv .2) ∙ s .pre .places) (h .loop .inv .3 ∙ s .pre .masks)
 
+stopped-requires : tie.Need-stopped-requires Inv-loop μ-loop
+stopped-requires c κs =
+    let e = halted (c .before) in
+    let h = head e in
+    let l = drop (h .loop .at) (start h .args .text .now) in
+    (omega (arith, length-take (e .line-end .result - h .loop .at) l, ends e, start h .pre .short), reading-rows (h .loop .inv .4))
+
 -- a line that is not the first variant does not go on
 not-next : (p : Turn) → (tagOf the-type p ≡ 1) ⊎ (tagOf the-type p ≡ 2) → (s : State) → p ≡ Next s → ⊥
 not-next p (inl k) s i = omega (arith, ap (tagOf the-type) i)
@@ -72,7 +83,7 @@ not-next p (inr k) s i = omega (arith, ap (tagOf the-type) i)
 
 returns : tie.Need-returns Inv-loop μ-loop
 returns c =
-    let t = taken (c .before .before) in
+    let t = taken (c .before .before .before) in
     let p = spanned (lent t) in
     let e = measured p in
     let h = head e in
@@ -80,7 +91,7 @@ returns c =
     (t .take-line .last .1 .1 .1 .0))
     (sym (c .stopped .ensures))
     (reading-stop (h .loop .inv .4) _ _ (t .take-line .result) (e .before .loop-test .taken) (e .line-end .ensures) (left p .part) (t .take-line .ensures)
-    (not-next (t .take-line .result) (c .before .match .keys2)))
+    (not-next (t .take-line .result) (c .before .before .match .keys2)))
 
 add-at : tie.Need-add-at Inv-loop μ-loop
 add-at c = let e = measured (spanned (lent (gone c))) in record { fits = omega (arith, ends e .1, start (head e) .pre .short) }
@@ -103,7 +114,7 @@ loop-again c =
     )
 
 returns-2 : tie.Need-returns-2 Inv-loop μ-loop
-returns-2 c = reading-over (c .before .loop .inv .4) (c .loop-test .left)
+returns-2 c = rw (c .whole .ensures) (reading-over (c .before .before .loop .inv .4) (c .before .loop-test .left))
 
 pub scan-spec : {M : Type 1} → statement M
 scan-spec =
@@ -124,7 +135,10 @@ scan-spec =
     (λ c. left (spanned c) .within)
     take-line-requires
     (λ c. search needs)
-    (λ c κs. search needs)
+    (λ c. let e = ends (halted c) in omega arith)
+    (λ c. search needs)
+    (λ c. ends (halted c) .1)
+    stopped-requires
     (λ c. search needs)
     (λ c. search needs)
     returns
@@ -132,6 +146,7 @@ scan-spec =
     add-line
     (λ c. omega (arith, ends (measured (spanned (lent (gone c))))))
     loop-again
+    (λ c κs. search needs)
     (λ c. search needs)
     (λ c. search needs)
     returns-2)

@@ -1,0 +1,4 @@
+pub mod Forms
+pub mod Columns
+pub mod Meaning
+pub mod Parts
