@@ -5,7 +5,6 @@ ghost use Prim.Native.Nat.{_≤_};
 ghost use lib.Dec.{eqb};
 ghost use lib.ListN.{drop};
 ghost use Rattle.letters.specs.Meaning.{isDigit};
-ghost use Rattle.table_lines.specs.Text.{isBlank};
 ghost use Rattle.table_rows.specs.Lines.{isPlace, isMark};
 ghost use Rattle.table_columns.specs.Forms as good;
 ghost use Rattle.table_columns.specs.Forms.{front, limit, reach, emptyForm, numberForm, endForm, wordForm, cubeForm};
@@ -50,18 +49,6 @@ struct Form {
 
 // ---- how far a line goes
 
-fn is_blank(b: u8) -> bool
-    ensures { λ r. ⌜ r ≡ isBlank b ⌝ }
-{
-    if b == b' ' {
-        return true;
-    }
-    if b == b'\t' {
-        return true;
-    }
-    b == b'\r'
-}
-
 fn is_digit(b: u8) -> bool
     ensures { λ r. ⌜ r ≡ isDigit b ⌝ }
 {
@@ -93,7 +80,7 @@ fn is_of(b: u8, sort: Sort) -> bool
     ensures { λ r. ⌜ r ≡ testOf sort b ⌝ }
 {
     match sort {
-        Sort::Blank => is_blank(b),
+        Sort::Blank => table_lines::is_blank(b),
         Sort::Digit => is_digit(b),
         Sort::NoDigit => !is_digit(b),
         Sort::Place => is_place(b),

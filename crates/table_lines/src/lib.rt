@@ -11,7 +11,8 @@ pub struct Span {
     pub end: usize,
 }
 
-fn is_blank(b: u8) -> bool
+// Space, tab and CR.
+pub fn is_blank(b: u8) -> bool
     ensures { λ r. ⌜ r ≡ isBlank b ⌝ }
 {
     if b == b' ' {
