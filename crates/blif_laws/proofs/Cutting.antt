@@ -6,17 +6,13 @@ use mathlib.Core.List.{List, [], _∷_, _++_, map, append-nil, append-assoc, app
 use native.Mathlib.Omega.{arith}
 use lib.Dec.{eqb}
 use lib.ListN.{length}
-use borrow.Author.Tests.{eqb-true, eq-eqb, not-true}
+use borrow.Author.Tests.{eqb-true, eq-eqb}
 use Rattle.sets.{specs.Lists.all, proofs.Truth.both, proofs.Truth.together}
 use Rattle.sets.proofs.Lists.{_∈_, all-in, all-out, all-append}
-use Rattle.table_lines.specs.Meaning.{lacks}
+use Rattle.table_lines.{specs.Meaning.lacks, proofs.Parting.lacks-first}
 use Rattle.network.specs.Handed.{flat}
 use Rattle.blif_laws.specs.{Text.spaced, Text.ended, Meaning.isClear}
 use Rattle.blif_laws.specs.Reading.{onto, cutAt, linesIn, wordsIn}
-
--- the first byte of what lacks b, and the others
-lacks-first : (b x : ℕ) (w : List ℕ) → lacks b (x ∷ w) ≡ true → (eqb x b ≡ false) × (lacks b w ≡ true)
-lacks-first b x w h = let r = both (not (eqb x b)) (lacks b w) h in (not-true (eqb x b) (r .0), r .1)
 
 -- ---- any byte
 

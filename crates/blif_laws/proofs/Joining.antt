@@ -1,7 +1,7 @@
 -- No byte of a model's text is a backslash where its name has none, so joining lines leaves the text as it is: words are letters, digits
 -- and signs, and what stands between them is space or LF. Assumes nothing.
 use Prim.Native.Nat.{ℕ}
-use mathlib.Core.Path.{_≡_, refl, ap, _∙_}
+use mathlib.Core.Path.{_≡_, refl, ap}
 use mathlib.Core.Bool.{Bool, true, false, cond, not}
 use mathlib.Core.List.{List, [], _∷_, _++_, map, List·Memᴰ·head as here, List·Memᴰ·tail as there}
 use native.Mathlib.Omega.{arith}
@@ -9,7 +9,7 @@ use lib.Dec.{leb, eqb}
 use borrow.Author.Tests.{leb-true, ne-eqb, not-true}
 use Rattle.sets.{specs.Lists.all, specs.Lists.from, specs.Literal.plainOf, specs.Literal.negatedOf, specs.Sets.mem}
 use Rattle.sets.proofs.Truth.{both, together}
-use Rattle.sets.proofs.Lists.{_∈_, all-in, all-out, all-append, map-out}
+use Rattle.sets.proofs.Lists.{_∈_, all-in, all-out, all-join, map-out}
 use Rattle.letters.{specs.Letters.decimal, specs.Letters.nameText, specs.Meaning.isDigit, proofs.Numbers.decimal-digits}
 use Rattle.letters_products.specs.Spelled.{spelled}
 use Rattle.network.specs.Handed.{flat}
@@ -35,23 +35,20 @@ joined-same (b ∷ d ∷ t) h =
 -- ---- lines of words
 
 module _ {B : Type 0} (p : B → Bool) where
-  append-all : (s t : List B) → all p s ≡ true → all p t ≡ true → all p (s ++ t) ≡ true
-  append-all s t h k = all-append p s t ∙ together (all p s) (all p t) h k
-
   flat-all : {A : Type 0} (g : A → List B) (l : List A) → ((x : A) → x ∈ l → all p (g x) ≡ true) → all p (flat (map g l)) ≡ true
   flat-all g [] h = refl
-  flat-all g (x ∷ l) h = append-all (g x) (flat (map g l)) (h x (here refl)) (flat-all g l (λ y m. h y (there m)))
+  flat-all g (x ∷ l) h = all-join p (g x) (flat (map g l)) (h x (here refl)) (flat-all g l (λ y m. h y (there m)))
 
 spaced-clean : (ws : List (List ℕ)) → all unslashed ws ≡ true → unslashed (spaced ws) ≡ true
 unfolding spaced
 spaced-clean [] h = refl
 spaced-clean (w ∷ ws) h =
     let q = both (unslashed w) (all unslashed ws) h in
-    append-all free w (flat (map (λ u. 32 ∷ u) ws)) (q .0) (flat-all free (λ u. 32 ∷ u) ws (λ u m. all-out unslashed m (q .1)))
+    all-join free w (flat (map (λ u. 32 ∷ u) ws)) (q .0) (flat-all free (λ u. 32 ∷ u) ws (λ u m. all-out unslashed m (q .1)))
 
 ended-clean : (ls : List (List ℕ)) → all unslashed ls ≡ true → unslashed (ended ls) ≡ true
 unfolding ended
-ended-clean ls h = flat-all free (λ l. l ++ (10 ∷ [])) ls (λ l m. append-all free l (10 ∷ []) (all-out unslashed m h) refl)
+ended-clean ls h = flat-all free (λ l. l ++ (10 ∷ [])) ls (λ l m. all-join free l (10 ∷ []) (all-out unslashed m h) refl)
 
 -- ---- words
 
@@ -90,7 +87,7 @@ row-clean (v ∷ vs) c =
 block-clean : (b : Block) → all unslashed (blockLines b) ≡ true
 unfolding blockLines namesWords spelled
 block-clean b = together (unslashed (spaced (namesWords b))) _
-    (spaced-clean (namesWords b) (append-all unslashed (map (nameText 120) (readsOf (b .cubes))) _ (names-clean 120 refl (readsOf (b .cubes)))
+    (spaced-clean (namesWords b) (all-join unslashed (map (nameText 120) (readsOf (b .cubes))) _ (names-clean 120 refl (readsOf (b .cubes)))
     (together (unslashed (nameWord (b .name))) true (name-clean (b .name)) refl)))
     (all-in unslashed _ (λ l m. let q = map-out (λ c. spaced (rowWords (readsOf (b .cubes)) c)) (b .cubes) m in
     rw (q .2) (spaced-clean (rowWords (readsOf (b .cubes)) (q .0)) (row-clean (readsOf (b .cubes)) (q .0)))))
@@ -110,8 +107,8 @@ module _ (name : List ℕ) (h : unslashed name ≡ true) where
   lines-clean : (d : Model) → all unslashed (modelLines name d) ≡ true
   unfolding modelLines spelled
   lines-clean d =
-      append-all unslashed (headLines name (d .inputs) (d .outputs)) _ (head-clean (d .inputs) (d .outputs))
-      (append-all unslashed (flat (map blockLines (d .blocks))) _ (flat-all unslashed blockLines (d .blocks) (λ b m. block-clean b)) refl)
+      all-join unslashed (headLines name (d .inputs) (d .outputs)) _ (head-clean (d .inputs) (d .outputs))
+      (all-join unslashed (flat (map blockLines (d .blocks))) _ (flat-all unslashed blockLines (d .blocks) (λ b m. block-clean b)) refl)
 
   -- the text of a model is joined as it is
   pub joined-text : (d : Model) → joined (modelText name d) ≡ modelText name d

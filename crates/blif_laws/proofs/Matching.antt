@@ -24,9 +24,8 @@ use Rattle.network.proofs.Numbering.{numbered-cubes, read-passes}
 use Rattle.image_laws.specs.Meaning.{OneOrder}
 use Rattle.blif_laws.specs.Text.{Name, variable, output, Block, Model, modelOf}
 use Rattle.blif_laws.specs.Reading.{standing, gapless, sameName, blocksFor, inputTimes, timesDefined, definedOnce, cubesFor, isVariable}
-use Rattle.blif_laws.specs.Reading.{divisorsIn, netIn}
+use Rattle.blif_laws.specs.{Reading.divisorsIn, Reading.netIn, Meaning.SameModel, Meaning.Models}
 use Rattle.blif_laws.specs.Meaning.{Formed, Stands, isInput, isListed, Gap, Misdefined, Shuffled, nothing, next, swap, trans, SameBlock}
-use Rattle.blif_laws.specs.Meaning.{SameModel, Models}
 use Rattle.blif_laws.proofs.Modelling.{turnBlocks, turn-divisors, turn-outputs, gathered-out, from-below, below-from}
 use Rattle.blif_laws.proofs.Modelling.{model-gapless, model-defined, model-net}
 use Rattle.blif_laws.proofs.Shuffling.{shuffled-self, count-shuffled, block-self, gapless-same, once-same, net-same}

@@ -7,15 +7,16 @@ use mathlib.Core.List.{List, [], _∷_, _++_, map, List·Memᴰ·head as here, L
 use native.Mathlib.Omega.{arith}
 use lib.Dec.{eqb, ltb}
 use lib.ListN.{length, length-map}
-use borrow.Author.Tests.{eqb-true, eqb-false, eq-eqb, ne-eqb, lt-ltb, ltb-true, not-true}
+use borrow.Author.Tests.{eqb-true, eqb-false, eq-eqb, ne-eqb}
 use Rattle.sets.specs.Lists.{all, pairwise}
 use Rattle.sets.specs.Literal.{plainOf, negatedOf, variableOf, oppositeOf}
 use Rattle.sets.specs.Sets.{mem, same, asc, proper}
 use Rattle.sets.proofs.Truth.{iff, both, together, decided, clash, refuted}
-use Rattle.sets.proofs.Lists.{_∈_, all-in, all-out, pairwise-imp, pairwise-out, map-out, map-cong}
-use Rattle.sets.proofs.Sets.{mem-of, of-mem, mem-head, head-once, tail-asc, ext, same-eq, same-self, proper-in, proper-out}
+use Rattle.sets.proofs.Lists.{_∈_, all-in, all-out, map-out, map-cong}
+use Rattle.sets.proofs.Sets.{mem-of, of-mem, mem-head, head-once, tail-asc, ext, same-eq, same-self, proper-out}
 use Rattle.letters_products.specs.Spelled.{spelled}
 use Rattle.table_rows.specs.Lines.{isPlace}
+use Rattle.table_rows.proofs.Covering.{climbs, climbs-asc, climbs-proper}
 use Rattle.expression.specs.Expression.{isCube}
 use Rattle.blif_laws.specs.Text.{spaced, signOf, rowWords}
 use Rattle.blif_laws.specs.Reading.{wordsIn, pointed, isRow, cubeIn}
@@ -45,9 +46,6 @@ cube-over (v ∷ vs) (b ∷ w) {l} m = go (eqb b 49) (eqb b 48) (λ k. there (cu
     go false true f k = elim (List·Memᴰ·cases-cons k) [ inl e ↦ let q : l / 2 ≡ v = omega arith in here q | inr i ↦ f i ]
     go false false f k = f k
 
-abbrev climbs : ℕ → ℕ → Bool
-climbs x y = ltb (x / 2) (y / 2)
-
 cube-climbs : (vs w : List ℕ) → asc vs ≡ true → pairwise climbs (cubeIn vs w) ≡ true
 unfolding cubeIn
 cube-climbs [] w h = refl
@@ -66,22 +64,7 @@ cube-climbs (v ∷ vs) (b ∷ w) h = go (eqb b 49) (eqb b 48) (cube-climbs vs w 
 
 -- literals whose variables ascend are a cube
 climbs-cube : (c : List ℕ) → pairwise climbs c ≡ true → isCube c ≡ true
-climbs-cube c h = together (asc c) (proper c)
-    (pairwise-imp climbs ltb c (λ x y k. lt-ltb x y (omega (arith, ltb-true (x / 2) (y / 2) k))) h)
-    (proper-in c (λ z m. refuted (λ k. clashing z (pairwise-out differ turned apart (of-mem z c m) (of-mem (oppositeOf z) c k)))))
-  where
-    differ : ℕ → ℕ → Bool
-    differ x y = not (eqb (x / 2) (y / 2))
-
-    turned : (x y : ℕ) → differ x y ≡ true → differ y x ≡ true
-    turned x y k = let e = eqb-false (x / 2) (y / 2) (not-true _ k) in rw (ne-eqb (y / 2) (x / 2) (λ q. e (sym q)))
-
-    apart : pairwise differ c ≡ true
-    apart = pairwise-imp climbs differ c (λ x y k. let i = ltb-true (x / 2) (y / 2) k in rw (ne-eqb (x / 2) (y / 2) (omega arith))) h
-
-    clashing : (z : ℕ) → (z ≡ oppositeOf z) ⊎ (differ z (oppositeOf z) ≡ true) → ⊥
-    clashing z (inl e) = omega arith
-    clashing z (inr e) = let q : z / 2 ≡ oppositeOf z / 2 = omega arith in eqb-false (z / 2) (oppositeOf z / 2) (not-true _ e) q
+climbs-cube c h = together (asc c) (proper c) (climbs-asc c h) (climbs-proper c h)
 
 -- what is read over ascending variables is a cube
 pub cube-read : (vs w : List ℕ) → asc vs ≡ true → isCube (cubeIn vs w) ≡ true

@@ -94,6 +94,7 @@ printedForms =
     -- a line that merely ends too soon: its length plus 1, counted before comment and blanks come off
     ∷ row (report ".en\n") "refused 2 at line 1 column 4\n"
     ∷ row (report ".\n") "refused 2 at line 1 column 2\n"
+    ∷ row (report ".en \r\n") "refused 2 at line 1 column 6\n"
     ∷ row (report ".i 4\n.o 1\n01  #\n") "refused 2 at line 3 column 6\n"
     -- a cube line is good only where `.i` and `.o` are known
     ∷ row (report "0101 1\n") "refused 2 at line 1 column 1\n"

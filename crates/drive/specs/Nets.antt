@@ -6,8 +6,7 @@ use lib.ListN.{getD, replicate}
 use lib.Seq.{sets}
 use Rattle.drive_request.specs.{Words.firstGroup, Words.afterGroup, Numbers.numbersOf, Reading.valuesOf, Reading.countOf}
 use Rattle.network.specs.Handed.{nodeSlots, wordSlots}
-use Rattle.drive.specs.Rooms.{manyOf}
-use Rattle.drive.specs.declared.nets.Given.{Given}
+use Rattle.drive.specs.{Rooms.manyOf, declared.nets.Given.Given}
 
 -- the numbers that a group is, in so many slots; those that are not given are 0
 abbrev pub slotsOf : ℕ → List ℕ → List ℕ

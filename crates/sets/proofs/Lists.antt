@@ -9,7 +9,7 @@ use native.Mathlib.Omega.{arith}
 use lib.ListN.{length, take, drop, take-append-drop}
 use lib.Seq.{take-take}
 use Rattle.sets.specs.Lists.{any, all, keep, total, pairwise}
-use Rattle.sets.proofs.Truth.{both, either, neither, decided, clash}
+use Rattle.sets.proofs.Truth.{both, together, either, neither, decided, clash}
 
 module _ {A : Type 0} where
   infix 20 _∈_
@@ -46,6 +46,20 @@ module _ {A : Type 0} where
   pub all-append : (f : A → Bool) (l m : List A) → all f (l ++ m) ≡ (all f l && all f m)
   all-append f [] m = refl
   all-append f (x ∷ l) m = rw (all-append f l m) (sym (and-assoc (f x) (all f l) (all f m)))
+
+  pub all-join : (f : A → Bool) (l m : List A) → all f l ≡ true → all f m ≡ true → all f (l ++ m) ≡ true
+  all-join f l m h k = all-append f l m ∙ together (all f l) (all f m) h k
+
+  pub all-parts : (f : A → Bool) (l m : List A) → all f (l ++ m) ≡ true → (all f l ≡ true) × (all f m ≡ true)
+  all-parts f l m h = both (all f l) (all f m) (sym (all-append f l m) ∙ h)
+
+  -- what follows for each follows for all
+  pub all-imp : (f g : A → Bool) → ((x : A) → f x ≡ true → g x ≡ true) → (l : List A) → all f l ≡ true → all g l ≡ true
+  all-imp f g i l h = all-in g l (λ x m. i x (all-out f m h))
+
+  pub none-join : (f : A → Bool) (l m : List A) → any f l ≡ false → any f m ≡ false → any f (l ++ m) ≡ false
+  none-join f [] m h k = k
+  none-join f (x ∷ l) m h k = let q = neither (f x) (any f l) h in rw (q .0) (none-join f l m (q .1) k)
 
   -- some element fails a test that not all pass
   pub all-fails : (f : A → Bool) (l : List A) → all f l ≡ false → (x : A) × (x ∈ l) × (f x ≡ false)

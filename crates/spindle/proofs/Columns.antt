@@ -18,7 +18,7 @@ use Rattle.expression.proofs.Words.{spare-length}
 use Rattle.factor.specs.{Form.formOf, Text.formText, Text.textOf}
 use Rattle.network.specs.{Held.numberAt, declared.Network.Network}
 use Rattle.network_nodes.specs.Nodes.{cut}
-use Rattle.spindle.specs.Node.{longest, nameOf, columnOf, columnIn, columnAt, widestOf}
+use Rattle.spindle.specs.Node.{longest, nameOf, lengthOf, lengthIn, lengthAt, widestOf}
 
 -- ---- the names
 
@@ -77,39 +77,39 @@ module _ (ws : List ℕ) where
   few s = past (cubeWords * mostHanded) (length ws) (length (cubesOf ws)) mostHanded
       (λ h. omega (arith, spare-length ws, none-left (spareOf ws) s)) (λ h. omega (arith, spare-length ws, none-left (spareOf ws) s))
 
-  column : (o : List ℕ) → length o ≡ longest → toldOf (orLong (refusal ws) (textOf ws) o) (textOf ws) ≡ columnIn ws
-  unfolding refusal columnOf textOf
+  column : (o : List ℕ) → length o ≡ longest → toldOf (orLong (refusal ws) (textOf ws) o) (textOf ws) ≡ lengthIn ws
+  unfolding refusal lengthOf textOf
   column o r = go (decided (isNil (spareOf ws)))
     where
-      go : (isNil (spareOf ws) ≡ true) ⊎ (isNil (spareOf ws) ≡ false) → toldOf (orLong (refusal ws) (textOf ws) o) (textOf ws) ≡ columnIn ws
+      go : (isNil (spareOf ws) ≡ true) ⊎ (isNil (spareOf ws) ≡ false) → toldOf (orLong (refusal ws) (textOf ws) o) (textOf ws) ≡ lengthIn ws
       go (inl s) = rw (s, few s) (sift (leb (length (cubesOf ws)) mostHanded) (expression (cubesOf ws)) (leb (length (textOf ws)) longest) (textOf ws) o
           (past (length o) (length (textOf ws)) (length (textOf ws)) longest (λ h. omega arith) (λ h. omega arith)))
       go (inr s) = rw s (spared (ltb (cubeWords * mostHanded) (length ws)) (textOf ws) o)
 
-  pub column-told : (o o′ : List ℕ) (a : Wrote) → length o ≡ longest → Told (refusal ws) (textOf ws) o o′ a → told a ≡ columnIn ws
+  pub column-told : (o o′ : List ℕ) (a : Wrote) → length o ≡ longest → Told (refusal ws) (textOf ws) o o′ a → told a ≡ lengthIn ws
   column-told o o′ a r p = answered (orLong (refusal ws) (textOf ws) o) (textOf ws) o o′ a p ∙ column o r
 
 -- words with none left over
-pub column-whole : (ws : List ℕ) (f : List (List ℕ)) → cubesOf ws ≡ f → spareOf ws ≡ [] → columnIn ws ≡ columnOf f
-column-whole ws f e s = ap₂ (λ g l. cond (isNil l) (columnOf g) 0) e s
+pub length-whole : (ws : List ℕ) (f : List (List ℕ)) → cubesOf ws ≡ f → spareOf ws ≡ [] → lengthIn ws ≡ lengthOf f
+length-whole ws f e s = ap₂ (λ g l. cond (isNil l) (lengthOf g) 0) e s
 
 within : (a w : Bool) (k : ℕ) → (w ≡ true → k ≤ longest) → cond (a && w) k 0 ≤ longest
 within true true k h = h refl
 within true false k h = omega arith
 within false w k h = omega arith
 
-column-most : (f : List (List ℕ)) → columnOf f ≤ longest
-unfolding columnOf
-column-most f =
+length-most : (f : List (List ℕ)) → lengthOf f ≤ longest
+unfolding lengthOf
+length-most f =
     let k = length (formText (formOf f)) in
     within (leb (length f) mostHanded && expression f) (leb k longest) k (leb-true k longest)
 
 -- no text that was written is longer
-pub column-past : (ws : List ℕ) (k : ℕ) → k ≡ columnIn ws → longest < k → 0 ≡ columnIn ws
+pub column-past : (ws : List ℕ) (k : ℕ) → k ≡ lengthIn ws → longest < k → 0 ≡ lengthIn ws
 column-past ws k e l = absurd (omega (arith, e, l, go (isNil (spareOf ws))))
   where
-    go : (b : Bool) → cond b (columnOf (cubesOf ws)) 0 ≤ longest
-    go true = column-most (cubesOf ws)
+    go : (b : Bool) → cond b (lengthOf (cubesOf ws)) 0 ≤ longest
+    go true = length-most (cubesOf ws)
     go false = omega arith
 
 -- ---- the widest
@@ -119,16 +119,16 @@ module _ (n : Network) where
   unfolding widestOf
   widest-none = refl
 
-  next : (i : ℕ) → widestOf n (suc i) ≡ max (widestOf n i) (columnAt n i)
+  next : (i : ℕ) → widestOf n (suc i) ≡ max (widestOf n i) (lengthAt n i)
   unfolding widestOf
   next i = refl
 
-  pub widest-next : (i m r : ℕ) → m ≡ widestOf n i → r ≡ max m (columnAt n i) → r ≡ widestOf n (i + 1)
-  widest-next i m r e f = let s : i + 1 ≡ suc i = omega arith in rw s (f ∙ ap (λ k. max k (columnAt n i)) e ∙ sym (next i))
+  pub widest-next : (i m r : ℕ) → m ≡ widestOf n i → r ≡ max m (lengthAt n i) → r ≡ widestOf n (i + 1)
+  widest-next i m r e f = let s : i + 1 ≡ suc i = omega arith in rw s (f ∙ ap (λ k. max k (lengthAt n i)) e ∙ sym (next i))
 
   widest-most : (i : ℕ) → widestOf n i ≤ longest
   widest-most zero = omega (arith, widest-none)
-  widest-most (suc i) = omega (arith, next i, widest-most i, column-most (getD (cut (n .counts) (cubesOf (n .words))) i []))
+  widest-most (suc i) = omega (arith, next i, widest-most i, length-most (getD (cut (n .counts) (cubesOf (n .words))) i []))
 
   pub widest-whole : (i nodes k m : ℕ) → i ≤ nodes → nodes ≤ i → nodes ≡ k → m ≡ widestOf n i → (m ≡ widestOf n k) × (m ≤ longest)
   widest-whole i nodes k m a b w e = let s : i ≡ k = omega arith in (e ∙ ap (widestOf n) s, omega (arith, e, widest-most i))

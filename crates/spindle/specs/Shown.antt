@@ -12,9 +12,9 @@ shownByte b = cond (eqb b 9 || (leb 32 b && leb b 126)) b 63
 unfoldable pub underByte : ℕ → ℕ
 underByte b = cond (eqb b 9) 9 32
 
--- the most bytes of a line that are shown, and the most of them that stand before the column where some are cut
+-- the most bytes of a line that are shown, and the most of them that stand before the column where bytes after them are cut
 abbrev pub mostShown : ℕ
-mostShown = 72
+mostShown = 70
 
 abbrev pub mostBefore : ℕ
 mostBefore = 60

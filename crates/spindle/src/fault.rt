@@ -5,11 +5,15 @@ use crate::before::Seen;
 use crate::line::complain;
 use crate::line::tell;
 use crate::line::tell_byte;
+use crate::line::tell_grouped;
 use crate::line::tell_labelled;
 use crate::line::tell_number;
 use crate::shown;
 use network::MOST_INPUTS;
 use network::MOST_OUTPUTS;
+use table::MOST_BYTES;
+use table::MOST_PRODUCTS;
+use table::MOST_ROWS;
 use table_kinds::Kind;
 
 // ---- what was found
@@ -31,6 +35,31 @@ fn tell_found(b: u8) {
     }
 }
 
+// Whether a comment stands after what is left of the line.
+fn has_comment(l: &[u8]) -> bool {
+    let span = table_lines::content_of(l);
+    span.end < table_lines::trim_end(l).len()
+}
+
+fn ends_in_cr(l: &[u8]) -> bool {
+    if l.len() == 0 {
+        return false;
+    }
+    l[l.len() - 1] == b'\r'
+}
+
+// A line that ends too soon: what it says ends before its comment, and a CR is shown as `?`.
+fn tell_end(l: &[u8]) {
+    tell(b"the end of the line");
+    if has_comment(l) {
+        tell(b" before its comment");
+        return;
+    }
+    if ends_in_cr(l) {
+        tell(b", after a carriage return (shown as ?)");
+    }
+}
+
 // The byte at the column, or the end.
 fn tell_at(l: &[u8], column: usize) {
     let p = shown::place_of(column, l.len());
@@ -38,12 +67,28 @@ fn tell_at(l: &[u8], column: usize) {
         tell_found(l[p]);
         return;
     }
-    tell(b"the end of the line");
+    tell_end(l);
 }
 
 // ---- what a good line has there: a line of no kind, by its beginning
 
-fn tell_numbered(letter: u8) {
+fn tell_names() {
+    tell(b"; a line that begins with a point is .i N, .o N, .p N, .e or .end");
+}
+
+fn is_letter(b: u8) -> bool {
+    match b {
+        b'a'..=b'z' | b'A'..=b'Z' => true,
+        _ => false,
+    }
+}
+
+// `.i`, `.o` or `.p`, and the byte after it; with a letter more it is another name, as `.ilb`.
+fn tell_named(letter: u8, next: u8) {
+    if is_letter(next) {
+        tell_names();
+        return;
+    }
     tell(b"; .");
     tell_byte(letter);
     tell(
@@ -51,12 +96,12 @@ fn tell_numbered(letter: u8) {
     );
 }
 
-// A point, and the byte after it.
-fn tell_pointed(letter: u8) {
+// A point, and the two bytes after it.
+fn tell_pointed(letter: u8, next: u8) {
     match letter {
-        b'i' | b'o' | b'p' => tell_numbered(letter),
+        b'i' | b'o' | b'p' => tell_named(letter, next),
         b'e' => tell(b"; a line that begins with .e is .e or .end, and nothing else"),
-        _ => tell(b"; a line that begins with a point is .i N, .o N, .p N, .e or .end"),
+        _ => tell_names(),
     }
 }
 
@@ -97,7 +142,7 @@ fn byte_at(c: &[u8], i: usize) -> u8 {
 fn tell_begun(c: &[u8], s: Seen) {
     let first = byte_at(c, 0);
     match first {
-        b'.' => tell_pointed(byte_at(c, 1)),
+        b'.' => tell_pointed(byte_at(c, 1), byte_at(c, 2)),
         b'0' | b'1' | b'-' => tell_cube(s),
         _ => tell_other(s),
     }
@@ -136,7 +181,8 @@ fn tell_early(s: Seen) {
     tell(b"; .e comes after both .i and .o");
 }
 
-fn tell_line(l: &[u8], column: usize, c: &[u8], s: Seen) {
+// A line that is spelled as a kind, or is of none.
+fn tell_spelled(l: &[u8], column: usize, c: &[u8], s: Seen) {
     let kind = table_kinds::kind_of(c);
     match kind {
         Kind::Inputs(_) => tell_misplaced(b".i", s.inputs != 0),
@@ -158,15 +204,16 @@ fn tell_range(n: u32, name: &[u8], least: u64, most: u64) {
     tell(b"; ");
     tell(name);
     tell_labelled(b" has a number from ", least);
-    tell_labelled(b" to ", most);
+    tell(b" to ");
+    tell_grouped(most);
 }
 
-fn tell_number_of(c: &[u8]) {
+fn tell_out_of_range(c: &[u8]) {
     let kind = table_kinds::kind_of(c);
     match kind {
         Kind::Inputs(n) => tell_range(n, b".i", 1, MOST_INPUTS as u64),
         Kind::Outputs(n) => tell_range(n, b".o", 1, MOST_OUTPUTS as u64),
-        Kind::Products(n) => tell_range(n, b".p", 0, 32768),
+        Kind::Products(n) => tell_range(n, b".p", 0, MOST_PRODUCTS as u64),
         _ => {}
     }
 }
@@ -194,15 +241,21 @@ fn tell_count(s: Seen) {
     tell_stated(s.stated);
 }
 
+fn tell_rows() {
+    tell(b"one row too many; a table has at most ");
+    tell_grouped(MOST_ROWS);
+    tell(b" rows, one for each 1 of an output");
+}
+
 // ---- the whole
 
 fn tell_sentence(number: u32, l: &[u8], column: usize, c: &[u8], s: Seen) {
     tell(b"spindle: found ");
     match number {
-        3 => tell_number_of(c),
+        3 => tell_out_of_range(c),
         4 => tell_count(s),
-        6 => tell(b"one row too many; a table has at most 1,024 rows, one for each 1 of an output"),
-        _ => tell_line(l, column, c, s),
+        6 => tell_rows(),
+        _ => tell_spelled(l, column, c, s),
     }
     tell(b"\n");
 }
@@ -227,13 +280,20 @@ fn explain_line(path: &[u8], text: &[u8], number: u32, line: u32, column: usize)
     tell_sentence(number, l, column, before::content(l), seen);
 }
 
+fn explain_length(path: &[u8]) {
+    tell(b"spindle: ");
+    tell(path);
+    tell(b": found over ");
+    tell_grouped(MOST_BYTES as u64);
+    tell(b" bytes; a table has at most ");
+    tell_grouped(MOST_BYTES as u64);
+    tell(b"\n");
+}
+
 // Why the text, which came from the path, is refused by a number, at a line and a column from 1.
 pub fn explain(path: &[u8], text: &[u8], number: u32, line: u32, column: usize) {
     match number {
-        1 => complain(
-            path,
-            b": found over 65,536 bytes; a table has at most 65,536",
-        ),
+        1 => explain_length(path),
         5 => complain(
             path,
             b": found the end of the text; a table ends with a line .e or .end",

@@ -131,6 +131,19 @@ pub fn tell_number(x: u64) {
     io::print_decimal(STDERR_FILENO, x);
 }
 
+// A number of at most six digits, with a comma before its last three: `65,536`.
+pub fn tell_grouped(x: u64) {
+    if x < 1000 {
+        tell_number(x);
+        return;
+    }
+    tell_number(x / 1000);
+    tell(b",");
+    tell_number(x / 100 % 10);
+    tell_number(x / 10 % 10);
+    tell_number(x % 10);
+}
+
 // A number after the text.
 pub fn tell_labelled(text: &[u8], x: u64) {
     tell(text);

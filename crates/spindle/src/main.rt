@@ -16,7 +16,6 @@ use libc::STDERR_FILENO;
 use libc::STDOUT_FILENO;
 use network::Handed;
 use network::Network;
-use table::Refusal;
 
 // Room for any file: a byte more than the longest image whose fields are each in range, and than any table. A BLIF text has no
 // longest length: one that fills it is not read.
@@ -65,19 +64,6 @@ fn refused(number: u32) -> Loaded {
     without()
 }
 
-// ---- refused tables
-
-fn explain(path: &[u8], text: &[u8], q: Refusal) {
-    fault::explain(path, text, q.number, q.line, q.column);
-}
-
-// A table's refusal, printed and explained.
-fn refused_table(path: &[u8], text: &[u8], q: Refusal) -> Loaded {
-    line::refuse_table(q.number, q.line, q.column);
-    explain(path, text, q);
-    without()
-}
-
 // ---- reports
 
 fn print_front(page: &[u8], n: usize) {
@@ -85,11 +71,11 @@ fn print_front(page: &[u8], n: usize) {
 }
 
 // The table is read again, for its refusal.
-fn explain_report(path: &[u8], text: &[u8]) {
+fn explain(path: &[u8], text: &[u8]) {
     let t = table::read(text);
     let answer = t.answer;
     if let table::Answer::Refused(q) = answer {
-        explain(path, text, q);
+        fault::explain(path, text, q.number, q.line, q.column);
     }
 }
 
@@ -104,7 +90,7 @@ fn is_refusal(page: &[u8]) -> bool {
 fn print_page(path: &[u8], text: &[u8], page: &[u8], n: usize) {
     print_front(page, n);
     if is_refusal(page) {
-        explain_report(path, text);
+        explain(path, text);
     }
 }
 
@@ -119,12 +105,13 @@ fn print_report(path: &[u8], text: &[u8]) {
 
 // ---- networks
 
-// The network of a table after its steps; a refusal is printed.
+// The network of a table after its steps; the report of a refused one is its refusal.
 fn extracted(path: &[u8], text: &[u8]) -> Loaded {
     let t = table::read(text);
     let answer = t.answer;
-    if let table::Answer::Refused(q) = answer {
-        return refused_table(path, text, q);
+    if let table::Answer::Refused(_) = answer {
+        print_report(path, text);
+        return without();
     }
     let read = t.network;
     let r = extract::run(read, report::ASKED);
@@ -255,10 +242,30 @@ fn on_loaded(c: Command, l: Loaded, word: &[u8], text: &[u8]) {
     }
 }
 
+// Whether a command takes tables and images alike.
+fn takes_both(c: Command) -> bool {
+    match c {
+        Command::Blif | Command::BlifTo | Command::Map => true,
+        _ => false,
+    }
+}
+
+// The network of an image; where the file might have been meant as a table, a refusal says what it was taken for.
+fn imaged(c: Command, path: &[u8], bytes: &[u8]) -> Loaded {
+    let l = handed(image_read::read(bytes));
+    if !l.ok && takes_both(c) {
+        line::complain(
+            path,
+            b": taken for an image; a table begins with a point, a blank, an empty line, or # for a comment",
+        );
+    }
+    l
+}
+
 fn on_kind(c: Command, k: Kind, bytes: &[u8], path: &[u8], word: &[u8]) {
     match k {
         Kind::Table => on_loaded(c, extracted(path, bytes), word, bytes),
-        Kind::Image => on_loaded(c, handed(image_read::read(bytes)), word, b""),
+        Kind::Image => on_loaded(c, imaged(c, path, bytes), word, b""),
         Kind::Blif => on_loaded(c, handed(blif_read::read(bytes)), word, b""),
     }
 }

@@ -10,7 +10,7 @@ ghost use Rattle.expression.specs.Words.{cubesOf};
 ghost use Rattle.expression.specs.Expression.{literalsOf};
 ghost use Rattle.expression.specs.Answers.{capped};
 ghost use Rattle.network_nodes.specs.Nodes.{cut};
-ghost use Rattle.spindle.specs.Node.{longest, nameOf, columnIn, columnAt, widestOf};
+ghost use Rattle.spindle.specs.Node.{longest, nameOf, lengthIn, lengthAt, widestOf};
 
 // The longest text that widens a column.
 const MOST_COLUMN: usize = 40;
@@ -48,7 +48,7 @@ pub fn literals(n: Network, i: usize) -> u64
 
 // The length of the factored text of f, or 0 where that is too long for a column.
 fn length_of(f: &[u64]) -> usize
-    ensures { λ r. ⌜ r ≡ columnIn (now (f .entry)) ⌝ }
+    ensures { λ r. ⌜ r ≡ lengthIn (now (f .entry)) ⌝ }
 {
     let mut room = [0u8; MOST_COLUMN];
     let a = factor::factored(f, &mut room);
@@ -63,7 +63,7 @@ fn length_of(f: &[u64]) -> usize
 
 // The greater of a length so far and that of node i.
 fn widened(most: usize, n: Network, i: usize) -> usize
-    ensures { λ r. ⌜ r ≡ max most (columnAt n i) ⌝ }
+    ensures { λ r. ⌜ r ≡ max most (lengthAt n i) ⌝ }
 {
     let words = n.words;
     let counts = n.counts;

@@ -106,7 +106,7 @@ isLine k = mem k (2 ∷ 3 ∷ 4 ∷ 6 ∷ [])
 
 -- the column of the refusal of the line l by a number; that it is refused so is for `Refuses` to say
 pub data Points (s : State) (l : List ℕ) : ℕ → ℕ → Type 0 where
-  -- 2, by itself of no other kind and no cube line either: the first byte that no good line could hold there, or one past a line that merely ends too soon
+  -- 2, not spelled as a kind: the first byte that no good line could hold there, or one past a line that merely ends too soon
   fault : {c : ℕ} → kindOf (content l) ≡ Other → Fault (s .wide) (s .tall) l c → Points s l 2 c
   -- 2, of a kind, and repeated or misplaced: its first byte that isn't blank
   misplaced : (p : ℕ) → (kindOf (content l) ≡ Other → ⊥) → FirstOf (λ b. not (isBlank b)) l p → Points s l 2 (p + 1)

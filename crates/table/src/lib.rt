@@ -20,15 +20,15 @@ ghost use Rattle.table.specs.Parts.{Numbers, Answers, Roomy, Keeps, Leav
 ghost use Rattle.table.specs.Parts.{pick, Room, formed, Buildable, netFrom};
 
 // The limits of a table.
-const MOST_BYTES: usize = 65536;
+pub const MOST_BYTES: usize = 65536;
 
 const MOST_INPUTS: u32 = network::MOST_INPUTS as u32;
 
 const MOST_OUTPUTS: u32 = network::MOST_OUTPUTS as u32;
 
-const MOST_PRODUCTS: u32 = 32768;
+pub const MOST_PRODUCTS: u32 = 32768;
 
-const MOST_ROWS: u64 = 1024;
+pub const MOST_ROWS: u64 = 1024;
 
 // The number, the line and the column of a refusal.
 pub struct Refusal {

@@ -1,39 +1,16 @@
--- The bytes of what is of a kind: but for blanks they stand past the blanks and `#`; and tests of many bytes. Assumes nothing.
+-- The bytes of what is of a kind: but for blanks they stand past the blanks and `#`. Assumes nothing.
 use Prim.Native.Nat.{ℕ}
-use mathlib.Core.Path.{_≡_, sym, _∙_}
-use mathlib.Core.Logic.{inl, inr}
+use mathlib.Core.{Path._≡_, Path._∙_, Logic.inl, Logic.inr, List.List}
 use mathlib.Core.Bool.{Bool, true, false, not, _||_, or-assoc}
-use mathlib.Core.List.{List, [], _∷_, _++_}
 use native.Mathlib.Omega.{arith}
 use lib.Dec.{eqb, leb}
 use borrow.Author.Tests.{eqb-true, ne-eqb, leb-true, le-leb}
 use Rattle.sets.specs.Lists.{any, all}
-use Rattle.sets.proofs.Truth.{both, together, either, neither, refuted, clash}
-use Rattle.sets.proofs.Lists.{all-in, all-out, any-out, all-append}
+use Rattle.sets.proofs.Truth.{both, either, refuted, clash}
+use Rattle.sets.proofs.Lists.{all-out, any-out, all-imp}
 use Rattle.letters.specs.Meaning.{isDigit}
 use Rattle.table_lines.specs.{Text.isBlank, Meaning.lacks}
 use Rattle.table_rows.specs.Lines.{isPlace, isMark}
-
--- ---- a test of many bytes
-
-module _ (f : ℕ → Bool) where
-  -- what follows for each follows for all
-  pub all-imp : (g : ℕ → Bool) → ((x : ℕ) → f x ≡ true → g x ≡ true) → (l : List ℕ) → all f l ≡ true → all g l ≡ true
-  all-imp g i l h = all-in g l (λ x m. i x (all-out f m h))
-
-  pub all-join : (a b : List ℕ) → all f a ≡ true → all f b ≡ true → all f (a ++ b) ≡ true
-  all-join a b h k = all-append f a b ∙ together (all f a) (all f b) h k
-
-  pub all-parts : (a b : List ℕ) → all f (a ++ b) ≡ true → (all f a ≡ true) × (all f b ≡ true)
-  all-parts a b h = both (all f a) (all f b) (sym (all-append f a b) ∙ h)
-
-  pub none-join : (a b : List ℕ) → any f a ≡ false → any f b ≡ false → any f (a ++ b) ≡ false
-  none-join [] b h k = k
-  none-join (x ∷ a) b h k = let q = neither (f x) (any f a) h in rw (q .0) (none-join a b (q .1) k)
-
-  -- no blank passes it
-  pub none-blank : ((x : ℕ) → isBlank x ≡ true → f x ≡ false) → (l : List ℕ) → all isBlank l ≡ true → any f l ≡ false
-  none-blank i l h = refuted (λ e. let w = any-out f l e in clash (w .2) (i (w .0) (all-out isBlank (w .1) h)))
 
 -- ---- sorts of bytes
 
@@ -72,3 +49,7 @@ highs-plain = all-imp high plain high-plain
 
 pub blanks-plain : (l : List ℕ) → all isBlank l ≡ true → lacks 35 l ≡ true
 blanks-plain = all-imp isBlank plain blank-plain
+
+-- a test that no blank passes
+pub none-blank : (f : ℕ → Bool) → ((x : ℕ) → isBlank x ≡ true → f x ≡ false) → (l : List ℕ) → all isBlank l ≡ true → any f l ≡ false
+none-blank f i l h = refuted (λ e. let w = any-out f l e in clash (w .2) (i (w .0) (all-out isBlank (w .1) h)))

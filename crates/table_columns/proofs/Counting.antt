@@ -1,6 +1,6 @@
 -- How far a line goes, counted by the turns of a loop, and that it stays within the line. Assumes nothing.
-use Prim.Native.Nat.{ℕ, zero, suc, _+_, _-_, _<_, _≤_}
-use mathlib.Core.Path.{_≡_, refl, sym, _∙_, ap}
+use Prim.Native.Nat.{ℕ, zero, suc, _+_, _-_, _<_, _≤_, max}
+use mathlib.Core.Path.{_≡_, refl, sym, _∙_, ap, subst}
 use mathlib.Core.Logic.{_⊎_, inl, inr}
 use mathlib.Core.Bool.{Bool, true, false, cond, not}
 use mathlib.Core.List.{List, [], _∷_, map}
@@ -10,14 +10,14 @@ use lib.Dec.{eqb, leb}
 use lib.ListN.{length, getD, take, drop, length-drop, length-map, drop-of-length-le, List·getD-map}
 use lib.Seq.{length-take-le, getD-take, drop-drop}
 use borrow.Author.Tests.{eq-eqb, ne-eqb, le-leb, lt-leb}
-use Rattle.sets.proofs.Places.{drop-next}
+use Rattle.sets.proofs.{Truth.below, Truth.equal, Truth.beyond, Truth.compared, Places.drop-next}
 use Rattle.letters.specs.Meaning.{isDigit}
 use Rattle.table_lines.specs.{Text.trimFront, Text.content, Text.contentSpan, declared.Span.Span}
 use Rattle.table_lines.proofs.{Ends.front-le, Spans.span-inside, Spans.span-content}
 use Rattle.table_kinds.specs.{Kinds.kindOf, declared.Kind.Kind}
 use Rattle.table_kinds.specs.declared.Kind.the-variants.{Empty, Inputs, Outputs, Products, End, Other}
 use Rattle.table_columns.specs.Forms as good
-use Rattle.table_columns.specs.Forms.{front, limit, reach, cubeForm, cubeForms, forms, larger, farthest}
+use Rattle.table_columns.specs.Forms.{front, limit, reach, cubeForm, cubeForms, forms, farthest}
 use Rattle.table_columns.specs.Columns.{known, orZero, digitPlace, onePlace, rowPlace, kindPlace, placeIn, placeOf}
 use Rattle.table_columns.specs.Parts.{partOf}
 use Rattle.table_columns.specs.declared.{Part.Part, Sort.the-variants.Blank, Most.the-variants.Any}
@@ -163,7 +163,7 @@ one-bound (suc k) (b ∷ o) = omega (arith, one-bound (cond (eqb b 49) k (suc k)
 -- ---- the farthest of some forms
 
 -- one form more, in front
-pub far-next : (f g : List good.Part) (fs : List (List good.Part)) (c : List ℕ) (k r : ℕ) → r ≡ larger (reach f c) k → f ≡ g → k ≡ farthest fs c
+pub far-next : (f g : List good.Part) (fs : List (List good.Part)) (c : List ℕ) (k r : ℕ) → r ≡ max (reach f c) k → f ≡ g → k ≡ farthest fs c
     → r ≡ farthest (g ∷ fs) c
 unfolding farthest
 far-next f g fs c k r e q h = rw (e, q, h)
@@ -172,13 +172,18 @@ pub far-none : (c : List ℕ) → farthest [] c ≡ 0
 unfolding farthest
 far-none c = refl
 
-pub larger-of : (P : ℕ → Type 0) (a b : ℕ) → P a → P b → P (larger a b)
-larger-of P a b h k = elim (leb a b) as (λ e. P (cond e b a)) [ true ↦ k | false ↦ h ]
+-- the larger of two numbers is one of them
+pub max-of : (P : ℕ → Type 0) (a b : ℕ) → P a → P b → P (max a b)
+max-of P a b h k = elim (compared a b) [
+  | below e s t ↦ let q : b ≡ max a b = omega arith in subst P q k
+  | equal e s t ↦ let q : b ≡ max a b = omega arith in subst P q k
+  | beyond e s t ↦ let q : a ≡ max a b = omega arith in subst P q h
+]
 
 pub far-bound : (fs : List (List good.Part)) (c : List ℕ) → farthest fs c ≤ length c
 unfolding farthest
 far-bound [] c = omega arith
-far-bound (f ∷ fs) c = larger-of (λ k. k ≤ length c) (reach f c) (farthest fs c) (reach-bound f c) (far-bound fs c)
+far-bound (f ∷ fs) c = max-of (λ k. k ≤ length c) (reach f c) (farthest fs c) (reach-bound f c) (far-bound fs c)
 
 -- ---- inputs and outputs, 0 while they are missing
 

@@ -1,28 +1,29 @@
 -- The column of a line of no kind in the paper's words, and of one of a kind. Assumes nothing.
 use Prim.Native.Nat.{ℕ, suc, _+_, _<_, _≤_}
 use mathlib.Core.Path.{_≡_, refl, sym, ap, _∙_, subst}
-use mathlib.Core.{Logic._↔_, Option.Option}
-use mathlib.Core.Bool.{Bool, true, false, cond, not}
+use mathlib.Core.Logic.{_⊎_, inl, inr, _↔_}
+use mathlib.Core.Option.{Option, none}
+use mathlib.Core.Bool.{Bool, true, false, cond, not, _||_}
 use mathlib.Core.List.{List, [], _∷_, _++_, append-nil, append-assoc}
 use native.Mathlib.Omega.{arith}
 use lib.Dec.{eqb}
 use lib.ListN.{length, take, drop, getD, take-append-drop}
 use lib.Seq.{length-take-le, take-length, take-suc, take-take, getD-take, append-snoc, split-at}
 use borrow.Author.Tests.{eqb-true, eqb-false, not-true}
-use Rattle.sets.{specs.Lists.all, proofs.Truth.both, proofs.Truth.together}
+use Rattle.sets.{specs.Lists.all, specs.Sets.same, proofs.Truth.both, proofs.Truth.together, proofs.Truth.either}
+use Rattle.sets.proofs.Lists.{all-imp, all-join, all-parts}
 use Rattle.letters.specs.Meaning.{isDigit}
 use Rattle.table_lines.specs.Text.{isBlank, startsBlank, uncommented, trimFront, trimEnd, content}
 use Rattle.table_lines.specs.Meaning.{lacks, endsBlank, Leaves}
-use Rattle.table_lines.proofs.{Blanks.front-blanks, Spans.span-inside, Parting.end-out, Parting.content-iff}
-use Rattle.table_kinds.specs.{Kinds.kindOf, declared.Kind.Kind, declared.Kind.the-variants.Empty, declared.Kind.the-variants.Other}
+use Rattle.table_lines.proofs.{Blanks.front-blanks, Blanks.front-solid, Spans.span-inside, Parting.end-out, Parting.content-iff}
+use Rattle.table_kinds.specs.{Kinds.kindOf, Kinds.named, declared.Kind.Kind, declared.Kind.the-variants.Empty, declared.Kind.the-variants.Other}
 use Rattle.table_kinds.specs.Meaning.{Names, Spelled, bare, dotI, dotO, dotP, dotE, dotEnd}
-use Rattle.table_rows.specs.Lines.{isPlace, isMark}
-use Rattle.table_columns.specs.Forms.{forms, farthest}
+use Rattle.table_rows.specs.{Lines.isPlace, Lines.isMark, Lines.CubeLine, Meaning.Writes}
+use Rattle.table_columns.specs.Forms.{front, reach, forms, farthest}
 use Rattle.table_columns.specs.Columns.{known, placeIn, placeOf, columnOf}
 use Rattle.table_columns.specs.Meaning.{Kinded, spelled, cube, Good, Begins, First, Fault, soon, byte, FirstOf}
-use Rattle.table_columns.proofs.Counting.{far-bound, known-one, kind-none, in-bound}
-use Rattle.table_columns.proofs.Bytes.{all-imp, all-join, all-parts, high, digit-high, mark-high, place-high, high-solid}
-use Rattle.table_columns.proofs.Bytes.{plain, highs-plain, blanks-plain}
+use Rattle.table_columns.proofs.Counting.{far-bound, known-one, cubes-less, kind-none, in-bound}
+use Rattle.table_columns.proofs.Bytes.{high, digit-high, mark-high, place-high, high-solid, plain, highs-plain, blanks-plain}
 use Rattle.table_columns.proofs.Standing.{start, gap-blank, line-take, line-at, only, first-pointed}
 use Rattle.table_columns.proofs.Fitting.{Bare, far-begins, far-most}
 
@@ -111,11 +112,6 @@ comment-past : (a z : List ℕ) → lacks 35 a ≡ true → uncommented (a ++ z)
 unfolding uncommented
 comment-past [] z h = refl
 comment-past (x ∷ a) z h = let w = both (plain x) (lacks 35 a) h in rw (not-true (eqb x 35) (w .0)) (ap (λ (s : List ℕ). x ∷ s) (comment-past a z (w .1)))
-
-front-solid : (s : List ℕ) → startsBlank s ≡ false → trimFront s ≡ s
-unfolding trimFront
-front-solid [] h = refl
-front-solid (x ∷ s) h = rw h
 
 -- a good line that goes on so after blanks is one without them and its comment
 good-bare : (w t : Option ℕ) (f a z : List ℕ) → all isBlank f ≡ true → lacks 35 a ≡ true → 1 ≤ length a → startsBlank a ≡ false
@@ -236,3 +232,30 @@ first-iff r w t k l c a b o e =
     let s = kind-solid (content l) e (parted l .starts) in
     first-pointed (λ x. not (isBlank x)) l (λ x h. rw h) r w t k c
     (rw (a, b, kind-none (kindOf (content l)) w t (content l) o) (record { inside = s .0; there = s .1; before = refl }))
+
+-- ---- a cube line of any size, where none is good yet
+
+-- one of `0 1 -` at the front: of no other kind, and no form goes with it
+early-place : (b : ℕ) (c : List ℕ) → isPlace b ≡ true → (kindOf (b ∷ c) ≡ Other) × (farthest (forms none none) (b ∷ c) ≡ 0)
+unfolding kindOf named same farthest reach front
+early-place b c h = elim (either (eqb b 48) (eqb b 49 || eqb b 45) h) [
+  | inl e ↦ rw (eqb-true b 48 e) (refl, refl)
+  | inr g ↦ elim (either (eqb b 49) (eqb b 45) g) [ inl e ↦ rw (eqb-true b 49 e) (refl, refl) | inr e ↦ rw (eqb-true b 45 e) (refl, refl) ]
+]
+
+-- while inputs or outputs are missing a cube line is too early: its first byte that isn't blank
+pub early-iff : (w t : Option ℕ) (k : ℕ) (l : List ℕ) (c n m : ℕ) (x : CubeLine) → (w ≡ none) ⊎ (t ≡ none) → 1 ≤ n → Writes n m (content l) x
+    → (columnOf 2 w t k l ≡ c) ↔ ((p : ℕ) × (c ≡ p + 1) × FirstOf (λ b. not (isBlank b)) l p)
+unfolding placeIn
+early-iff w t k l c n m x e h y = first-pointed (λ b. not (isBlank b)) l (λ b z. rw z) 2 w t k c (go (x .places) (content l) (y .text) (y .places) (y .number))
+  where
+    less : forms w t ≡ forms none none
+    less = elim e [ inl a ↦ rw a | inr a ↦ rw (a, cubes-less w) ]
+
+    go : (q d : List ℕ) → d ≡ q ++ (y .blanks ++ y .signs) → all isPlace q ≡ true → length q ≡ n
+        → FirstOf (λ b. not (isBlank b)) d (placeIn 2 w t k d)
+    go [] d a f s = absurd (omega arith)
+    go (b ∷ q) d a f s =
+        let p = both (isPlace b) (all isPlace q) f .0 in
+        let r = early-place b (q ++ (y .blanks ++ y .signs)) p in
+        rw (a, r .0, less, r .1) (record { inside = omega arith; there = rw (high-solid b (place-high b p)); before = refl })

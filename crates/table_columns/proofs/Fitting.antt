@@ -5,12 +5,11 @@ use mathlib.Core.Logic.{_⊎_, inl, inr}
 use mathlib.Core.{Bool.true, Option.Option, Option.some}
 use mathlib.Core.List.{List, [], _∷_, _++_, map, append-nil, append-assoc, cons-ne-nil}
 use native.Mathlib.Omega.{arith}
-use lib.Dec.{eqb, leb}
+use lib.Dec.{eqb}
 use lib.ListN.{length, take, drop, take-append-drop}
 use lib.Seq.{length-take-le}
-use borrow.Author.Tests.{leb-true, leb-false, eqb-true, eq-eqb}
-use Rattle.sets.specs.Lists.{all}
-use Rattle.sets.proofs.Truth.{both, decided, clash}
+use borrow.Author.Tests.{eqb-true, eq-eqb}
+use Rattle.sets.{specs.Lists.all, proofs.Truth.both, proofs.Truth.clash}
 use Rattle.letters.specs.Meaning.{isDigit, readBack}
 use Rattle.table_lines.specs.Text.{isBlank}
 use Rattle.table_kinds.specs.{Kinds.mostDigits, declared.Kind.Kind}
@@ -18,9 +17,9 @@ use Rattle.table_kinds.specs.Meaning.{Names, Spelled, bare, dotI, dotO, dotP, d
 use Rattle.table_kinds.specs.declared.Kind.the-variants.{Empty, Inputs, Outputs, Products, End}
 use Rattle.table_rows.specs.{Lines.isMark, Lines.CubeLine, Meaning.Writes}
 use Rattle.table_columns.specs.Forms.{Part, exactly, between, orMore, reach, blanks, numberForm, cubeForm, cubeForms, forms}
-use Rattle.table_columns.specs.Forms.{larger, farthest}
+use Rattle.table_columns.specs.Forms.{farthest}
 use Rattle.table_columns.specs.{Columns.known, Meaning.Kinded, Meaning.spelled, Meaning.cube}
-use Rattle.table_columns.proofs.Counting.{larger-of}
+use Rattle.table_columns.proofs.Counting.{max-of}
 use Rattle.table_columns.proofs.Bytes.{high, digit-high, mark-high, high-solid}
 use Rattle.table_columns.proofs.Reaching.{Takes, Sound, Fits, Clear, reach-begins, reach-most}
 
@@ -33,12 +32,6 @@ pub record Bare (w t : Option ℕ) (g : List ℕ) : Type 0 where
   pub blank : all isBlank tail ≡ true
 
 -- ---- the farthest
-
-larger-le : (a b : ℕ) → (a ≤ larger a b) × (b ≤ larger a b)
-larger-le a b = elim (decided (leb a b)) [
-  | inl e ↦ rw e (leb-true a b e, omega arith)
-  | inr e ↦ rw e (omega arith, omega (arith, leb-false a b e))
-]
 
 -- the forms are clear, and a line that fits one is good
 data Proper (w t : Option ℕ) : List (List Part) → Type 0 where
@@ -58,16 +51,16 @@ begins-proper : (w t : Option ℕ) (fs : List (List Part)) → Proper w t fs →
 unfolding farthest
 begins-proper w t fs done c = ([], blank-good w t [] refl)
 begins-proper w t fs (also {f = f} {fs = gs} e g r) c = let q = reach-begins f e c in
-    larger-of (λ k. (rest : List ℕ) × Bare w t (take k c ++ rest)) (reach f c) (farthest gs c)
+    max-of (λ k. (rest : List ℕ) × Bare w t (take k c ++ rest)) (reach f c) (farthest gs c)
     (q .0, g (take (reach f c) c ++ q .0) (q .1)) (begins-proper w t gs r c)
 
 most-some : (w t : Option ℕ) (fs : List (List Part)) → Proper w t fs → (u v z : List ℕ) → FitsSome fs (u ++ z) → length u ≤ farthest fs (u ++ v)
 unfolding farthest
 most-some w t fs done u v z h = absurd h
 most-some w t fs (also {f = f} {fs = gs} e g r) u v z (inl h) =
-    omega (arith, reach-most f e u v z h, larger-le (reach f (u ++ v)) (farthest gs (u ++ v)) .0)
+    omega (arith, reach-most f e u v z h)
 most-some w t fs (also {f = f} {fs = gs} e g r) u v z (inr h) =
-    omega (arith, most-some w t gs r u v z h, larger-le (reach f (u ++ v)) (farthest gs (u ++ v)) .1)
+    omega (arith, most-some w t gs r u v z h)
 
 -- ---- the parts of the forms
 

@@ -12,10 +12,9 @@ use lib.ListN.{length, take, drop, replicate, length-append, length-replicate}
 use lib.Seq.{length-take-le, take-add, drop-at}
 use borrow.Author.Tests.{leb-true}
 use Rattle.sets.specs.Lists.{all}
-use Rattle.sets.proofs.Truth.{both, together, refuted}
+use Rattle.sets.proofs.{Truth.both, Truth.together, Truth.refuted, Lists.all-join, Lists.all-parts}
 use Rattle.table_columns.specs.Forms.{Part, front, limit, reach}
 use Rattle.table_columns.proofs.Counting.{front-none, front-bound, taken, reach-enough}
-use Rattle.table_columns.proofs.Bytes.{all-join, all-parts}
 
 -- ---- the bytes at the front
 

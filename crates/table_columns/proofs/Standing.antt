@@ -8,12 +8,12 @@ use native.Mathlib.Omega.{arith}
 use lib.ListN.{length, take, drop, getD, length-append}
 use lib.Seq.{length-take-le, take-at, take-add, take-take, getD-take, getD-drop}
 use Rattle.sets.specs.Lists.{any, all}
-use Rattle.sets.proofs.{Truth.clash, Truth.below, Truth.equal, Truth.beyond, Truth.compared, Lists.any-in, Places.at-in}
+use Rattle.sets.proofs.{Truth.clash, Truth.below, Truth.equal, Truth.beyond, Truth.compared, Lists.any-in, Lists.none-join, Places.at-in}
 use Rattle.table_lines.specs.Text.{isBlank, uncommented, trimFront, content, contentSpan}
 use Rattle.table_lines.proofs.{Blanks.trimmed, Spans.commented, Spans.span-inside, Spans.span-content}
 use Rattle.table_columns.specs.Columns.{placeIn, placeOf, columnOf}
 use Rattle.table_columns.specs.Meaning.{FirstOf}
-use Rattle.table_columns.proofs.{Counting.place-inside, Bytes.none-join, Bytes.none-blank}
+use Rattle.table_columns.proofs.{Counting.place-inside, Bytes.none-blank}
 
 -- where what is left of a line starts
 abbrev pub start : List ℕ → ℕ

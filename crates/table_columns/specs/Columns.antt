@@ -34,7 +34,7 @@ onePlace (suc k) (b ∷ t) = suc (onePlace (cond (eqb b 49) k (suc k)) t)
 abbrev pub rowPlace : ℕ → ℕ → List ℕ → ℕ
 rowPlace n k c = let o = trimFront (drop n c) in (length c - length o) + onePlace k o
 
--- the place up to which a line goes by its kind: one that is spelled as a kind not at all, another as far as a good line could
+-- by its kind: 0 for a line that is spelled as one; for another how far some good line agrees with it
 abbrev pub kindPlace : Kind → Option ℕ → Option ℕ → List ℕ → ℕ
 kindPlace Empty w t c = 0
 kindPlace (Inputs n) w t c = 0
@@ -48,7 +48,7 @@ kindPlace Other w t c = farthest (forms w t) c
 unfoldable pub placeIn : ℕ → Option ℕ → Option ℕ → ℕ → List ℕ → ℕ
 placeIn r w t k c = cond (eqb r 3) (digitPlace c) (cond (eqb r 6) (rowPlace (orZero w) k c) (kindPlace (kindOf c) w t c))
 
--- the place in the whole line; past it where the place is past what is left, as where that merely ends too soon
+-- the place in the whole line; one past the line where what is left merely ends too soon
 unfoldable pub placeOf : ℕ → Option ℕ → Option ℕ → ℕ → List ℕ → ℕ
 placeOf r w t k l = let p = placeIn r w t k (content l) in
     cond (eqb p (length (content l))) (length l) ((contentSpan l) .start + p)

@@ -1,5 +1,5 @@
 -- The forms of good lines, and how far a line goes with one.
-use Prim.Native.Nat.{ℕ, zero, suc, _+_}
+use Prim.Native.Nat.{ℕ, zero, suc, _+_, max}
 use mathlib.Core.Bool.{Bool, cond}
 use mathlib.Core.List.{List, [], _∷_}
 use mathlib.Core.Option.{Option, none, some}
@@ -78,11 +78,7 @@ cubeForms (some n) (some m) = cubeForm n m ∷ []
 abbrev pub forms : Option ℕ → Option ℕ → List (List Part)
 forms w t = emptyForm ∷ numberForm 105 ∷ numberForm 111 ∷ numberForm 112 ∷ endForm ∷ wordForm ∷ cubeForms w t
 
--- the larger of two numbers
-abbrev pub larger : ℕ → ℕ → ℕ
-larger a b = cond (leb a b) b a
-
 -- how many bytes of c some good line could begin with
 unfoldable pub farthest : List (List Part) → List ℕ → ℕ
 farthest [] c = 0
-farthest (f ∷ fs) c = larger (reach f c) (farthest fs c)
+farthest (f ∷ fs) c = max (reach f c) (farthest fs c)

@@ -1,19 +1,17 @@
 // The place of the refusal of a line: the byte that it points to.
+use table_kinds::DIGITS;
 use table_kinds::Kind;
 ghost use mathlib.Core.Path.{_≡_};
-ghost use Prim.Native.Nat.{_≤_};
+ghost use Prim.Native.Nat.{_≤_, max};
 ghost use lib.Dec.{eqb};
 ghost use lib.ListN.{drop};
 ghost use Rattle.letters.specs.Meaning.{isDigit};
 ghost use Rattle.table_rows.specs.Lines.{isPlace, isMark};
 ghost use Rattle.table_columns.specs.Forms as good;
 ghost use Rattle.table_columns.specs.Forms.{front, limit, reach, emptyForm, numberForm, endForm, wordForm, cubeForm};
-ghost use Rattle.table_columns.specs.Forms.{cubeForms, forms, larger, farthest};
+ghost use Rattle.table_columns.specs.Forms.{cubeForms, forms, farthest};
 ghost use Rattle.table_columns.specs.Columns.{known, onePlace, rowPlace, kindPlace, placeIn, placeOf};
 ghost use Rattle.table_columns.specs.Parts.{testOf, mostOf, partOf, formOf, places};
-
-// The most digits of a number.
-const DIGITS: usize = 5;
 
 // The most parts of a form.
 const PARTS: usize = 5;
@@ -243,7 +241,7 @@ fn cube_form(n: usize, m: usize) -> Form
 // How far c goes with the parts of the form, or as far as before.
 fn at_least(k: usize, form: Form, c: &[u8]) -> usize
     requires { ⌜ form .count ≤ places ⌝ }
-    ensures { λ r. ⌜ r ≡ larger (reach (formOf form) (now (c .entry))) k ⌝ }
+    ensures { λ r. ⌜ r ≡ max (reach (formOf form) (now (c .entry))) k ⌝ }
 {
     let r = reach(form, c);
     if r <= k {
@@ -333,7 +331,7 @@ fn place_in(c: &[u8], number: u32, n: usize, m: usize, k: usize) -> usize
 }
 
 // The place in line l of its refusal by a number, before which n inputs and m outputs were known, 0 while missing, and k rows might
-// still come; the length of the line where the place is past what is left of it, as where that merely ends too soon.
+// still come; one past the line where what is left of it merely ends too soon.
 pub fn place_of(l: &[u8], number: u32, n: usize, m: usize, k: usize) -> usize
     ensures { λ r. ⌜ r ≡ placeOf number (known n) (known m) k (now (l .entry)) ⌝ }
 {

@@ -7,7 +7,7 @@ ghost use Rattle.table_kinds.specs.Kinds.{numberOf, argument, named, kin
 ghost use Rattle.table_kinds.specs.Parts.{numberIn, lettered, ends};
 
 // The most digits of a number.
-const DIGITS: usize = 5;
+pub const DIGITS: usize = 5;
 
 pub enum Kind {
     Empty,

@@ -51,12 +51,17 @@ pub starts-gap : (b o : List ℕ) → Blanks b → startsBlank (b ++ o) ≡ true
 starts-gap [] o h = absurd (omega (arith, h .one))
 starts-gap (x ∷ b) o h = both (isBlank x) (all isBlank b) (h .each) .0
 
+-- none is taken off where none stands
+pub front-solid : (o : List ℕ) → startsBlank o ≡ false → trimFront o ≡ o
+unfolding trimFront
+front-solid [] h = refl
+front-solid (x ∷ o) h = rw h
+
 -- and bytes that are no blanks are left after them
 module _ (p : ℕ → Bool) (solid : (x : ℕ) → p x ≡ true → isBlank x ≡ false) where
-  front-solid : (o : List ℕ) → all p o ≡ true → trimFront o ≡ o
-  unfolding trimFront
-  front-solid [] h = refl
-  front-solid (x ∷ o) h = rw (solid x (both (p x) (all p o) h .0))
+  starts-solid : (o : List ℕ) → all p o ≡ true → startsBlank o ≡ false
+  starts-solid [] h = refl
+  starts-solid (x ∷ o) h = solid x (both (p x) (all p o) h .0)
 
   pub gap-in : (b o : List ℕ) → Blanks b → all p o ≡ true → (startsBlank (b ++ o) ≡ true) × (trimFront (b ++ o) ≡ o)
-  gap-in b o h k = (starts-gap b o h, front-blanks b o (h .each) ∙ front-solid o k)
+  gap-in b o h k = (starts-gap b o h, front-blanks b o (h .each) ∙ front-solid o (starts-solid o k))

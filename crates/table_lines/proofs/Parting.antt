@@ -15,7 +15,7 @@ use Rattle.table_lines.specs.Meaning.{lacks, joined, Lines, endsBlank, i
 use Rattle.table_lines.proofs.{Blanks.trimmed, Blanks.front-blanks, Spans.commented}
 
 -- the first byte of what lacks b, and the others
-lacks-first : (b x : ℕ) (l : List ℕ) → lacks b (x ∷ l) ≡ true → (eqb x b ≡ false) × (lacks b l ≡ true)
+pub lacks-first : (b x : ℕ) (l : List ℕ) → lacks b (x ∷ l) ≡ true → (eqb x b ≡ false) × (lacks b l ≡ true)
 lacks-first b x l h = let w = both (not (eqb x b)) (lacks b l) h in (not-true (eqb x b) (w .0), w .1)
 
 -- ---- lines

@@ -55,39 +55,49 @@ module _ {l : ℕ} where
       go later false true k = elim (List·Memᴰ·cases-cons k) [ inl e ↦ (omega arith, omega arith) | inr i ↦ later i ]
       go later false false k = later k
 
--- the variables of the literals ascend
-from-ascend : (v : ℕ) (p : List ℕ) → pairwise (λ x y. ltb (x / 2) (y / 2)) (cubeFrom v p) ≡ true
-unfolding cubeFrom
-from-ascend v [] = refl
-from-ascend v (b ∷ t) = go (eqb b 49) (eqb b 48) (from-ascend (suc v) t)
-  where
-    first : (l : ℕ) → l / 2 ≡ v → all (λ y. ltb (l / 2) (y / 2)) (cubeFrom (suc v) t) ≡ true
-    first l e = all-in (λ y. ltb (l / 2) (y / 2)) (cubeFrom (suc v) t) (λ y m. let r = from-bounds (suc v) t m in lt-ltb (l / 2) (y / 2) (omega arith))
+-- ---- literals whose variables ascend
 
-    go : (x y : Bool) → pairwise (λ x y. ltb (x / 2) (y / 2)) (cubeFrom (suc v) t) ≡ true
-        → pairwise (λ x y. ltb (x / 2) (y / 2)) (cond x ((2 * v) ∷ cubeFrom (suc v) t) (cond y ((2 * v + 1) ∷ cubeFrom (suc v) t) (cubeFrom (suc v) t))) ≡ true
-    go true y k = together _ _ (first (2 * v) (omega arith)) k
-    go false true k = together _ _ (first (2 * v + 1) (omega arith)) k
-    go false false k = k
+abbrev pub climbs : ℕ → ℕ → Bool
+climbs x y = ltb (x / 2) (y / 2)
 
-pub from-asc : (v : ℕ) (p : List ℕ) → asc (cubeFrom v p) ≡ true
-from-asc v p = pairwise-imp (λ x y. ltb (x / 2) (y / 2)) ltb (cubeFrom v p) (λ x y h. let k = ltb-true (x / 2) (y / 2) h in lt-ltb x y (omega arith))
-    (from-ascend v p)
+-- ascend themselves
+pub climbs-asc : (c : List ℕ) → pairwise climbs c ≡ true → asc c ≡ true
+climbs-asc c h = pairwise-imp climbs ltb c (λ x y k. let i = ltb-true (x / 2) (y / 2) k in lt-ltb x y (omega arith)) h
 
--- no variable both ways
-pub from-proper : (v : ℕ) (p : List ℕ) → proper (cubeFrom v p) ≡ true
-from-proper v p = proper-in (cubeFrom v p) (λ z m. refuted (λ k. clashing z (pairwise-out differ differ-sym apart (of-mem z _ m) (of-mem (oppositeOf z) _ k))))
+-- and have no variable both ways
+pub climbs-proper : (c : List ℕ) → pairwise climbs c ≡ true → proper c ≡ true
+climbs-proper c h = proper-in c (λ z m. refuted (λ k. clashing z (pairwise-out differ differ-sym apart (of-mem z c m) (of-mem (oppositeOf z) c k))))
   where
     differ : ℕ → ℕ → Bool
     differ x y = not (eqb (x / 2) (y / 2))
 
     differ-sym : (x y : ℕ) → differ x y ≡ true → differ y x ≡ true
-    differ-sym x y h = let e = eqb-false (x / 2) (y / 2) (not-true _ h) in rw (ne-eqb (y / 2) (x / 2) (λ q. e (sym q)))
+    differ-sym x y k = let e = eqb-false (x / 2) (y / 2) (not-true _ k) in rw (ne-eqb (y / 2) (x / 2) (λ q. e (sym q)))
 
-    apart : pairwise differ (cubeFrom v p) ≡ true
-    apart = pairwise-imp (λ x y. ltb (x / 2) (y / 2)) differ (cubeFrom v p)
-        (λ x y h. let k = ltb-true (x / 2) (y / 2) h in rw (ne-eqb (x / 2) (y / 2) (omega arith))) (from-ascend v p)
+    apart : pairwise differ c ≡ true
+    apart = pairwise-imp climbs differ c (λ x y k. let i = ltb-true (x / 2) (y / 2) k in rw (ne-eqb (x / 2) (y / 2) (omega arith))) h
 
     clashing : (z : ℕ) → (z ≡ oppositeOf z) ⊎ (differ z (oppositeOf z) ≡ true) → ⊥
     clashing z (inl e) = omega arith
     clashing z (inr e) = let q : z / 2 ≡ oppositeOf z / 2 = omega arith in eqb-false (z / 2) (oppositeOf z / 2) (not-true _ e) q
+
+-- the variables of the literals ascend
+from-ascend : (v : ℕ) (p : List ℕ) → pairwise climbs (cubeFrom v p) ≡ true
+unfolding cubeFrom
+from-ascend v [] = refl
+from-ascend v (b ∷ t) = go (eqb b 49) (eqb b 48) (from-ascend (suc v) t)
+  where
+    first : (l : ℕ) → l / 2 ≡ v → all (climbs l) (cubeFrom (suc v) t) ≡ true
+    first l e = all-in (climbs l) (cubeFrom (suc v) t) (λ y m. let r = from-bounds (suc v) t m in lt-ltb (l / 2) (y / 2) (omega arith))
+
+    go : (x y : Bool) → pairwise climbs (cubeFrom (suc v) t) ≡ true
+        → pairwise climbs (cond x ((2 * v) ∷ cubeFrom (suc v) t) (cond y ((2 * v + 1) ∷ cubeFrom (suc v) t) (cubeFrom (suc v) t))) ≡ true
+    go true y k = together _ _ (first (2 * v) (omega arith)) k
+    go false true k = together _ _ (first (2 * v + 1) (omega arith)) k
+    go false false k = k
+
+pub from-asc : (v : ℕ) (p : List ℕ) → asc (cubeFrom v p) ≡ true
+from-asc v p = climbs-asc (cubeFrom v p) (from-ascend v p)
+
+pub from-proper : (v : ℕ) (p : List ℕ) → proper (cubeFrom v p) ≡ true
+from-proper v p = climbs-proper (cubeFrom v p) (from-ascend v p)

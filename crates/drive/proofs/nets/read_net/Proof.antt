@@ -9,9 +9,8 @@ use lib.ListN.{getD, replicate, length-replicate}
 use Rattle.sets.proofs.Truth.{refuted}
 use Rattle.drive_request.specs.{Words.firstGroup, Words.afterGroup, Numbers.numbersOf, Reading.countOf}
 use Rattle.network.specs.Handed.{nodeSlots, wordSlots}
-use Rattle.drive.specs.Rooms.{manyOf, Filled}
+use Rattle.drive.specs.{Rooms.manyOf, Rooms.Filled, declared.nets.Given.Given}
 use Rattle.drive.specs.Nets.{readOf, givenOf, givenIn}
-use Rattle.drive.specs.declared.nets.Given.{Given}
 use Rattle.drive.proofs.nets.read_net.Statement.{statement}
 use Rattle.drive.proofs.nets.read_net.Tie as tie
 

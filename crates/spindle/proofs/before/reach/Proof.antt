@@ -5,8 +5,7 @@ use mathlib.Core.List.{List}
 use native.Mathlib.Omega.{arith}
 use lib.ListN.{length, drop}
 use borrow.Author.Needs.{needs}
-use Rattle.table_lines.specs.Text.{lineOf}
-use Rattle.table_lines.proofs.Lining.{line-part, line-ends}
+use Rattle.table_lines.{specs.Text.lineOf, proofs.Lining.line-part, proofs.Lining.line-ends}
 use Rattle.spindle.specs.Before.{after}
 use Rattle.spindle.proofs.Reaching.{Walks, walk-first, walk-done, walk-next, walk-over}
 use Rattle.spindle.proofs.before.reach.Statement.{statement}

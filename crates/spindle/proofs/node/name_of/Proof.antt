@@ -1,7 +1,6 @@
 -- `node::name_of` meets its contract: an output by its place, a divisor by its number. Assumes nothing.
 use borrow.Author.Needs.{needs}
-use Rattle.spindle.proofs.Columns.{name-output, name-divisor}
-use Rattle.spindle.proofs.node.name_of.Statement.{statement}
+use Rattle.spindle.proofs.{Columns.name-output, Columns.name-divisor, node.name_of.Statement.statement}
 use Rattle.spindle.proofs.node.name_of.Tie as tie
 
 returns : tie.Need-returns

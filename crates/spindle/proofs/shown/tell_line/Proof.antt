@@ -4,8 +4,7 @@ use native.Mathlib.Omega.{arith}
 use lib.ListN.{length}
 use borrow.Author.Needs.{needs}
 use Rattle.spindle.specs.Shown.{Shows}
-use Rattle.spindle.proofs.Windows.{window-shows}
-use Rattle.spindle.proofs.shown.tell_line.Statement.{statement}
+use Rattle.spindle.proofs.{Windows.window-shows, shown.tell_line.Statement.statement}
 use Rattle.spindle.proofs.shown.tell_line.Tie as tie
 
 fitting : (c : tie.After-window) → Shows (length (c .before .before .before .args .l .now)) (c .before .place-of .result) (c .window .result)

@@ -1,6 +1,5 @@
 -- `shown::under` meets its contract. Assumes nothing.
-use Rattle.spindle.proofs.Windows.{under-tab, under-other}
-use Rattle.spindle.proofs.shown.under.Statement.{statement}
+use Rattle.spindle.proofs.{Windows.under-tab, Windows.under-other, shown.under.Statement.statement}
 use Rattle.spindle.proofs.shown.under.Tie as tie
 
 returns : tie.Need-returns

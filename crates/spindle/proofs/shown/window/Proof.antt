@@ -1,8 +1,7 @@
 -- `shown::window` meets its contract. Assumes nothing.
 use native.Mathlib.Omega.{arith}
 use borrow.Author.Needs.{needs}
-use Rattle.spindle.proofs.Windows.{window-is}
-use Rattle.spindle.proofs.shown.window.Statement.{statement}
+use Rattle.spindle.proofs.{Windows.window-is, shown.window.Statement.statement}
 use Rattle.spindle.proofs.shown.window.Tie as tie
 
 returns : tie.Need-returns
