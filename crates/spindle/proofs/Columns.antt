@@ -86,8 +86,8 @@ module _ (ws : List ℕ) where
           (past (length o) (length (textOf ws)) (length (textOf ws)) longest (λ h. omega arith) (λ h. omega arith)))
       go (inr s) = rw s (spared (ltb (cubeWords * mostHanded) (length ws)) (textOf ws) o)
 
-  pub column-told : (o o′ : List ℕ) (a : Wrote) → length o ≡ longest → Told (refusal ws) (textOf ws) o o′ a → told a ≡ lengthIn ws
-  column-told o o′ a r p = answered (orLong (refusal ws) (textOf ws) o) (textOf ws) o o′ a p ∙ column o r
+  pub length-told : (o o′ : List ℕ) (a : Wrote) → length o ≡ longest → Told (refusal ws) (textOf ws) o o′ a → told a ≡ lengthIn ws
+  length-told o o′ a r p = answered (orLong (refusal ws) (textOf ws) o) (textOf ws) o o′ a p ∙ column o r
 
 -- words with none left over
 pub length-whole : (ws : List ℕ) (f : List (List ℕ)) → cubesOf ws ≡ f → spareOf ws ≡ [] → lengthIn ws ≡ lengthOf f
@@ -105,8 +105,8 @@ length-most f =
     within (leb (length f) mostHanded && expression f) (leb k longest) k (leb-true k longest)
 
 -- no text that was written is longer
-pub column-past : (ws : List ℕ) (k : ℕ) → k ≡ lengthIn ws → longest < k → 0 ≡ lengthIn ws
-column-past ws k e l = absurd (omega (arith, e, l, go (isNil (spareOf ws))))
+pub length-past : (ws : List ℕ) (k : ℕ) → k ≡ lengthIn ws → longest < k → 0 ≡ lengthIn ws
+length-past ws k e l = absurd (omega (arith, e, l, go (isNil (spareOf ws))))
   where
     go : (b : Bool) → cond b (lengthOf (cubesOf ws)) 0 ≤ longest
     go true = length-most (cubesOf ws)

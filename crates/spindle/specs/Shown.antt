@@ -12,7 +12,7 @@ shownByte b = cond (eqb b 9 || (leb 32 b && leb b 126)) b 63
 unfoldable pub underByte : ℕ → ℕ
 underByte b = cond (eqb b 9) 9 32
 
--- the most bytes of a line that are shown, and the most of them that stand before the column where bytes after them are cut
+-- the most bytes of a line that are shown, and the most of them before the column when bytes after it are cut
 abbrev pub mostShown : ℕ
 mostShown = 70
 

@@ -48,15 +48,14 @@ fn ends_in_cr(l: &[u8]) -> bool {
     l[l.len() - 1] == b'\r'
 }
 
-// A line that ends too soon: what it says ends before its comment, and a CR is shown as `?`.
+// The end of a line that ends too soon.
 fn tell_end(l: &[u8]) {
     tell(b"the end of the line");
     if has_comment(l) {
         tell(b" before its comment");
-        return;
     }
     if ends_in_cr(l) {
-        tell(b", after a carriage return (shown as ?)");
+        tell(b" (its carriage return is shown as ?)");
     }
 }
 
@@ -72,7 +71,7 @@ fn tell_at(l: &[u8], column: usize) {
 
 // ---- what a good line has there: a line of no kind, by its beginning
 
-fn tell_names() {
+fn tell_kinds() {
     tell(b"; a line that begins with a point is .i N, .o N, .p N, .e or .end");
 }
 
@@ -86,7 +85,7 @@ fn is_letter(b: u8) -> bool {
 // `.i`, `.o` or `.p`, and the byte after it; with a letter more it is another name, as `.ilb`.
 fn tell_named(letter: u8, next: u8) {
     if is_letter(next) {
-        tell_names();
+        tell_kinds();
         return;
     }
     tell(b"; .");
@@ -101,7 +100,7 @@ fn tell_pointed(letter: u8, next: u8) {
     match letter {
         b'i' | b'o' | b'p' => tell_named(letter, next),
         b'e' => tell(b"; a line that begins with .e is .e or .end, and nothing else"),
-        _ => tell_names(),
+        _ => tell_kinds(),
     }
 }
 
@@ -162,7 +161,6 @@ fn tell_misplaced(name: &[u8], is_again: bool) {
     tell(b" after a cube line; it stands before any cube line");
 }
 
-// What is missing.
 fn tell_missing(s: Seen) {
     if s.inputs != 0 {
         tell(b".o");
@@ -198,9 +196,8 @@ fn tell_spelled(l: &[u8], column: usize, c: &[u8], s: Seen) {
 
 // ---- the other refusals
 
-// A number out of its range.
 fn tell_range(n: u32, name: &[u8], least: u64, most: u64) {
-    tell_number(n as u64);
+    tell_grouped(n as u64);
     tell(b"; ");
     tell(name);
     tell_labelled(b" has a number from ", least);

@@ -34,7 +34,7 @@ fn say_maps(fd: i32) {
     );
     say(
         fd,
-        b"spindle help\n    this page\nA file to read may be - for standard input; one whose first word is .model is read as a BLIF text, where a network is asked for.\nA table that breaks a rule is answered by one line, refused 2 at line 3 column 7, and standard error shows that line of the table;\nan image or a BLIF text that does by refused 12 at line 0",
+        b"spindle help\n    this page\nA file to read may be - for standard input; one whose first word is .model is read as a BLIF text, where a network is asked for.\nA table that breaks a rule is answered by one line, refused 2 at line 3 column 7, and standard error shows the line and says why;\nan image or a BLIF text that does by refused 12 at line 0",
     );
 }
 

@@ -5,7 +5,7 @@ ghost use mathlib.Core.Path.{_≡_};
 ghost use Prim.Native.Nat.{_-_, min};
 ghost use Rattle.spindle.specs.Shown.{shownByte, underByte, windowOf};
 
-// The most bytes of a line that are shown, and the most of them that stand before the column where bytes after them are cut.
+// The most bytes of a line that are shown, and the most of them before the column when bytes after it are cut.
 const MOST_SHOWN: usize = 70;
 
 const MOST_BEFORE: usize = 60;

@@ -18,7 +18,7 @@ use Rattle.table.specs.Table.{State, columnAt, mostRows}
 use Rattle.table.specs.Meaning.{Bounded, Points, fault, misplaced, digit, point, row}
 use Rattle.table.specs.Meaning.{Refuses, lateInputs, lateOutputs, lateProducts, earlyEnd, earlyCube, noKind, outInputs, outOutputs, outProducts}
 use Rattle.table.specs.Meaning.{differs, over}
-use Rattle.table.proofs.Standing.{known-same}
+use Rattle.table.proofs.Standing.{or-zero-same}
 use Rattle.table_columns.proofs.{Faults.fault-iff, Faults.first-iff, Pointing.digit-iff, Pointing.row-iff}
 
 -- ---- the line of a number names it by its letter
@@ -102,7 +102,7 @@ module _ (l : List ℕ) (s : State) where
   other-points g e c = Iff·trans law (fault-is e c)
     where
       law : (columnAt s l 2 ≡ c) ↔ Fault (s .wide) (s .tall) l c
-      law = rw (known-same mostInputs (s .wide) (g .wide), known-same mostOutputs (s .tall) (g .tall))
+      law = rw (or-zero-same mostInputs (s .wide) (g .wide), or-zero-same mostOutputs (s .tall) (g .tall))
           at (fault-iff (orZero (s .wide)) (orZero (s .tall)) left l c e)
 
   -- of a kind: the first byte that isn't blank

@@ -11,7 +11,7 @@ use borrow.Author.Tests.{leb-true, eq-eqb, ne-eqb}
 use Rattle.sets.{specs.Lists.isNil, proofs.Truth.both, proofs.Truth.clash}
 use Rattle.network.specs.Held.{mostInputs, mostOutputs}
 use Rattle.table_rows.specs.Lines.{CubeLine}
-use Rattle.table_columns.specs.Columns.{known, orZero}
+use Rattle.table_columns.specs.Columns.{unlessZero, orZero}
 use Rattle.table.specs.Table as table
 use Rattle.table.specs.Table.{missing, rightCount, columnAt}
 use Rattle.table.specs.{Meaning.within, Meaning.Bounded, Parts.oneMore, Parts.Stands, Parts.columnBy, declared.State.State}
@@ -19,10 +19,10 @@ use Rattle.table.proofs.Reasons.{is-none}
 
 -- ---- a number from 1 on stands for itself, 0 for a missing one
 
-pub known-same : (most : ℕ) (o : Option ℕ) → within most o ≡ true → known (orZero o) ≡ o
-known-same most none h = refl
-known-same most (some zero) h = clash h refl
-known-same most (some (suc n)) h = refl
+pub or-zero-same : (most : ℕ) (o : Option ℕ) → within most o ≡ true → unlessZero (orZero o) ≡ o
+or-zero-same most none h = refl
+or-zero-same most (some zero) h = clash h refl
+or-zero-same most (some (suc n)) h = refl
 
 pub record Stored (most : ℕ) (o : Option ℕ) (k : ℕ) : Type 0 where
   pub gone : missing o ≡ eqb k 0
@@ -79,6 +79,6 @@ module _ {t : table.State} {s : State} {words marks : List ℕ} (g : Bounded t) 
   -- the column of a refusal is the same by what was read and by the numbers
   pub column-same : (l : List ℕ) (k : ℕ) → columnBy s l k ≡ columnAt t l k
   column-same l k =
-      let a : known (s .inputs) ≡ t .wide = ap known (h .wide) ∙ known-same mostInputs (t .wide) (g .wide) in
-      let b : known (s .outputs) ≡ t .tall = ap known (h .tall) ∙ known-same mostOutputs (t .tall) (g .tall) in
+      let a : unlessZero (s .inputs) ≡ t .wide = ap unlessZero (h .wide) ∙ or-zero-same mostInputs (t .wide) (g .wide) in
+      let b : unlessZero (s .outputs) ≡ t .tall = ap unlessZero (h .tall) ∙ or-zero-same mostOutputs (t .tall) (g .tall) in
       cc (h .rows)

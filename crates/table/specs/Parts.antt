@@ -12,7 +12,7 @@ use Rattle.network.specs.{Net.Net, Held.mostOutputs}
 use Rattle.table_lines.specs.Text.{linesOf}
 use Rattle.table_kinds.specs.Kinds.{kindOf}
 use Rattle.table_rows.specs.Lines.{CubeLine, rowsIn, cubeOf}
-use Rattle.table_columns.specs.Columns.{known, orZero, columnOf}
+use Rattle.table_columns.specs.Columns.{unlessZero, orZero, columnOf}
 use Rattle.table.specs.Table as table
 use Rattle.table.specs.{Table.mostBytes, Table.mostRows, Meaning.Bounded, declared.Scanned.Scanned}
 use Rattle.table.specs.declared.Answer.the-variants as Answer
@@ -99,7 +99,7 @@ pub record Ready (text words marks : List ℕ) : Type 0 where
 
 -- the column of the refusal of line l by number k
 abbrev pub columnBy : State → List ℕ → ℕ → ℕ
-columnBy s l k = columnOf k (known (s .inputs)) (known (s .outputs)) (mostRows - s .rows) l
+columnBy s l k = columnOf k (unlessZero (s .inputs)) (unlessZero (s .outputs)) (mostRows - s .rows) l
 
 -- the answer to line l, which is the last to be read: what was read, or the refusal
 abbrev pub stoppedAt : Turn → List ℕ → ℕ → State → Scanned

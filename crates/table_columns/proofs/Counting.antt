@@ -18,7 +18,7 @@ use Rattle.table_kinds.specs.{Kinds.kindOf, declared.Kind.Kind}
 use Rattle.table_kinds.specs.declared.Kind.the-variants.{Empty, Inputs, Outputs, Products, End, Other}
 use Rattle.table_columns.specs.Forms as good
 use Rattle.table_columns.specs.Forms.{front, limit, reach, cubeForm, cubeForms, forms, farthest}
-use Rattle.table_columns.specs.Columns.{known, orZero, digitPlace, onePlace, rowPlace, kindPlace, placeIn, placeOf}
+use Rattle.table_columns.specs.Columns.{unlessZero, orZero, digitPlace, onePlace, rowPlace, kindPlace, placeIn, placeOf}
 use Rattle.table_columns.specs.Parts.{partOf}
 use Rattle.table_columns.specs.declared.{Part.Part, Sort.the-variants.Blank, Most.the-variants.Any}
 
@@ -187,11 +187,11 @@ far-bound (f ∷ fs) c = max-of (λ k. k ≤ length c) (reach f c) (farthest fs 
 
 -- ---- inputs and outputs, 0 while they are missing
 
-pub or-zero : (n : ℕ) → orZero (known n) ≡ n
+pub or-zero : (n : ℕ) → orZero (unlessZero n) ≡ n
 or-zero zero = refl
 or-zero (suc n) = refl
 
-pub known-one : (n k : ℕ) → known n ≡ some k → 1 ≤ k
+pub known-one : (n k : ℕ) → unlessZero n ≡ some k → 1 ≤ k
 known-one zero k e = let z : _≡_ {A = ℕ} 0 1 = cc in absurd (omega arith)
 known-one (suc n) k e = let q : suc n ≡ k = cc in omega arith
 
@@ -199,7 +199,7 @@ pub cubes-less : (w : Option ℕ) → cubeForms w none ≡ []
 cubes-less none = refl
 cubes-less (some n) = refl
 
-pub cubes-known : (n m : ℕ) → (n ≡ 0 → ⊥) → (m ≡ 0 → ⊥) → cubeForms (known n) (known m) ≡ cubeForm n m ∷ []
+pub cubes-known : (n m : ℕ) → (n ≡ 0 → ⊥) → (m ≡ 0 → ⊥) → cubeForms (unlessZero n) (unlessZero m) ≡ cubeForm n m ∷ []
 cubes-known zero m h k = absurd (h refl)
 cubes-known (suc n) zero h k = absurd (k refl)
 cubes-known (suc n) (suc m) h k = refl

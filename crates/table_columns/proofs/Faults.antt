@@ -1,9 +1,9 @@
--- The column of a line of no kind in the paper's words, and of one of a kind. Assumes nothing.
+-- The column of a line of no kind in the paper's words, of one of a kind, and of a cube line that comes too early. Assumes nothing.
 use Prim.Native.Nat.{ℕ, suc, _+_, _<_, _≤_}
 use mathlib.Core.Path.{_≡_, refl, sym, ap, _∙_, subst}
 use mathlib.Core.Logic.{_⊎_, inl, inr, _↔_}
 use mathlib.Core.Option.{Option, none}
-use mathlib.Core.Bool.{Bool, true, false, cond, not, _||_}
+use mathlib.Core.Bool.{Bool, true, false, cond, not, _||_, false≢true}
 use mathlib.Core.List.{List, [], _∷_, _++_, append-nil, append-assoc}
 use native.Mathlib.Omega.{arith}
 use lib.Dec.{eqb}
@@ -18,9 +18,9 @@ use Rattle.table_lines.specs.Meaning.{lacks, endsBlank, Leaves}
 use Rattle.table_lines.proofs.{Blanks.front-blanks, Blanks.front-solid, Spans.span-inside, Parting.end-out, Parting.content-iff}
 use Rattle.table_kinds.specs.{Kinds.kindOf, Kinds.named, declared.Kind.Kind, declared.Kind.the-variants.Empty, declared.Kind.the-variants.Other}
 use Rattle.table_kinds.specs.Meaning.{Names, Spelled, bare, dotI, dotO, dotP, dotE, dotEnd}
-use Rattle.table_rows.specs.{Lines.isPlace, Lines.isMark, Lines.CubeLine, Meaning.Writes}
+use Rattle.table_rows.specs.Lines.{isPlace, isMark}
 use Rattle.table_columns.specs.Forms.{front, reach, forms, farthest}
-use Rattle.table_columns.specs.Columns.{known, placeIn, placeOf, columnOf}
+use Rattle.table_columns.specs.Columns.{unlessZero, placeIn, placeOf, columnOf}
 use Rattle.table_columns.specs.Meaning.{Kinded, spelled, cube, Good, Begins, First, Fault, soon, byte, FirstOf}
 use Rattle.table_columns.proofs.Counting.{far-bound, known-one, cubes-less, kind-none, in-bound}
 use Rattle.table_columns.proofs.Bytes.{high, digit-high, mark-high, place-high, high-solid, plain, highs-plain, blanks-plain}
@@ -80,7 +80,7 @@ spelled-clean {c} (dotP n h) = named-clean 112 n c refl h
 spelled-clean (dotE e) = clean-as e refl refl refl
 spelled-clean (dotEnd e) = clean-as e refl refl refl
 
-kinded-clean : (n m : ℕ) {c : List ℕ} → Kinded (known n) (known m) c → Clean c
+kinded-clean : (n m : ℕ) {c : List ℕ} → Kinded (unlessZero n) (unlessZero m) c → Clean c
 kinded-clean n m (spelled k h) = spelled-clean h
 kinded-clean n m {c} (cube i o l p q w) =
     let a = known-one n i p in
@@ -91,9 +91,9 @@ kinded-clean n m {c} (cube i o l p q w) =
 -- ---- a good line, and one with nothing before it and no comment
 
 -- blanks before it leave it good
-bare-good : (n m : ℕ) (f a : List ℕ) → all isBlank f ≡ true → Bare (known n) (known m) a → Good (known n) (known m) (f ++ a)
+bare-good : (n m : ℕ) (f a : List ℕ) → all isBlank f ≡ true → Bare (unlessZero n) (unlessZero m) a → Good (unlessZero n) (unlessZero m) (f ++ a)
 bare-good n m f a h b = let p = kinded-clean n m (b .kind) in
-    subst (Kinded (known n) (known m)) (sym (content-iff (f ++ a) (b .kept) .1 (record {
+    subst (Kinded (unlessZero n) (unlessZero m)) (sym (content-iff (f ++ a) (b .kept) .1 (record {
       front = f;
       back = b .tail;
       comment = [];
@@ -142,23 +142,23 @@ take-starts j (x ∷ c) h = h
 
 module _ (n m : ℕ) (l : List ℕ) where
   abbrev far : ℕ
-  far = farthest (forms (known n) (known m)) (content l)
+  far = farthest (forms (unlessZero n) (unlessZero m)) (content l)
 
   -- a good line begins with all that is left
-  whole-begins : far ≡ length (content l) → Begins (known n) (known m) (content l)
+  whole-begins : far ≡ length (content l) → Begins (unlessZero n) (unlessZero m) (content l)
   whole-begins e = let r = far-begins n m (content l) in
       let q : take far (content l) ≡ content l = ap (λ (k : ℕ). take k (content l)) e ∙ take-length (content l) in
-      record { rest = r .0; good = bare-good n m [] (content l ++ r .0) refl (subst (λ (x : List ℕ). Bare (known n) (known m) (x ++ r .0)) q (r .1)) }
+      record { rest = r .0; good = bare-good n m [] (content l ++ r .0) refl (subst (λ (x : List ℕ). Bare (unlessZero n) (unlessZero m) (x ++ r .0)) q (r .1)) }
 
   -- no good line begins with all of it
-  none-begins : far < length (content l) → Begins (known n) (known m) (content l) → ⊥
+  none-begins : far < length (content l) → Begins (unlessZero n) (unlessZero m) (content l) → ⊥
   none-begins h b =
-      let g = good-bare (known n) (known m) [] (content l) (b .rest) refl (left-plain l) (omega arith) (parted l .starts) (b .good) in
-      let q = subst (λ (x : List ℕ). Bare (known n) (known m) (x ++ g .0)) (sym (take-length (content l))) (g .1) in
+      let g = good-bare (unlessZero n) (unlessZero m) [] (content l) (b .rest) refl (left-plain l) (omega arith) (parted l .starts) (b .good) in
+      let q = subst (λ (x : List ℕ). Bare (unlessZero n) (unlessZero m) (x ++ g .0)) (sym (take-length (content l))) (g .1) in
       omega (arith, far-most n m (content l) (g .0) (length (content l)) (omega arith) q)
 
   -- and then none could hold the byte there
-  far-first : far < length (content l) → First (known n) (known m) l (start l + far)
+  far-first : far < length (content l) → First (unlessZero n) (unlessZero m) l (start l + far)
   far-first h =
       let c = content l in
       let g = take (start l) l in
@@ -168,7 +168,7 @@ module _ (n m : ℕ) (l : List ℕ) where
         inside = omega (arith, span-inside l);
         agrees = record {
           rest = r .0;
-          good = subst (Good (known n) (known m)) (sym (ap (_++ r .0) f ∙ append-assoc g (take far c) (r .0)))
+          good = subst (Good (unlessZero n) (unlessZero m)) (sym (ap (_++ r .0) f ∙ append-assoc g (take far c) (r .0)))
               (bare-good n m g (take far c ++ r .0) (gap-blank l) (r .1));
         };
         differs = λ b z y e.
@@ -177,8 +177,8 @@ module _ (n m : ℕ) (l : List ℕ) where
             ∙ ap (_++ z) (ap (λ (x : ℕ). take far c ++ (x ∷ [])) (e ∙ line-at l far h) ∙ sym (take-suc c far 0 h)) in
             let t = ap (_++ (b ∷ z)) f ∙ append-assoc g (take far c) (b ∷ z) ∙ ap (g ++_) q in
             let p = all-parts plain (take (suc far) c) (drop (suc far) c) (ap (lacks 35) (take-append-drop (suc far) c) ∙ left-plain l) in
-            let d = good-bare (known n) (known m) g (take (suc far) c) z (gap-blank l) (p .0) (omega (arith, length-take-le (suc far) c h))
-            (take-starts far c (parted l .starts)) (subst (Good (known n) (known m)) t y) in
+            let d = good-bare (unlessZero n) (unlessZero m) g (take (suc far) c) z (gap-blank l) (p .0) (omega (arith, length-take-le (suc far) c h))
+            (take-starts far c (parted l .starts)) (subst (Good (unlessZero n) (unlessZero m)) t y) in
             omega (arith, far-most n m c (d .0) (suc far) h (d .1));
       }
 
@@ -202,17 +202,17 @@ module _ {w t : Option ℕ} {l : List ℕ} where
   fault-one (byte p n f) (byte q k g) = ap (_+ 1) (only (First w t l) first-below p q f g)
 
 -- a line of no kind: the first byte that no good line could hold there, or one past a line that merely ends too soon
-pub fault-iff : (n m k : ℕ) (l : List ℕ) (c : ℕ) → kindOf (content l) ≡ Other → (columnOf 2 (known n) (known m) k l ≡ c) ↔ Fault (known n) (known m) l c
+pub fault-iff : (n m k : ℕ) (l : List ℕ) (c : ℕ) → kindOf (content l) ≡ Other → (columnOf 2 (unlessZero n) (unlessZero m) k l ≡ c) ↔ Fault (unlessZero n) (unlessZero m) l c
 unfolding placeOf placeIn
-fault-iff n m k l c h = (λ e. subst (Fault (known n) (known m) l) e column, λ f. fault-one column f)
+fault-iff n m k l c h = (λ e. subst (Fault (unlessZero n) (unlessZero m) l) e column, λ f. fault-one column f)
   where
-    go : (b : Bool) → eqb (far n m l) (length (content l)) ≡ b → Fault (known n) (known m) l (cond b (length l) (start l + far n m l) + 1)
+    go : (b : Bool) → eqb (far n m l) (length (content l)) ≡ b → Fault (unlessZero n) (unlessZero m) l (cond b (length l) (start l + far n m l) + 1)
     go true e = soon (whole-begins n m l (eqb-true (far n m l) (length (content l)) e))
     go false e = let d = eqb-false (far n m l) (length (content l)) e in
-        let s : far n m l < length (content l) = omega (arith, far-bound (forms (known n) (known m)) (content l)) in
+        let s : far n m l < length (content l) = omega (arith, far-bound (forms (unlessZero n) (unlessZero m)) (content l)) in
         byte (start l + far n m l) (none-begins n m l s) (far-first n m l s)
 
-    column : Fault (known n) (known m) l (columnOf 2 (known n) (known m) k l)
+    column : Fault (unlessZero n) (unlessZero m) l (columnOf 2 (unlessZero n) (unlessZero m) k l)
     column = rw h (go (eqb (far n m l) (length (content l))) refl)
 
 -- ---- a line of a kind
@@ -233,9 +233,9 @@ first-iff r w t k l c a b o e =
     first-pointed (λ x. not (isBlank x)) l (λ x h. rw h) r w t k c
     (rw (a, b, kind-none (kindOf (content l)) w t (content l) o) (record { inside = s .0; there = s .1; before = refl }))
 
--- ---- a cube line of any size, where none is good yet
+-- ---- a line that begins as a cube line does, where none is good yet
 
--- one of `0 1 -` at the front: of no other kind, and no form goes with it
+-- one of `0 1 -` at the front: spelled as no kind, and no form goes with it
 early-place : (b : ℕ) (c : List ℕ) → isPlace b ≡ true → (kindOf (b ∷ c) ≡ Other) × (farthest (forms none none) (b ∷ c) ≡ 0)
 unfolding kindOf named same farthest reach front
 early-place b c h = elim (either (eqb b 48) (eqb b 49 || eqb b 45) h) [
@@ -243,19 +243,16 @@ early-place b c h = elim (either (eqb b 48) (eqb b 49 || eqb b 45) h) [
   | inr g ↦ elim (either (eqb b 49) (eqb b 45) g) [ inl e ↦ rw (eqb-true b 49 e) (refl, refl) | inr e ↦ rw (eqb-true b 45 e) (refl, refl) ]
 ]
 
--- while inputs or outputs are missing a cube line is too early: its first byte that isn't blank
-pub early-iff : (w t : Option ℕ) (k : ℕ) (l : List ℕ) (c n m : ℕ) (x : CubeLine) → (w ≡ none) ⊎ (t ≡ none) → 1 ≤ n → Writes n m (content l) x
+-- while inputs or outputs are missing, a line that begins with one of `0 1 -`, as every cube line does: its first byte that isn't blank
+pub early-iff : (w t : Option ℕ) (k : ℕ) (l : List ℕ) (c : ℕ) → (w ≡ none) ⊎ (t ≡ none) → isPlace (getD (content l) 0 0) ≡ true
     → (columnOf 2 w t k l ≡ c) ↔ ((p : ℕ) × (c ≡ p + 1) × FirstOf (λ b. not (isBlank b)) l p)
 unfolding placeIn
-early-iff w t k l c n m x e h y = first-pointed (λ b. not (isBlank b)) l (λ b z. rw z) 2 w t k c (go (x .places) (content l) (y .text) (y .places) (y .number))
+early-iff w t k l c e h = first-pointed (λ b. not (isBlank b)) l (λ b z. rw z) 2 w t k c (go (content l) h)
   where
     less : forms w t ≡ forms none none
     less = elim e [ inl a ↦ rw a | inr a ↦ rw (a, cubes-less w) ]
 
-    go : (q d : List ℕ) → d ≡ q ++ (y .blanks ++ y .signs) → all isPlace q ≡ true → length q ≡ n
-        → FirstOf (λ b. not (isBlank b)) d (placeIn 2 w t k d)
-    go [] d a f s = absurd (omega arith)
-    go (b ∷ q) d a f s =
-        let p = both (isPlace b) (all isPlace q) f .0 in
-        let r = early-place b (q ++ (y .blanks ++ y .signs)) p in
-        rw (a, r .0, less, r .1) (record { inside = omega arith; there = rw (high-solid b (place-high b p)); before = refl })
+    go : (d : List ℕ) → isPlace (getD d 0 0) ≡ true → FirstOf (λ b. not (isBlank b)) d (placeIn 2 w t k d)
+    go [] p = absurd (false≢true p)
+    go (b ∷ d) p = let r = early-place b d p in
+        rw (r .0, less, r .1) (record { inside = omega arith; there = rw (high-solid b (place-high b p)); before = refl })

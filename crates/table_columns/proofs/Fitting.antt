@@ -18,7 +18,7 @@ use Rattle.table_kinds.specs.declared.Kind.the-variants.{Empty, Inputs, Outputs
 use Rattle.table_rows.specs.{Lines.isMark, Lines.CubeLine, Meaning.Writes}
 use Rattle.table_columns.specs.Forms.{Part, exactly, between, orMore, reach, blanks, numberForm, cubeForm, cubeForms, forms}
 use Rattle.table_columns.specs.Forms.{farthest}
-use Rattle.table_columns.specs.{Columns.known, Meaning.Kinded, Meaning.spelled, Meaning.cube}
+use Rattle.table_columns.specs.{Columns.unlessZero, Meaning.Kinded, Meaning.spelled, Meaning.cube}
 use Rattle.table_columns.proofs.Counting.{max-of}
 use Rattle.table_columns.proofs.Bytes.{high, digit-high, mark-high, high-solid}
 use Rattle.table_columns.proofs.Reaching.{Takes, Sound, Fits, Clear, reach-begins, reach-most}
@@ -226,15 +226,15 @@ module _ (w t : Option ℕ) where
   bare-some : (g : List ℕ) → Bare w t g → FitsSome (forms w t) g
   bare-some g b = rw (b .text) (kinded-some (b .kept) (b .tail) (b .kind) (b .blank))
 
-cubes-proper : (n m : ℕ) → Proper (known n) (known m) (cubeForms (known n) (known m))
+cubes-proper : (n m : ℕ) → Proper (unlessZero n) (unlessZero m) (cubeForms (unlessZero n) (unlessZero m))
 cubes-proper zero m = done
 cubes-proper (suc n) zero = done
 cubes-proper (suc n) (suc m) = also (cube-clear (suc n) m) (cube-good (some (suc n)) (some (suc m)) (suc n) (suc m) refl refl) done
 
-forms-proper : (n m : ℕ) → Proper (known n) (known m) (forms (known n) (known m))
+forms-proper : (n m : ℕ) → Proper (unlessZero n) (unlessZero m) (forms (unlessZero n) (unlessZero m))
 forms-proper n m =
-    let w = known n in
-    let t = known m in
+    let w = unlessZero n in
+    let t = unlessZero m in
     also end-clear (λ g h. blank-good w t g (end-out g h))
     (also (number-clear 105) (number-good w t 105 Inputs (λ c k. dotI k))
     (also (number-clear 111) (number-good w t 111 Outputs (λ c k. dotO k))
@@ -244,12 +244,12 @@ forms-proper n m =
     (cubes-proper n m))))))
 
 -- with as much of c as that some good line begins
-pub far-begins : (n m : ℕ) (c : List ℕ) → (rest : List ℕ) × Bare (known n) (known m) (take (farthest (forms (known n) (known m)) c) c ++ rest)
-far-begins n m c = begins-proper (known n) (known m) (forms (known n) (known m)) (forms-proper n m) c
+pub far-begins : (n m : ℕ) (c : List ℕ) → (rest : List ℕ) × Bare (unlessZero n) (unlessZero m) (take (farthest (forms (unlessZero n) (unlessZero m)) c) c ++ rest)
+far-begins n m c = begins-proper (unlessZero n) (unlessZero m) (forms (unlessZero n) (unlessZero m)) (forms-proper n m) c
 
 -- and with no more
-pub far-most : (n m : ℕ) (c z : List ℕ) (j : ℕ) → j ≤ length c → Bare (known n) (known m) (take j c ++ z) → j ≤ farthest (forms (known n) (known m)) c
+pub far-most : (n m : ℕ) (c z : List ℕ) (j : ℕ) → j ≤ length c → Bare (unlessZero n) (unlessZero m) (take j c ++ z) → j ≤ farthest (forms (unlessZero n) (unlessZero m)) c
 far-most n m c z j h b =
-    let s = bare-some (known n) (known m) (take j c ++ z) b in
-    let q = most-some (known n) (known m) (forms (known n) (known m)) (forms-proper n m) (take j c) (drop j c) z s in
+    let s = bare-some (unlessZero n) (unlessZero m) (take j c ++ z) b in
+    let q = most-some (unlessZero n) (unlessZero m) (forms (unlessZero n) (unlessZero m)) (forms-proper n m) (take j c) (drop j c) z s in
     rw (length-take-le j c h, take-append-drop j c) at q

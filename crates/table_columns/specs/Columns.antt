@@ -12,9 +12,9 @@ use Rattle.table_kinds.specs.declared.Kind.the-variants.{Empty, Inputs, Outputs
 use Rattle.table_columns.specs.Forms.{front, forms, farthest}
 
 -- a number of inputs or outputs, 0 while it is missing
-abbrev pub known : ℕ → Option ℕ
-known zero = none
-known (suc n) = some (suc n)
+abbrev pub unlessZero : ℕ → Option ℕ
+unlessZero zero = none
+unlessZero (suc n) = some (suc n)
 
 abbrev pub orZero : Option ℕ → ℕ
 orZero none = 0

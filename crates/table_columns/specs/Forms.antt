@@ -58,12 +58,12 @@ abbrev pub numberForm : ℕ → List Part
 numberForm x = dotted x (orMore 1 isBlank ∷ between 1 mostDigits isDigit ∷ blanks ∷ [])
 
 -- `.e`
-abbrev pub endForm : List Part
-endForm = dotted 101 (blanks ∷ [])
+abbrev pub eForm : List Part
+eForm = dotted 101 (blanks ∷ [])
 
 -- `.end`
-abbrev pub wordForm : List Part
-wordForm = dotted 101 (exactly 1 (eqb 110) ∷ exactly 1 (eqb 100) ∷ blanks ∷ [])
+abbrev pub endForm : List Part
+endForm = dotted 101 (exactly 1 (eqb 110) ∷ exactly 1 (eqb 100) ∷ blanks ∷ [])
 
 -- n of `0 1 -`, one or more blanks, m of `0 1`
 abbrev pub cubeForm : ℕ → ℕ → List Part
@@ -76,7 +76,7 @@ cubeForms (some n) none = []
 cubeForms (some n) (some m) = cubeForm n m ∷ []
 
 abbrev pub forms : Option ℕ → Option ℕ → List (List Part)
-forms w t = emptyForm ∷ numberForm 105 ∷ numberForm 111 ∷ numberForm 112 ∷ endForm ∷ wordForm ∷ cubeForms w t
+forms w t = emptyForm ∷ numberForm 105 ∷ numberForm 111 ∷ numberForm 112 ∷ eForm ∷ endForm ∷ cubeForms w t
 
 -- how many bytes of c some good line could begin with
 unfoldable pub farthest : List (List Part) → List ℕ → ℕ

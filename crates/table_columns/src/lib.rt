@@ -8,9 +8,9 @@ ghost use lib.ListN.{drop};
 ghost use Rattle.letters.specs.Meaning.{isDigit};
 ghost use Rattle.table_rows.specs.Lines.{isPlace, isMark};
 ghost use Rattle.table_columns.specs.Forms as good;
-ghost use Rattle.table_columns.specs.Forms.{front, limit, reach, emptyForm, numberForm, endForm, wordForm, cubeForm};
+ghost use Rattle.table_columns.specs.Forms.{front, limit, reach, emptyForm, numberForm, eForm, endForm, cubeForm};
 ghost use Rattle.table_columns.specs.Forms.{cubeForms, forms, farthest};
-ghost use Rattle.table_columns.specs.Columns.{known, onePlace, rowPlace, kindPlace, placeIn, placeOf};
+ghost use Rattle.table_columns.specs.Columns.{unlessZero, onePlace, rowPlace, kindPlace, placeIn, placeOf};
 ghost use Rattle.table_columns.specs.Parts.{testOf, mostOf, partOf, formOf, places};
 
 // The most parts of a form.
@@ -201,8 +201,8 @@ fn number_form(letter: u8) -> Form
 }
 
 // `.e`.
-fn end_form() -> Form
-    ensures { λ r. ⌜ (r .count ≤ places) × (formOf r ≡ endForm) ⌝ }
+fn e_form() -> Form
+    ensures { λ r. ⌜ (r .count ≤ places) × (formOf r ≡ eForm) ⌝ }
 {
     Form {
         count: 3,
@@ -211,8 +211,8 @@ fn end_form() -> Form
 }
 
 // `.end`.
-fn word_form() -> Form
-    ensures { λ r. ⌜ (r .count ≤ places) × (formOf r ≡ wordForm) ⌝ }
+fn end_form() -> Form
+    ensures { λ r. ⌜ (r .count ≤ places) × (formOf r ≡ endForm) ⌝ }
 {
     Form {
         count: 5,
@@ -252,7 +252,7 @@ fn at_least(k: usize, form: Form, c: &[u8]) -> usize
 
 // A cube line, where inputs and outputs are known.
 fn cubes_reach(c: &[u8], n: usize, m: usize) -> usize
-    ensures { λ r. ⌜ r ≡ farthest (cubeForms (known n) (known m)) (now (c .entry)) ⌝ }
+    ensures { λ r. ⌜ r ≡ farthest (cubeForms (unlessZero n) (unlessZero m)) (now (c .entry)) ⌝ }
 {
     if n == 0 {
         return 0;
@@ -265,11 +265,11 @@ fn cubes_reach(c: &[u8], n: usize, m: usize) -> usize
 
 // How many bytes of c some good line could begin with.
 fn farthest(c: &[u8], n: usize, m: usize) -> usize
-    ensures { λ r. ⌜ r ≡ farthest (forms (known n) (known m)) (now (c .entry)) ⌝ }
+    ensures { λ r. ⌜ r ≡ farthest (forms (unlessZero n) (unlessZero m)) (now (c .entry)) ⌝ }
 {
     let mut k = cubes_reach(c, n, m);
-    k = at_least(k, word_form(), c);
     k = at_least(k, end_form(), c);
+    k = at_least(k, e_form(), c);
     k = at_least(k, number_form(b'p'), c);
     k = at_least(k, number_form(b'o'), c);
     k = at_least(k, number_form(b'i'), c);
@@ -307,9 +307,9 @@ fn row_place(c: &[u8], n: usize, k: usize) -> usize
     c.len() - o.len() + one_place(o, k)
 }
 
-// The place up to which a line goes by its kind.
+// 0 for a line that is spelled as a kind; for another how far some good line agrees with it.
 fn kind_place(kind: Kind, c: &[u8], n: usize, m: usize) -> usize
-    ensures { λ r. ⌜ r ≡ kindPlace kind (known n) (known m) (now (c .entry)) ⌝ }
+    ensures { λ r. ⌜ r ≡ kindPlace kind (unlessZero n) (unlessZero m) (now (c .entry)) ⌝ }
 {
     match kind {
         Kind::Other => farthest(c, n, m),
@@ -319,7 +319,7 @@ fn kind_place(kind: Kind, c: &[u8], n: usize, m: usize) -> usize
 
 // The place in what is left of a line.
 fn place_in(c: &[u8], number: u32, n: usize, m: usize, k: usize) -> usize
-    ensures { λ r. ⌜ r ≡ placeIn number (known n) (known m) k (now (c .entry)) ⌝ }
+    ensures { λ r. ⌜ r ≡ placeIn number (unlessZero n) (unlessZero m) k (now (c .entry)) ⌝ }
 {
     if number == 3 {
         return front(c, 0, Sort::NoDigit, c.len());
@@ -333,7 +333,7 @@ fn place_in(c: &[u8], number: u32, n: usize, m: usize, k: usize) -> usize
 // The place in line l of its refusal by a number, before which n inputs and m outputs were known, 0 while missing, and k rows might
 // still come; one past the line where what is left of it merely ends too soon.
 pub fn place_of(l: &[u8], number: u32, n: usize, m: usize, k: usize) -> usize
-    ensures { λ r. ⌜ r ≡ placeOf number (known n) (known m) k (now (l .entry)) ⌝ }
+    ensures { λ r. ⌜ r ≡ placeOf number (unlessZero n) (unlessZero m) k (now (l .entry)) ⌝ }
 {
     let span = table_lines::content_of(l);
     let start = span.start;

@@ -1,7 +1,7 @@
 -- `table_columns::cubes_reach` meets its contract: a cube line where both numbers are known, none else. Assumes nothing.
 use mathlib.Core.Path.{sym}
 use borrow.Author.Needs.{needs}
-use Rattle.table_columns.specs.Columns.{known}
+use Rattle.table_columns.specs.Columns.{unlessZero}
 use Rattle.table_columns.proofs.Counting.{far-next, far-none, cubes-less, cubes-known}
 use Rattle.table_columns.proofs.cubes_reach.Statement.{statement}
 use Rattle.table_columns.proofs.cubes_reach.Tie as tie
@@ -10,7 +10,7 @@ returns : tie.Need-returns
 returns c = rw (c .if1 .taken) (sym (far-none _))
 
 returns-2 : tie.Need-returns-2
-returns-2 c = rw (c .if2 .taken, cubes-less (known (c .before .before .before .args .n))) (sym (far-none _))
+returns-2 c = rw (c .if2 .taken, cubes-less (unlessZero (c .before .before .before .args .n))) (sym (far-none _))
 
 returns-3 : tie.Need-returns-3
 returns-3 c =

@@ -21,8 +21,8 @@ returns c =
     (far-next _ _ _ l _ _ (a5 .at-least5 .ensures) (f5 .number-form3 .ensures .1)
     (far-next _ _ _ l _ _ (a4 .at-least4 .ensures) (f4 .number-form2 .ensures .1)
     (far-next _ _ _ l _ _ (a3 .at-least3 .ensures) (f3 .number-form .ensures .1)
-    (far-next _ _ _ l _ _ (a2 .at-least2 .ensures) (f2 .end-form .ensures .1)
-    (far-next _ _ _ l _ _ (a1 .at-least .ensures) (f1 .word-form .ensures .1) (f1 .before .cubes-reach .ensures))))))
+    (far-next _ _ _ l _ _ (a2 .at-least2 .ensures) (f2 .e-form .ensures .1)
+    (far-next _ _ _ l _ _ (a1 .at-least .ensures) (f1 .end-form .ensures .1) (f1 .before .cubes-reach .ensures))))))
 
 pub farthest-spec : {M : Type 1} → statement M
 farthest-spec =

@@ -3,7 +3,7 @@ use mathlib.Core.{Path._≡_, Path.sym, Logic.inl, Logic.inr}
 use native.Mathlib.Omega.{arith}
 use borrow.Author.Needs.{needs}
 use Rattle.table_kinds.specs.declared.Kind.the-variants.{Other}
-use Rattle.table_columns.specs.Columns.{known}
+use Rattle.table_columns.specs.Columns.{unlessZero}
 use Rattle.table_columns.proofs.{Counting.kind-none, kind_place.Statement.statement}
 use Rattle.table_columns.proofs.kind_place.Tie as tie
 
@@ -20,7 +20,7 @@ returns-2 c =
       | inr (inr (inr (inl w))) ↦ omega arith
       | inr (inr (inr (inr w))) ↦ omega arith
     ] in
-    sym (kind-none (a .kind) (known (a .n)) (known (a .m)) (a .c .now) other)
+    sym (kind-none (a .kind) (unlessZero (a .n)) (unlessZero (a .m)) (a .c .now) other)
 
 pub kind-place-spec : {M : Type 1} → statement M
 kind-place-spec = tie.close (tie.spec (search needs) (search needs) returns returns-2)

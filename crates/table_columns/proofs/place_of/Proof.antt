@@ -4,7 +4,7 @@ use mathlib.Core.Path.{_≡_}
 use native.Mathlib.Omega.{arith}
 use lib.ListN.{length}
 use borrow.Author.Needs.{needs}
-use Rattle.table_columns.specs.Columns.{known, placeOf}
+use Rattle.table_columns.specs.Columns.{unlessZero, placeOf}
 use Rattle.table_columns.proofs.{Counting.span-within, Counting.place-found, place_of.Statement.statement}
 use Rattle.table_columns.proofs.place_of.Tie as tie
 
@@ -16,10 +16,10 @@ inside c = span-within (entry c .args .l .now) (c .content-of .result) (c .conte
 
 -- the place in the line
 placed : (q : tie.After-place-in) → let r = q .place-in .result in let s = q .before .before .content-of .result in
-    let a = entry (q .before .before) .args in let p = placeOf (a .number) (known (a .n)) (known (a .m)) (a .k) (a .l .now) in
+    let a = entry (q .before .before) .args in let p = placeOf (a .number) (unlessZero (a .n)) (unlessZero (a .m)) (a .k) (a .l .now) in
     (s .start + r ≤ length (a .l .now)) × (r ≡ s .end - s .start → length (a .l .now) ≡ p) × ((r ≡ s .end - s .start → ⊥) → s .start + r ≡ p)
 placed q = let s = q .before .before in let a = entry s .args in
-    place-found (a .number) (known (a .n)) (known (a .m)) (a .k) (a .l .now) (s .content-of .result) (s .content-of .ensures) (q .place-in .result)
+    place-found (a .number) (unlessZero (a .n)) (unlessZero (a .m)) (a .k) (a .l .now) (s .content-of .result) (s .content-of .ensures) (q .place-in .result)
     (q .place-in .ensures)
 
 add-result : tie.Need-add-result
