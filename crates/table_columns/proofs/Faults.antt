@@ -202,7 +202,8 @@ module _ {w t : Option ℕ} {l : List ℕ} where
   fault-one (byte p n f) (byte q k g) = ap (_+ 1) (only (First w t l) first-below p q f g)
 
 -- a line of no kind: the first byte that no good line could hold there, or one past a line that merely ends too soon
-pub fault-iff : (n m k : ℕ) (l : List ℕ) (c : ℕ) → kindOf (content l) ≡ Other → (columnOf 2 (unlessZero n) (unlessZero m) k l ≡ c) ↔ Fault (unlessZero n) (unlessZero m) l c
+pub fault-iff : (n m k : ℕ) (l : List ℕ) (c : ℕ) → kindOf (content l) ≡ Other → (columnOf 2 (unlessZero n) (unlessZero m) k l ≡ c)
+    ↔ Fault (unlessZero n) (unlessZero m) l c
 unfolding placeOf placeIn
 fault-iff n m k l c h = (λ e. subst (Fault (unlessZero n) (unlessZero m) l) e column, λ f. fault-one column f)
   where

@@ -244,11 +244,13 @@ forms-proper n m =
     (cubes-proper n m))))))
 
 -- with as much of c as that some good line begins
-pub far-begins : (n m : ℕ) (c : List ℕ) → (rest : List ℕ) × Bare (unlessZero n) (unlessZero m) (take (farthest (forms (unlessZero n) (unlessZero m)) c) c ++ rest)
+pub far-begins : (n m : ℕ) (c : List ℕ) → (rest : List ℕ)
+    × Bare (unlessZero n) (unlessZero m) (take (farthest (forms (unlessZero n) (unlessZero m)) c) c ++ rest)
 far-begins n m c = begins-proper (unlessZero n) (unlessZero m) (forms (unlessZero n) (unlessZero m)) (forms-proper n m) c
 
 -- and with no more
-pub far-most : (n m : ℕ) (c z : List ℕ) (j : ℕ) → j ≤ length c → Bare (unlessZero n) (unlessZero m) (take j c ++ z) → j ≤ farthest (forms (unlessZero n) (unlessZero m)) c
+pub far-most : (n m : ℕ) (c z : List ℕ) (j : ℕ) → j ≤ length c → Bare (unlessZero n) (unlessZero m) (take j c ++ z)
+    → j ≤ farthest (forms (unlessZero n) (unlessZero m)) c
 far-most n m c z j h b =
     let s = bare-some (unlessZero n) (unlessZero m) (take j c ++ z) b in
     let q = most-some (unlessZero n) (unlessZero m) (forms (unlessZero n) (unlessZero m)) (forms-proper n m) (take j c) (drop j c) z s in
