@@ -101,6 +101,11 @@ fn sums(network: &Network) -> Vec<Step> {
     bases.into_iter().map(step).collect()
 }
 
+/// How many times two cubes of one node make a sum.
+pub fn partners(network: &Network) -> usize {
+    sums(network).iter().map(|step| step.uses).sum()
+}
+
 /// What two cubes hold beyond their base, unless a part is too long.
 fn parts(one: &Cube, other: &Cube) -> Option<(Cube, Cube)> {
     let first = few_beyond(one, other)?;

@@ -1,7 +1,8 @@
 //! Without an argument it answers the line protocol; else it generates
 //! requests, spoils a table, compares two programs' answers, counts what answers
-//! reach, or says what `show` and `map` of the shop's program should, or a
-//! table's BLIF.
+//! reach, or says what `show` and `map` of the shop's program should, a table's
+//! BLIF, its rows without those that contain another, or how many partners its
+//! cubes have.
 
 use second::network::Network;
 use second::{blif, compare, extract, generate, image, map, protocol, report, spoil, table};
@@ -15,7 +16,9 @@ second compare REQUESTS LEFT RIGHT
 second cover REQUESTS ANSWERS
 second show IMAGE
 second map TABLE
-second blif TABLE";
+second blif TABLE
+second table TABLE
+second partners TABLE";
 
 fn main() -> ExitCode {
     let words: Vec<String> = std::env::args().skip(1).collect();
@@ -29,6 +32,8 @@ fn main() -> ExitCode {
         ["show", file] => show_file(file),
         ["map", file] => print_extracted(file, map::map),
         ["blif", file] => print_extracted(file, blif::write),
+        ["table", file] => print_read(file, table::written),
+        ["partners", file] => print_read(file, |network| format!("{}\n", extract::partners(network))),
         _ => Err(io::Error::other(USAGE)),
     };
     done.unwrap_or_else(|error| {
@@ -89,10 +94,20 @@ fn show_file(file: &str) -> io::Result<ExitCode> {
     Ok(ExitCode::SUCCESS)
 }
 
+fn network_of(file: &str) -> io::Result<Network> {
+    let read = table::read(&std::fs::read(file)?);
+    read.map_err(|refusal| io::Error::other(refusal.text()))
+}
+
+/// What is to be said of a table's network as it was read.
+fn print_read(file: &str, said: fn(&Network) -> String) -> io::Result<ExitCode> {
+    print!("{}", said(&network_of(file)?));
+    Ok(ExitCode::SUCCESS)
+}
+
 /// What is to be said of a table's network, once the program's steps are made.
 fn print_extracted(file: &str, said: fn(&Network) -> String) -> io::Result<ExitCode> {
-    let read = table::read(&std::fs::read(file)?);
-    let mut network = read.map_err(|refusal| io::Error::other(refusal.text()))?;
+    let mut network = network_of(file)?;
     extract::run(&mut network, report::STEPS);
     print!("{}", said(&network));
     Ok(ExitCode::SUCCESS)

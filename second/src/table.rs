@@ -44,6 +44,24 @@ pub fn read(text: &[u8]) -> Result<Network, Refusal> {
     Err(whole(5))
 }
 
+/// The outputs as a table again, a row for each cube of each output.
+pub fn written(network: &Network) -> String {
+    let mut text = format!(".i {}\n.o {}\n", network.inputs, network.outputs.len());
+    for (place, output) in network.outputs.iter().enumerate() {
+        for cube in output {
+            let side = |variable: usize| {
+                let literal = cube.literals().iter().find(|l| usize::from(l.variable().0) == variable);
+                literal.map_or('-', |l| if l.is_negated() { '0' } else { '1' })
+            };
+            text.extend((0..network.inputs).map(side));
+            text.push(' ');
+            text.extend((0..network.outputs.len()).map(|other| if other == place { '1' } else { '0' }));
+            text.push('\n');
+        }
+    }
+    text + ".e\n"
+}
+
 impl Reading {
     fn sizes(&self) -> Sizes {
         self.inputs.zip(self.outputs)

@@ -203,7 +203,8 @@ module _ {k : ℕ} {m : Net} {list : List Made} {count left : ℕ} {net : Networ
 
       -- the step is made, and listed
       module _ (shape-t : Shaped (t .network)) (rest : ℕ) (f : pos rest ≡ pos literals -ℤ s .weight)
-          (x : Made) (y : x ≡ madeBy s (t .number) rest) (b : Step) (c : Chosen (chosenIn (t .network)) b) (q : t .outcome ≡ Outcome.Made) where
+          (x : Made) (y : x ≡ madeBy s (t .number) rest) (b : Step) (c : Runnable (t .network) → Chosen (chosenIn (t .network)) b)
+          (q : t .outcome ≡ Outcome.Made) where
         rest-is : rest ≡ literalCount (step (netOf net) d)
         rest-is = let e = f ∙ sym falls in cc
 
@@ -236,7 +237,7 @@ module _ {k : ℕ} {m : Net} {list : List Made} {count left : ℕ} {net : Networ
                     long = length-set list count x ∙ g .long;
                     rest = listed-rest x;
                     counted = rest-is ∙ ap literalCount (sym (next-is net (g .shape) (g .ready) d t i));
-                    chosen = c;
+                    chosen = c (next-ready net (g .shape) (g .ready) d t i);
                     goes = g .goes ∙ ap (after (listed count list)) (ap (λ (z : ℕ). runFrom z (netOf net)) some-left ∙ from-make (left - 1) (netOf net) d e)
                         ∙ ap (λ (l : List runs.Made). record { network = later .network; stop = later .stop; steps = l })
                         (sym (append-assoc (listed count list) (making (netOf net) d ∷ []) (later .steps)))

@@ -4,7 +4,9 @@ use mathlib.Core.{Path._≡_, Bool.true, Bool.cond, List.List}
 use lib.IntN.{ℤ, pos, _-ℤ_}
 use lib.Signed.{ltZ}
 use Rattle.cube.specs.declared.Variable.{Variable}
-use Rattle.network.specs.Held.{netOf, rules, mostLiterals}
+use Rattle.network.specs.{Net.nodes, Held.netOf, Held.rules, Held.mostLiterals}
+use Rattle.extract_counts.specs.Counts.{Says}
+use Rattle.extract_choice.specs.Choice.{chosenIn, Chosen}
 use Rattle.network.specs.{Handed.Holds, declared.Network.Network}
 use Rattle.extract_divisor.specs.declared.Step.{Step}
 use Rattle.extract_step.specs.declared.Outcome.{Outcome}
@@ -19,6 +21,10 @@ pub record Runnable (n : Network) : Type 0 where
   pub lawful : rules n ≡ true
   pub tidy : arranged n ≡ true
   pub held : Holds n (netOf n)
+
+-- the step is the best one of the network, and the table says the gains of all its divisors
+abbrev pub Leads : List ℕ → List ℕ → Network → Step → Type 0
+Leads t g n s = Chosen (chosenIn n) s × Says t g (nodes (netOf n))
 
 -- a weight taken off a count of literals leaves such a count
 pub record Leaves (count : ℕ) (weight : ℤ) : Type 0 where

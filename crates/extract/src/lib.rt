@@ -9,11 +9,17 @@ ghost use mathlib.Core.Path.{_≡_};
 ghost use mathlib.Core.Option.{some};
 ghost use lib.IntN.{pos, _-ℤ_};
 ghost use lib.ListN.{replicate};
-ghost use Rattle.network.specs.Net.{literalCount};
+ghost use Rattle.network.specs.Net.{nodes, literalCount};
 ghost use Rattle.network.specs.Held.{netOf};
 ghost use Rattle.extract_laws.specs.Run.{runFrom};
+ghost use Rattle.extract_counts.specs.Counts.{Says};
 ghost use Rattle.extract.specs.Answers.{noMade, noSteps, places, Told, runOn};
-ghost use Rattle.extract.specs.Parts.{Runnable, Leaves, madeBy, endedAt, reasonOf, stoppedWith};
+ghost use Rattle.extract.specs.Parts.{Runnable, Leads, Leaves, madeBy, endedAt, reasonOf, stoppedWith};
+
+// The table of gains.
+const TABLE_WORDS: usize = extract_gains::TABLE_WORDS;
+
+const MOST_ENTRIES: usize = extract_gains::MOST_ENTRIES;
 
 // Steps of one run: each makes a divisor.
 const MOST_STEPS: usize = network::MOST_VARIABLES;
@@ -133,8 +139,30 @@ fn taken_off(count: u64, weight: i32) -> u64
     (count as i32 - weight) as u64
 }
 
-// From a network in cube order; s is the best step on the network that the run has come to, and so many literals are in it.
-fn follow(n: Network, steps: u64) -> Ran
+// The best step on a network, by a table that is filled with it.
+fn first_best(t: &mut [u32; TABLE_WORDS], g: &mut [u16; MOST_ENTRIES], n: Network) -> Step
+    ensures { λ r. ⌜ (Runnable n → Leads (now (t .exit)) (now (g .exit)) n r) ⌝ }
+{
+    extract_keep::fill(t, g, n);
+    extract_choice::best(t, g, n)
+}
+
+// The best step on the network that comes after another, of which the table says the gains.
+fn next_best(
+    t: &mut [u32; TABLE_WORDS],
+    g: &mut [u16; MOST_ENTRIES],
+    old: Network,
+    new: Network,
+) -> Step
+    ensures { λ r. ⌜ (Says (now (t .entry)) (now (g .entry)) (nodes (netOf old)) → Runnable new → Leads (now (t .exit)) (now (g .exit)) new r) ⌝ }
+{
+    extract_keep::renew(t, g, old, new);
+    extract_choice::best(t, g, new)
+}
+
+// From a network in cube order; s is the best step on the network that the run has come to, of which the table says the gains, and so many
+// literals are in it.
+fn follow(t: &mut [u32; TABLE_WORDS], g: &mut [u16; MOST_ENTRIES], n: Network, steps: u64) -> Ran
     requires { ⌜ Runnable n ⌝ }
     ensures { λ r. ⌜ Told (some (runFrom steps (netOf n))) r ⌝ }
 {
@@ -143,7 +171,7 @@ fn follow(n: Network, steps: u64) -> Ran
     let mut left = steps;
     let mut net = n;
     let mut literals = literals_of(n);
-    let mut s = extract_choice::best(n);
+    let mut s = first_best(t, g, n);
     loop {
         if left == 0 {
             return ending(ended(s.weight), net, count, list);
@@ -152,21 +180,31 @@ fn follow(n: Network, steps: u64) -> Ran
             return ending(Stop::Done, net, count, list);
         }
         let d = s.divisor;
-        let t = extract_step::step(net, d);
-        let made = t.outcome;
-        let next = t.network;
-        let Outcome::Made = made else {
-            return ending(reason(made), net, count, list);
+        let made = extract_step::step(net, d);
+        let outcome = made.outcome;
+        let next = made.network;
+        let Outcome::Made = outcome else {
+            return ending(reason(outcome), net, count, list);
         };
-        let number = t.number;
+        let number = made.number;
         let rest = taken_off(literals, s.weight);
         list[count] = made_by(s, number, rest);
         count += 1;
         left -= 1;
-        s = extract_choice::best(next);
+        s = next_best(t, g, net, next);
         net = next;
         literals = rest;
     }
+}
+
+// The same, with a table of its own.
+fn go(n: Network, steps: u64) -> Ran
+    requires { ⌜ Runnable n ⌝ }
+    ensures { λ r. ⌜ Told (some (runFrom steps (netOf n))) r ⌝ }
+{
+    let mut t = [0u32; TABLE_WORDS];
+    let mut g = [0u16; MOST_ENTRIES];
+    follow(&mut t, &mut g, n, steps)
 }
 
 // A run of so many steps at most: 10 for a network that breaks a rule.
@@ -183,5 +221,5 @@ pub fn run(n: Network, steps: u64) -> Ran
             steps: no_steps(),
         };
     };
-    follow(network, steps)
+    go(network, steps)
 }

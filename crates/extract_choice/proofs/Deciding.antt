@@ -1,39 +1,36 @@
 -- The choice in the paper's words: the best divisor, where its weight is above 0; and that it leaves one step. Assumes nothing.
-use Prim.Native.Nat.{ℕ, _+_, _≤_}
-use mathlib.Core.Path.{_≡_, refl, sym, ap, ap₂, _∙_, subst}
+use Prim.Native.Nat.{ℕ, _+_}
+use mathlib.Core.Path.{_≡_, refl, sym, ap, ap₂, _∙_}
 use mathlib.Core.Logic.{_↔_, inl, inr}
 use mathlib.Core.Bool.{Bool, true, false, cond}
-use mathlib.Core.List.{List, [], append-nil, List·Memᴰ·not-nil}
+use mathlib.Core.List.{List}
 use mathlib.Core.Option.{Option, none, some, Option·none-ne-some}
 use native.Mathlib.Omega.{arith}
 use lib.IntN.{pos}
 use lib.ListN.{length, take}
 use lib.Seq.{length-take-le}
 use lib.Signed.{ltZ}
-use Rattle.sets.{specs.Sets.asc, proofs.Truth.decided, proofs.Orders.not-after, proofs.Lists._∈_, proofs.Lists.all-out, proofs.Sets.mem-of}
+use Rattle.sets.proofs.{Truth.decided, Orders.not-after}
 use Rattle.cube.proofs.Lits.{fitCube, cube-one}
-use Rattle.expression.{specs.Words.cubesOf, proofs.Words.cubes-asc, proofs.Words.cubes-inside}
+use Rattle.expression.specs.Words.{cubesOf}
 use Rattle.network_nodes.specs.Nodes.{cut, countBefore}
 use Rattle.network.specs.{Net.Net, Net.nodes, Held.netOf, Held.used, Parts.nodesOf, declared.Network.Network}
-use Rattle.network.specs.Handed.{flat, nodeSlots, Shaped}
-use Rattle.network.proofs.Holding.{nodes-held, cut-used}
+use Rattle.network.{specs.Handed.Shaped, proofs.Holding.nodes-held, proofs.Holding.cut-used}
 use Rattle.extract_laws.specs.Divisor as extraction
-use Rattle.extract_laws.specs.Extract.{weight, gather, pairsIn, sumsIn, candidates, best}
+use Rattle.extract_laws.specs.Extract.{weight, best}
 use Rattle.extract_laws.specs.{Run.Weighed, Run.weighing, Meaning.Worth, Meaning.Done}
-use Rattle.extract_laws.proofs.Choosing.{heavier-order, best-in, best-iff, best-none}
+use Rattle.extract_laws.proofs.Choosing.{heavier-order, best-iff, best-none}
 use Rattle.extract_tidy.{specs.Tidy.arranged, proofs.Arranged.arranged-parts, proofs.Arranged.arranged-sized}
 use Rattle.extract_divisor.specs.Divisor.{divisorOf, weighedOf, noStep}
 use Rattle.extract_divisor.specs.declared.{Divisor.Divisor, Divisor.the-variants.Pair, Divisor.the-variants.Sum}
 use Rattle.extract_divisor.specs.declared.Step.{Step}
+use Rattle.extract_gains.specs.Gains.{many}
+use Rattle.extract_counts.{specs.Counts.Says, proofs.Arranged.arranged-neat}
 use Rattle.extract_choice.specs.Choice.{worthIn, chosenIn, Chosen}
-use Rattle.extract_choice.specs.Parts.{Wins, Adds, Nodes, Cubes, Orderly, literalsFrom}
-use Rattle.extract_choice.specs.Parts.Wins.{nothing, first}
-use Rattle.extract_choice.proofs.{Counting.words-flat, Pairs.leads-candidates}
+use Rattle.extract_choice.specs.Parts.{bestBelow, Counted, Orderly}
+use Rattle.extract_choice.proofs.Leading.{table-done, table-worth, counted-uses}
 
 -- ---- networks in cube order
-
-pub arranged-few : (n : Network) → arranged n ≡ true → Shaped n → n .outputs + n .divisors ≤ nodeSlots
-arranged-few n h shape = let s = arranged-sized n h shape in omega (arith, s .narrow, s .variables)
 
 -- the words of the cubes in use
 module _ (n : Network) (words : List ℕ) (front : cubesOf words ≡ take (countBefore (n .outputs + n .divisors) (n .counts)) (cubesOf (n .words))) where
@@ -48,19 +45,6 @@ module _ (n : Network) (words : List ℕ) (front : cubesOf words ≡ take (count
       record { slots = s .counted; whole = q; few = omega (arith, s .cubes); sorted = rw (← front-nodes) (arranged-parts n h .1) }
 
 -- ---- the choice
-
--- pairs judged among the cubes, and then sums among the nodes: all candidates
-pub all-judged : {words counts : List ℕ} {e : ℕ} → Orderly words counts e → (s r t : Step) → s ≡ noStep
-    → Adds (Cubes (cubesOf words)) [] (pairsIn (literalsFrom 0)) s r
-    → Adds (Nodes (nodesOf e counts words)) [] (gather sumsIn (nodesOf e counts words)) r t
-    → (n : Net) → Nodes (nodesOf e counts words) n → Wins n (candidates n) t
-all-judged {words} o s r t z g h n c =
-    let own = words-flat o in
-    let pairs = rw append-nil at (g .leads n (ap flat c ∙ sym own) [] (λ d m. m) (nothing z (λ d m. absurd (List·Memᴰ·not-nil m)))) in
-    let sums = h .leads n c (pairsIn (literalsFrom 0)) (λ d m. absurd (List·Memᴰ·not-nil m)) pairs in
-    leads-candidates n (λ d m.
-    let k = subst (d ∈_) (ap flat c ∙ sym own) m in
-    (all-out asc k (cubes-asc words), λ p i. cubes-inside words k p (mem-of i))) t (rw c sums)
 
 module _ (n : Net) where
   -- worth a step: the best divisor, with a weight above 0
@@ -91,22 +75,34 @@ module _ (n : Net) where
       back none e h = refl
       back (some d) e h = rw (h d (((best-iff n d) .0 e) .chosen))
 
-  -- what leads the candidates is chosen
-  leads-chosen : (s : Step) → Wins n (candidates n) s → Chosen (worthIn n (best n)) s
-  leads-chosen s (nothing e h) = rw (worth-none .1 h) e
-  leads-chosen s (first d m e a h) = rw ((worth-iff (weighing n d)) .1 (d, record { best = best-in n d m h; above = a }, refl)) e
-
 module _ (n : Network) where
   -- in a network in cube order, and in no other
   chosen-as : (b : Bool) → arranged n ≡ b → chosenIn n ≡ cond b (worthIn (netOf n) (best (netOf n))) none
   unfolding chosenIn
   chosen-as b h = rw h
 
-  pub chosen-leads : (s : Step) → arranged n ≡ true → Wins (netOf n) (candidates (netOf n)) s → Chosen (chosenIn n) s
-  chosen-leads s h l = rw (chosen-as true h) (leads-chosen (netOf n) s l)
+  -- a step that says what the best divisor weighs, where that is above 0; and where there is none, the step of zeros
+  chosen-worth : (s : Step) → arranged n ≡ true → (d : extraction.Divisor) → Worth (netOf n) d → weighedOf s ≡ weighing (netOf n) d
+      → Chosen (chosenIn n) s
+  chosen-worth s h d w e = rw (chosen-as true h, (worth-iff (netOf n) (weighing (netOf n) d)) .1 (d, w, refl)) e
+
+  pub chosen-done : (s : Step) → arranged n ≡ true → Done (netOf n) → s ≡ noStep → Chosen (chosenIn n) s
+  chosen-done s h d e = rw (chosen-as true h, worth-none (netOf n) .1 d) e
 
   pub chosen-not : (s : Step) → arranged n ≡ false → s ≡ noStep → Chosen (chosenIn n) s
   chosen-not s h e = rw (chosen-as false h) e
+
+  -- so the best entry of a table that says the gains decides
+  module _ (h : arranged n ≡ true) (t g : List ℕ) (k : Says t g (nodes (netOf n))) (s : Step) (e : weighedOf s ≡ bestBelow t g (many t)) where
+    pub entries-none : ltZ (pos 0) (s .weight) ≡ false → (r : Step) → r ≡ noStep → Chosen (chosenIn n) r
+    entries-none l r z = chosen-done r h (table-done (netOf n) (arranged-neat n h) t g k (rw (← e) l)) z
+
+    pub entries-chosen : ltZ (pos 0) (s .weight) ≡ true → (r : Step) → Counted (nodes (netOf n)) (divisorOf (s .divisor)) (s .weight) (r .uses)
+        → r .divisor ≡ s .divisor → r .weight ≡ s .weight → Chosen (chosenIn n) r
+    entries-chosen l r c p q =
+        let (w, v) = rw (← e) at (table-worth (netOf n) (arranged-neat n h) t g k (rw (← e) l)) in
+        let u = counted-uses (netOf n) (divisorOf (s .divisor)) (r .uses) (rw v c) in
+        chosen-worth r h (divisorOf (s .divisor)) w (λ i. record { divisor = divisorOf (p i); weight = (q ∙ sym v) i; uses = u i })
 
   -- the choice is the best divisor of a network in cube order, where its weight is above 0, with its weight and uses
   pub chosen-iff : (m : Weighed) → (chosenIn n ≡ some m) ↔ ((arranged n ≡ true) × ((d : extraction.Divisor) × Worth (netOf n) d × (m ≡ weighing (netOf n) d)))

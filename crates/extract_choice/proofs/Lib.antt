@@ -1,6 +1,4 @@
-pub mod Ties
-pub mod Judging
+pub mod Weights
 pub mod Counting
-pub mod Pairs
-pub mod Sums
+pub mod Leading
 pub mod Deciding

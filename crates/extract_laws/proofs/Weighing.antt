@@ -1,5 +1,5 @@
 -- The literals that a step saves are its weight. Assumes nothing.
-use Prim.Native.Nat.{ℕ, suc, _+_, _*_, _-_, _<_}
+use Prim.Native.Nat.{ℕ, suc, _+_, _*_, _-_, _<_, _≤_}
 use mathlib.Core.Path.{_≡_, refl, sym, ap, _∙_}
 use mathlib.Core.Bool.{true, false, not}
 use mathlib.Core.List.{List, map, Memᴰ·cast}
@@ -20,7 +20,7 @@ use Rattle.expression.{specs.Expression.expression, specs.Expression.literalsOf
 use Rattle.network.specs.Net.{Net, nodes, literalCount}
 use Rattle.network.specs.Meaning.{Reads}
 use Rattle.extract_laws.specs.Divisor.{Divisor, pair, sum, own, small, sound, useOf, part, hit, gone, found, bases, uses, swap, rewrite}
-use Rattle.extract_laws.specs.Extract.{nextFree, step, allUses, basesLiterals, weight}
+use Rattle.extract_laws.specs.Extract.{nextFree, step, allUses, basesLiterals, weight, gainIn}
 use Rattle.extract_laws.specs.Meaning.{Good, Parts, other, Partner}
 use Rattle.extract_laws.proofs.Using.{cube-asc, cubes-differ, differ-in, differ-out, sum-parts, part-asc, use-out, use-partner, hit-inside, use-one-way}
 use Rattle.extract_laws.proofs.{Replacing.new-absent, Making.below-free, Making.step-total}
@@ -84,13 +84,8 @@ saved : (u la lb k B rest new ab ba whole : ℕ) → la + lb ≡ suc k → ab �
     → whole ≡ new + (B + u * k)
 saved u la lb k B rest new ab ba whole e h1 h2 h3 h4 = omega (arith, ap (u *_) e)
 
--- what a divisor saves: in each use of a pair a literal; of a sum the bases, and the literals of the parts but one in each use
-abbrev gain : Divisor → List (List ℕ) → ℕ
-gain (pair p q) f = uses (pair p q) f
-gain (sum a b) f = literalsOf (bases (sum a b) f) + uses (sum a b) f * ((length a + length b) - 1)
-
 saves : (k : ℕ) (d : Divisor) → sound d ≡ true → (f : List (List ℕ)) → expression f ≡ true → ((v : ℕ) → Reads f v → v < k)
-    → literalsOf f ≡ literalsOf (rewrite (2 * k) d f) + gain d f
+    → literalsOf f ≡ literalsOf (rewrite (2 * k) d f) + gainIn d f
 unfolding small
 saves k (pair p q) s f e u =
     let d = pair p q in
@@ -110,15 +105,16 @@ saves k (sum a b) s f e u =
 
 -- ---- in a network
 
-gain-sum : (n : Net) (a b : List ℕ) → total (gain (sum a b)) (nodes n) ≡ basesLiterals n (sum a b) + allUses n (sum a b) * ((length a + length b) - 1)
+gain-sum : (n : Net) (a b : List ℕ) → total (gainIn (sum a b)) (nodes n) ≡ basesLiterals n (sum a b) + allUses n (sum a b) * ((length a + length b) - 1)
 unfolding allUses basesLiterals
 gain-sum n a b = omega (
   arith,
-  total-sum (gain (sum a b)) (λ f. literalsOf (bases (sum a b) f)) (λ f. uses (sum a b) f * ((length a + length b) - 1)) (nodes n) (λ f m. refl),
+  total-sum (gainIn (sum a b)) (λ f. literalsOf (bases (sum a b) f)) (λ f. uses (sum a b) f * ((length a + length b) - 1)) (nodes n) (λ f m. refl),
   total-times (uses (sum a b)) ((length a + length b) - 1) (nodes n),
 )
 
-gained : (n : Net) (d : Divisor) → weight n d ≡ pos (total (gain d) (nodes n)) -ℤ pos (literalsOf (own d))
+-- the weight is what is saved in all nodes, less the literals of the divisor's own
+pub gained : (n : Net) (d : Divisor) → weight n d ≡ pos (total (gainIn d) (nodes n)) -ℤ pos (literalsOf (own d))
 unfolding weight allUses
 gained n (pair p q) = refl
 gained n (sum a b) = rw (gain-sum n a b, add-zero (length b))
@@ -131,13 +127,17 @@ minus t g l s e = sym (
     ∙ +ℤ-negℤ-cancel (pos t) (pos g))
 
 module _ (n : Net) (g : Good n) (d : Divisor) (s : sound d ≡ true) where
-  total-saved : literalCount n ≡ total (λ f. literalsOf (rewrite (2 * nextFree n) d f)) (nodes n) + total (gain d) (nodes n)
-  total-saved = total-sum literalsOf (λ f. literalsOf (rewrite (2 * nextFree n) d f)) (gain d) (nodes n)
+  total-saved : literalCount n ≡ total (λ f. literalsOf (rewrite (2 * nextFree n) d f)) (nodes n) + total (gainIn d) (nodes n)
+  total-saved = total-sum literalsOf (λ f. literalsOf (rewrite (2 * nextFree n) d f)) (gainIn d) (nodes n)
       (λ f m. saves (nextFree n) d s f (g .expressions f m) (below-free n g f m))
+
+  -- no more is saved than there is
+  pub saved-within : total (gainIn d) (nodes n) ≤ literalCount n
+  saved-within = omega (arith, total-saved)
 
   -- a step takes exactly the weight off the literal count
   pub step-literals : pos (literalCount (step n d)) ≡ pos (literalCount n) -ℤ weight n d
-  step-literals = rw (gained n d) (minus (literalCount (step n d)) (total (gain d) (nodes n)) (literalCount n) (literalsOf (own d))
+  step-literals = rw (gained n d) (minus (literalCount (step n d)) (total (gainIn d) (nodes n)) (literalCount n) (literalsOf (own d))
       (omega (arith, step-total n d literalsOf, total-saved)))
 
   abbrev Falls : ℤ → Type 0

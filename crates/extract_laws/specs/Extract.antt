@@ -26,6 +26,12 @@ weight n (pair p q) = pos (allUses n (pair p q)) -ℤ pos 2
 weight n (sum a b) =
     pos (basesLiterals n (sum a b) + allUses n (sum a b) * ((length a + length b) - 1)) -ℤ pos (length a + length b)
 
+-- what a divisor saves in one expression, its own node not counted: in each use of a pair a literal; of a sum the bases, and the literals of
+-- the parts but one in each use
+abbrev pub gainIn : Divisor → List (List ℕ) → ℕ
+gainIn (pair p q) f = uses (pair p q) f
+gainIn (sum a b) f = literalsOf (bases (sum a b) f) + uses (sum a b) f * ((length a + length b) - 1)
+
 -- ---- all divisors of a network
 
 module _ {A B : Type 0} where

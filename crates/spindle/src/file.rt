@@ -3,7 +3,6 @@ use crate::line::complain;
 use crate::line::fail;
 use libc::PATH_MAX;
 use libc::SEEK_END;
-use libc::STDIN_FILENO;
 ghost use Prim.Native.Nat.{_≤_};
 ghost use lib.ListN.{length};
 ghost use Rattle.libc.specs.Io.{Ended};
@@ -37,7 +36,8 @@ fn is_ended(fd: i32, path: &[u8]) -> bool {
     true
 }
 
-fn fill(fd: i32, path: &[u8], room: &mut [u8]) -> Got
+// What is left of an open file to the front of the room, as much as it has places for.
+pub fn fill(fd: i32, path: &[u8], room: &mut [u8]) -> Got
     ensures { λ r. ⌜ r .count ≤ length (now (room .entry)) ⌝ }
 {
     let count = io::read_full(fd, room);
@@ -48,24 +48,13 @@ fn fill(fd: i32, path: &[u8], room: &mut [u8]) -> Got
     Got { ok, count }
 }
 
-// The bytes of the file to the front of the room, as many as it has places; `-` is standard input. A failure is said.
-pub fn read(path: &[u8], room: &mut [u8]) -> Got
-    ensures { λ r. ⌜ r .count ≤ length (now (room .entry)) ⌝ }
-{
-    if check::same(path, b"-") {
-        return fill(STDIN_FILENO, b"standard input", room);
-    }
+// The file, open for reading. A failure is said, and is a number below 0.
+pub fn open(path: &[u8]) -> i32 {
     let fd = os::open_read(path);
     if fd < 0 {
         fail(path);
-        return Got {
-            ok: false,
-            count: 0,
-        };
     }
-    let got = fill(fd, path, room);
-    libc::close(fd);
-    got
+    fd
 }
 
 // ---- what stands at a path

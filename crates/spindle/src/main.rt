@@ -13,6 +13,7 @@ mod shown;
 
 use letters::Wrote;
 use libc::STDERR_FILENO;
+use libc::STDIN_FILENO;
 use libc::STDOUT_FILENO;
 use network::Handed;
 use network::Network;
@@ -20,6 +21,9 @@ use network::Network;
 // Room for any file: a byte more than the longest image whose fields are each in range, and than any table. A BLIF text has no
 // longest length: one that fills it is not read.
 const ROOM: usize = image_laws::ROOM;
+
+// Room for a table, and a byte more by which a longer file is known.
+const SHORT: usize = table::MOST_BYTES + 1;
 
 // Room for the BLIF text of any network: 1,088 rows of 64 signs, 96 lines of 65 names, and the lines before them.
 const BLIF_ROOM: usize = 131072;
@@ -294,31 +298,67 @@ fn on_bytes(c: Command, bytes: &[u8], path: &[u8], word: &[u8]) {
     on_whole(c, kind_for(c, kind_of(bytes)), bytes, path, word);
 }
 
-// Complaints name standard input so.
-fn on_read(c: Command, bytes: &[u8], path: &[u8], word: &[u8]) {
-    if check::same(path, b"-") {
-        on_bytes(c, bytes, b"standard input", word);
-        return;
-    }
-    on_bytes(c, bytes, path, word);
-}
+// ---- files
 
-fn file_into(c: Command, path: &[u8], word: &[u8], room: &mut [u8]) {
-    let got = file::read(path, room);
-    let n = got.count;
-    if got.ok {
-        on_read(c, &room[0..n], path, word);
+// What came of a file that is longer than any table, and the rest of it.
+fn long_into(c: Command, fd: i32, first: &[u8], path: &[u8], word: &[u8], room: &mut [u8]) {
+    let at = letters::put_bytes(room, 0, first);
+    if at <= room.len() {
+        let got = file::fill(fd, path, &mut room[at..]);
+        let n = got.count;
+        if got.ok {
+            if n <= room.len() - at {
+                on_bytes(c, &room[0..at + n], path, word);
+            }
+        }
     }
 }
 
 // So long an array is lent as one before it is lent as a slice: its length is then known by its type.
-fn file_by(c: Command, path: &[u8], word: &[u8], room: &mut [u8; ROOM]) {
-    file_into(c, path, word, room);
+fn long_by(c: Command, fd: i32, first: &[u8], path: &[u8], word: &[u8], room: &mut [u8; ROOM]) {
+    long_into(c, fd, first, path, word, room);
 }
 
-fn on_file(c: Command, path: &[u8], word: &[u8]) {
+fn on_long(c: Command, fd: i32, first: &[u8], path: &[u8], word: &[u8]) {
     let mut room = [0u8; ROOM];
-    file_by(c, path, word, &mut room);
+    long_by(c, fd, first, path, word, &mut room);
+}
+
+fn short_into(c: Command, fd: i32, path: &[u8], word: &[u8], room: &mut [u8]) {
+    let got = file::fill(fd, path, room);
+    let n = got.count;
+    if !got.ok {
+        return;
+    }
+    if n < room.len() {
+        on_bytes(c, &room[0..n], path, word);
+        return;
+    }
+    on_long(c, fd, room, path, word);
+}
+
+fn short_by(c: Command, fd: i32, path: &[u8], word: &[u8], room: &mut [u8; SHORT]) {
+    short_into(c, fd, path, word, room);
+}
+
+// An open file, by the name that complaints have for it. Only a longer one than any table needs the longer room.
+fn on_open(c: Command, fd: i32, path: &[u8], word: &[u8]) {
+    let mut room = [0u8; SHORT];
+    short_by(c, fd, path, word, &mut room);
+}
+
+// `-` is standard input.
+fn on_file(c: Command, path: &[u8], word: &[u8]) {
+    if check::same(path, b"-") {
+        on_open(c, STDIN_FILENO, b"standard input", word);
+        return;
+    }
+    let fd = file::open(path);
+    if fd < 0 {
+        return;
+    }
+    on_open(c, fd, path, word);
+    libc::close(fd);
 }
 
 // ---- words

@@ -25,8 +25,8 @@ returns c =
     let q = told-refused n (inOrder (netOf n)) (i .in-order .result) _ (i .in-order .ensures) (m .enum-told2 .given .1) in
     refused-told (i .before .args .steps) n _ (q .0) refl (q .1) (c .no-steps .ensures)
 
-follow-requires : tie.Need-follow-requires
-follow-requires c κs =
+go-requires : tie.Need-go-requires
+go-requires c κs =
     let i = c .before .before .before in
     let s = i .before in
     start-ready (s .args .n) (i .in-order .result .network) (shape s) (kept c .0) (kept c .1)
@@ -36,7 +36,7 @@ returns-2 c =
     let m = c .before in
     let i = m .before .before .before in
     let s = i .before in
-    start-told (s .args .n) (i .in-order .result .network) (shape s) (kept m .0) (kept m .1) (s .args .steps) (c .follow .result) (c .follow .ensures)
+    start-told (s .args .n) (i .in-order .result .network) (shape s) (kept m .0) (kept m .1) (s .args .steps) (c .go .result) (c .go .ensures)
 
 pub run-spec : {M : Type 1} → statement M
-run-spec = tie.close (tie.spec (search needs) (search needs) (search needs) (search needs) returns follow-requires returns-2)
+run-spec = tie.close (tie.spec (search needs) (search needs) (search needs) (search needs) returns go-requires returns-2)

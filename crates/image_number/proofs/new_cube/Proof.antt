@@ -8,7 +8,8 @@ use lib.ListN.{length}
 use Rattle.sets.specs.Sets.{union}
 use Rattle.cube.{proofs.Lits.lits-asc, specs.Cube.lits, specs.Cube.joined}
 use Rattle.image_number.specs.Parts.{cubeBy}
-use Rattle.image_number.proofs.Taking.{taken-none, taken-small, taken-next, by-none, by-more, by-all}
+use Rattle.cube_order.proofs.Taking.{taken-none, taken-small, taken-next}
+use Rattle.image_number.proofs.Taking.{by-none, by-more, by-all}
 use Rattle.image_number.proofs.new_cube.Statement.{statement}
 use Rattle.image_number.proofs.new_cube.Tie as tie
 

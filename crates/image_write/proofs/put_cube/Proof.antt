@@ -8,7 +8,7 @@ use lib.ListN.{length}
 use Rattle.cube.specs.Cube.{lits}
 use Rattle.image_fields.specs.Fields.{fieldBits}
 use Rattle.image_laws.{specs.Image.cubeFields, proofs.Fielding.literalsBits, proofs.Fielding.literalBits}
-use Rattle.image_number.proofs.Taking.{taken-none, taken-some, taken-next}
+use Rattle.cube_order.proofs.Taking.{taken-none, taken-some, taken-next}
 use Rattle.image_write.proofs.Laying.{Going, going-all, going-as, going-next, going-ready, going-done}
 use Rattle.image_write.proofs.Following.{spread, cube-bits, literals-next, literals-none}
 use Rattle.image_write.proofs.put_cube.Statement.{statement}

@@ -1,0 +1,4 @@
+pub mod Turning
+pub mod Gaining
+pub mod Netting
+pub mod Arranged

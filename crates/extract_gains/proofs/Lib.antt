@@ -1,0 +1,5 @@
+pub mod Chains
+pub mod Holding
+pub mod Table
+pub mod Changing
+pub mod Entering

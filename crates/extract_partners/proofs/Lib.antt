@@ -1,0 +1,12 @@
+pub mod Removing
+pub mod Searching
+pub mod Meeting
+pub mod Coding
+pub mod Listing
+pub mod Turning
+pub mod Chains
+pub mod Entering
+pub mod Short
+pub mod Using
+pub mod Numbering
+pub mod Node
