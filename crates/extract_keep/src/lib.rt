@@ -216,7 +216,7 @@ fn renew_nodes(
     }
 }
 
-// The table said the gains of one network, and says those of another: only the cubes that go or come are looked at. Where it has no room
+// The table said the gains of one network, and says those of another: cubes that go are taken out, cubes that come are put in. Where it has no room
 // for that, it is filled anew.
 pub fn renew(t: &mut [u32; TABLE_WORDS], g: &mut [u16; MOST_ENTRIES], old: Network, new: Network)
     ensures { λ r. ⌜ (Kept (now (t .entry)) (now (g .entry)) old → Knows (now (t .exit)) (now (g .exit)) new) ⌝ }
