@@ -9,7 +9,7 @@ ghost use Rattle.blif_form.specs.Surveying.{UsedIs, UsedFrom, BlockIs, EndingIs,
 use blif_scan::{Ended, Head, Label, Next};
 
 // A block: what it defines, how many rows it has, one more than the largest variable it names, and the place after it.
-#[derive(Drop)]
+#[derive(Clone, Copy)]
 struct Found {
     is: bool,
     name: Label,
@@ -19,7 +19,7 @@ struct Found {
 }
 
 // All blocks: their rows, as far as a network may have cubes and one more, and one more than the largest variable.
-#[derive(Drop)]
+#[derive(Clone, Copy)]
 struct Blocks {
     are: bool,
     rows: usize,
@@ -27,7 +27,7 @@ struct Blocks {
 }
 
 // A text of the form: inputs, outputs, rows, one more than the largest variable, and where the blocks begin.
-#[derive(Drop)]
+#[derive(Clone, Copy)]
 pub struct Survey {
     pub is: bool,
     pub inputs: usize,

@@ -79,7 +79,7 @@ pub fn all_once(marks: &[u8], k: usize) -> bool
 }
 
 // The names of a block's line: what it defines, how many variables it reads, one more than the largest variable, and the place after its LF.
-#[derive(Drop)]
+#[derive(Clone, Copy)]
 pub struct Names {
     pub is: bool,
     pub name: Label,
@@ -89,14 +89,14 @@ pub struct Names {
 }
 
 // The place after a row's LF; or it is no row.
-#[derive(Drop)]
+#[derive(Clone, Copy)]
 pub enum Row {
     At(usize),
     No,
 }
 
 // How many rows there are, and the place of the line that begins with a point after them.
-#[derive(Drop)]
+#[derive(Clone, Copy)]
 pub struct Rows {
     pub are: bool,
     pub count: usize,
@@ -106,7 +106,7 @@ pub struct Rows {
 // ---- names
 
 // The next name of a line: a variable that is read, and the place after its space; the name that is defined, and the place after its LF; or none.
-#[derive(Drop)]
+#[derive(Clone, Copy)]
 enum Turn {
     Read(usize, usize),
     Last(Label, usize),

@@ -14,7 +14,7 @@ use cube::{Cube, Variable};
 use network::Network;
 
 // The place after `.names` and its space of a block; or there is no such block.
-#[derive(Drop)]
+#[derive(Clone, Copy)]
 pub enum Place {
     At(usize),
     No,

@@ -7,7 +7,7 @@ ghost use Rattle.blif_read.specs.Defining.{PassedIs, NumberIs, StandIs, DefinedI
 use blif_scan::{Ended, Label};
 
 // A block that is passed: what it defines, and the place after it; or there is none.
-#[derive(Drop)]
+#[derive(Clone, Copy)]
 pub struct Passed {
     pub is: bool,
     pub name: Label,

@@ -8,14 +8,14 @@ ghost use Rattle.blif_scan.specs.Heading.{is_plain, TurnsAre, ListIs, WordIs, Mo
 const MOST: usize = sets::WORD_MOST as usize;
 
 // A byte of the joined text and the place after it, or its end.
-#[derive(Drop)]
+#[derive(Clone, Copy)]
 pub enum Next {
     Byte(u8, usize),
     End,
 }
 
 // What ends a word, and the place after that; or the word is another.
-#[derive(Drop)]
+#[derive(Clone, Copy)]
 pub enum Ended {
     Space(usize),
     Line(usize),
@@ -24,28 +24,28 @@ pub enum Ended {
 }
 
 // x or y, with a number.
-#[derive(Drop)]
+#[derive(Clone, Copy)]
 pub enum Label {
     Variable(usize),
     Output(usize),
 }
 
 // A name and what ends it; where the word is no name, that it is another.
-#[derive(Drop)]
+#[derive(Clone, Copy)]
 pub struct Called {
     pub name: Label,
     pub ended: Ended,
 }
 
 // A digit and the place after it, or another byte or the end.
-#[derive(Drop)]
+#[derive(Clone, Copy)]
 enum Digit {
     Is(usize, usize),
     No,
 }
 
 // A number and what ends it; where the word is no number, that it is another.
-#[derive(Drop)]
+#[derive(Clone, Copy)]
 struct Numeral {
     value: usize,
     ended: Ended,
@@ -199,21 +199,21 @@ pub fn name(s: &[u8], at: usize) -> Called
 }
 
 // How many names a line lists, and the place after its LF; or it is another line.
-#[derive(Drop)]
+#[derive(Clone, Copy)]
 enum Count {
     Names(usize, usize),
     No,
 }
 
 // The numbers of inputs and outputs, and where the blocks begin.
-#[derive(Drop)]
+#[derive(Clone, Copy)]
 pub enum Head {
     Is(usize, usize, usize),
     No,
 }
 
 // The place after a line's LF; or it is another line.
-#[derive(Drop)]
+#[derive(Clone, Copy)]
 enum Place {
     At(usize),
     No,

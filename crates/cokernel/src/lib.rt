@@ -15,21 +15,21 @@ use expression::Verdict;
 // The fewest cubes that contain a co-kernel.
 const FEWEST: usize = 2;
 
-#[derive(Drop)]
+#[derive(Clone, Copy)]
 pub enum Listed {
     All(usize),
     Refused(u32),
 }
 
 // How many cubes contain a cube, and the literals that are common to all those.
-#[derive(Drop)]
+#[derive(Clone, Copy)]
 struct Closure {
     number: usize,
     common: Cube,
 }
 
 // A cube with one literal more: closed, whether it opens a branch, and whether it is a co-kernel.
-#[derive(Drop)]
+#[derive(Clone, Copy)]
 struct Branch {
     cube: Cube,
     common: Cube,

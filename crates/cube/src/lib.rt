@@ -11,26 +11,26 @@ pub const VARIABLES: u32 = 64;
 pub const LITERALS: u32 = 128;
 
 // A variable's number and a literal's number are kept apart: two types, converted by doubling and polarity alone.
-#[derive(Drop)]
+#[derive(Clone, Copy)]
 pub struct Variable(pub u32);
 
-#[derive(Drop)]
+#[derive(Clone, Copy)]
 pub struct Literal(pub u32);
 
 // Bit v of plain is the literal 2v, bit v of negated the literal 2v + 1.
-#[derive(Drop)]
+#[derive(Clone, Copy)]
 pub struct Cube {
     pub plain: u64,
     pub negated: u64,
 }
 
-#[derive(Drop)]
+#[derive(Clone, Copy)]
 pub enum Found {
     At(Literal),
     Nothing,
 }
 
-#[derive(Drop)]
+#[derive(Clone, Copy)]
 pub enum Order {
     Before,
     Same,

@@ -12,7 +12,7 @@ ghost use Rattle.division.specs.Parts.{no_cubes, admitted, OrderedRoom, unsorted
 use cube::Cube;
 use expression::{Position, Verdict};
 
-#[derive(Drop)]
+#[derive(Clone, Copy)]
 pub enum Division {
     Done(usize, usize),
     Refused(u32),

@@ -93,7 +93,7 @@ fn write_to(f: &[u64], text: &[u8], out: &mut [u8]) -> usize {
 }
 
 // What is asked of an expression.
-#[derive(Drop)]
+#[derive(Clone, Copy)]
 pub enum Asked {
     Division,
     Cokernels,

@@ -6,7 +6,7 @@ use letters::Wrote;
 use network::{Handed, Network};
 
 // What a network is written as, and read from.
-#[derive(Drop)]
+#[derive(Clone, Copy)]
 pub enum Form {
     Image,
     Blif,

@@ -16,7 +16,7 @@ use network::Network;
 use table::{Answer, Refusal};
 
 // What has come of the present line: how much, and whether it is too long to be one.
-#[derive(Drop)]
+#[derive(Clone, Copy)]
 struct Coming {
     length: usize,
     long: bool,
@@ -117,7 +117,7 @@ fn on_three(line: &[u8], out: &mut [u8]) -> usize {
 // ---- operations on networks
 
 // What is asked of a network.
-#[derive(Drop)]
+#[derive(Clone, Copy)]
 enum Wanted {
     Literals,
     Evaluation(u64),
@@ -279,7 +279,7 @@ fn take_all(s: &[u8], c: Coming, line: &mut [u8], out: &mut [u8]) -> Coming {
 }
 
 // What has come, and whether more may come.
-#[derive(Drop)]
+#[derive(Clone, Copy)]
 struct Pulled {
     coming: Coming,
     more: bool,

@@ -11,7 +11,7 @@ use std::num;
 // ---- requests
 
 // A network, and whether it was one that was given.
-#[derive(Drop)]
+#[derive(Clone, Copy)]
 pub struct Given {
     pub ok: bool,
     pub network: Network,

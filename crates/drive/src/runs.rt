@@ -9,7 +9,7 @@ use network::Network;
 const NONE: u32 = cube::LITERALS;
 
 // What an answer says of a step: whether its divisor is a pair, one literal or two of each part, its weight and its uses.
-#[derive(Drop)]
+#[derive(Clone, Copy)]
 struct Shown {
     pair: bool,
     a: u32,
@@ -125,7 +125,7 @@ fn put_steps(out: &mut [u8], n: usize, s: Steps) -> usize {
 }
 
 // Where a word stands among others.
-#[derive(Drop)]
+#[derive(Clone, Copy)]
 struct Between {
     from: usize,
     to: usize,

@@ -96,7 +96,7 @@ pub fn put_none(out: &mut [u8]) -> usize {
 // ---- what came of a request
 
 // `ok` or `refused`, and one number or two.
-#[derive(Drop)]
+#[derive(Clone, Copy)]
 pub struct Told {
     pub ok: bool,
     pub first: u64,

@@ -11,14 +11,14 @@ use bytes::scan;
 const DIGITS: usize = 16;
 
 // A number, where one is written.
-#[derive(Drop)]
+#[derive(Clone, Copy)]
 pub enum Hex {
     Is(u64),
     Nothing,
 }
 
 // How many values were read; nothing where they are not what was asked for, or more than there is room for.
-#[derive(Drop)]
+#[derive(Clone, Copy)]
 pub enum Count {
     Are(usize),
     Nothing,

@@ -42,25 +42,28 @@ after l r = record { network = r.network; stop = r.stop; steps = l ++ r.steps }
 abbrev listed : ℕ → List Made → List runs.Made
 listed count list = map made_of (take count list)
 
--- of a run of k steps from m so many steps are listed, and it goes on from the network, of so many literals, for the steps left
-pub record Going (k : ℕ) (m : Net) (list : List Made) (count left : ℕ) (net : Network) (literals : ℕ) : Type 0 where
+-- of a run of k steps from m so many steps are listed, it goes on from the network, of so many literals, for the steps left, and s is the
+-- best step there
+pub record Going (k : ℕ) (m : Net) (list : List Made) (count left : ℕ) (net : Network) (literals : ℕ) (s : Step) : Type 0 where
   pub ready : Runnable net
   pub shape : Shaped net
   pub few : count ≤ net.divisors
   pub long : length list ≡ places
   pub rest : drop count list ≡ replicate (places - count) no_made
   pub counted : literals ≡ literal_count (net_of net)
+  pub chosen : Chosen (chosen_in net) s
   pub goes : run_from k m ≡ after (listed count list) (run_from left (net_of net))
 
-pub going-first : (k : ℕ) (n : Network) (list : List Made) (literals : ℕ) → Shaped n → Runnable n
-    → list ≡ replicate places no_made → literals ≡ literal_count (net_of n) → Going k (net_of n) list 0 k n literals
-going-first k n list literals a r e q = record {
+pub going-first : (k : ℕ) (n : Network) (list : List Made) (literals : ℕ) (s : Step) → Shaped n → Runnable n
+    → list ≡ replicate places no_made → literals ≡ literal_count (net_of n) → Chosen (chosen_in n) s → Going k (net_of n) list 0 k n literals s
+going-first k n list literals s a r e q c = record {
   ready = r;
   shape = a;
   few = omega arith;
   long = ap length e ∙ length-replicate places no_made;
   rest = e;
   counted = q;
+  chosen = c;
   goes = refl;
 }
 
@@ -113,8 +116,8 @@ run-asked n d w = from-none n ∙ go (move_of n) ((move-iff n (move_of n)).0 ref
     go m (no_rows v l h) = refl
     go m (next v l h) = refl
 
-module _ {k : ℕ} {m : Net} {list : List Made} {count left : ℕ} {net : Network} {literals : ℕ}
-    (g : Going k m list count left net literals) where
+module _ {k : ℕ} {m : Net} {list : List Made} {count left : ℕ} {net : Network} {literals : ℕ} {s : Step}
+    (g : Going k m list count left net literals s) where
   pub going-room : count < most_variables
   going-room = omega (arith, g.few, ready-few net g.shape g.ready)
 
@@ -146,100 +149,100 @@ module _ {k : ℕ} {m : Net} {list : List Made} {count left : ℕ} {net : Networ
       ∙ ap (λ (l : List runs.Made). record { network = net_of net; stop = stop_of x; steps = l }) (append-nil (listed count list))))
       ((x, refl, refl), g.ready.held, record { number = sym made-length; steps = refl; rest = g.rest })
 
-  -- s is the best step there
-  module _ (s : Step) (b : Chosen (chosen_in net) s) where
-    chosen-here : Choice (net_of net) s
-    chosen-here = chosen-as net s g.ready.tidy b
+  chosen-here : Choice (net_of net) s
+  chosen-here = chosen-as net s g.ready.tidy g.chosen
 
-    -- no weight above 0
-    pub going_done : lt_z (pos 0) s.weight ≡ false → Told (some (run_from k m)) (stopped_with Done net count list)
-    going_done h = elim chosen-here [ nothing_left p e ↦ going-stop Done (run-finished left (net_of net) e) | one_taken p w q ↦ clash p h ]
+  -- no weight above 0
+  pub going_done : lt_z (pos 0) s.weight ≡ false → Told (some (run_from k m)) (stopped_with Done net count list)
+  going_done h = elim chosen-here [ nothing_left p e ↦ going-stop Done (run-finished left (net_of net) e) | one_taken p w q ↦ clash p h ]
 
-    -- no step is left to make
-    pub going-ended : left ≡ 0 → Told (some (run_from k m)) (stopped_with (ended_at s.weight) net count list)
-    going-ended z = elim chosen-here [
-      | nothing_left p e ↦ rw p (going-stop Done (run-finished left (net_of net) e))
-      | one_taken p w q ↦ rw p (going-stop Asked (ap (λ (x : ℕ). run_from x (net_of net)) z ∙ run-asked (net_of net) (divisor_of s.divisor) w))
-    ]
+  -- no step is left to make
+  pub going-ended : left ≡ 0 → Told (some (run_from k m)) (stopped_with (ended_at s.weight) net count list)
+  going-ended z = elim chosen-here [
+    | nothing_left p e ↦ rw p (going-stop Done (run-finished left (net_of net) e))
+    | one_taken p w q ↦ rw p (going-stop Asked (ap (λ (x : ℕ). run_from x (net_of net)) z ∙ run-asked (net_of net) (divisor_of s.divisor) w))
+  ]
 
-    module _ (h : lt_z (pos 0) s.weight ≡ true) where
-      worth : Worth (net_of net) (divisor_of s.divisor) × (weighed_of s ≡ weighing (net_of net) (divisor_of s.divisor))
-      worth = elim chosen-here [ nothing_left p e ↦ clash h p | one_taken p w q ↦ (w, q) ]
+  module _ (h : lt_z (pos 0) s.weight ≡ true) where
+    worth : Worth (net_of net) (divisor_of s.divisor) × (weighed_of s ≡ weighing (net_of net) (divisor_of s.divisor))
+    worth = elim chosen-here [ nothing_left p e ↦ clash h p | one_taken p w q ↦ (w, q) ]
 
-      abbrev d : divisors.Divisor
-      d = divisor_of s.divisor
+    abbrev d : divisors.Divisor
+    d = divisor_of s.divisor
 
-      good : Good (net_of net)
-      good = rules-good net g.shape g.ready.lawful
+    good : Good (net_of net)
+    good = rules-good net g.shape g.ready.lawful
 
-      -- a step takes the weight off the literals
-      falls : pos (literal_count (step (net_of net) d)) ≡ pos literals -ℤ s.weight
-      falls =
-          step-literals (net_of net) good d (worth-fit good worth.0).whole
-          ∙ ap₂ (λ (l : ℕ) (w : ℤ). pos l -ℤ w) (sym g.counted) (ap (λ (w : runs.Weighed). w.weight) (sym worth.1))
+    -- a step takes the weight off the literals
+    falls : pos (literal_count (step (net_of net) d)) ≡ pos literals -ℤ s.weight
+    falls =
+        step-literals (net_of net) good d (worth-fit good worth.0).whole
+        ∙ ap₂ (λ (l : ℕ) (w : ℤ). pos l -ℤ w) (sym g.counted) (ap (λ (w : runs.Weighed). w.weight) (sym worth.1))
 
-      pub going-leaves : Leaves literals s.weight
-      going-leaves =
-          let w = (rules-within net g.shape g.ready.lawful).literals in
-          let l = step-smaller (net_of net) good d (worth-fit good worth.0).whole worth.0.above in
-          record { left = literal_count (step (net_of net) d); is = falls; within = omega (arith, g.counted); less = omega arith }
+    pub going-leaves : Leaves literals s.weight
+    going-leaves =
+        let w = (rules-within net g.shape g.ready.lawful).literals in
+        let l = step-smaller (net_of net) good d (worth-fit good worth.0).whole worth.0.above in
+        record { left = literal_count (step (net_of net) d); is = falls; within = omega (arith, g.counted); less = omega arith }
 
-      module _ (l : 0 < left) (t : Next) (o : Stepped net (outcome_of net s.divisor) t) where
-        step-taken : Taken (net_of net) d t
-        step-taken =
-            stepped-as net s.divisor t g.ready.tidy (rules-within net g.shape g.ready.lawful).literals good worth.0 o
+    module _ (l : 0 < left) (t : Next) (o : Stepped net (outcome_of net s.divisor) t) where
+      step-taken : Taken (net_of net) d t
+      step-taken =
+          stepped-as net s.divisor t g.ready.tidy (rules-within net g.shape g.ready.lawful).literals good worth.0 o
 
-        some_left : left ≡ suc (left - 1)
-        some_left = omega arith
+      some_left : left ≡ suc (left - 1)
+      some_left = omega arith
 
-        -- no number or no rows for the step
-        pub going-full : (t.outcome ≡ Outcome.Made → ⊥) → Told (some (run_from k m)) (stopped_with (reason_of t.outcome) net count list)
-        going-full f = elim step-taken [
-          | was_made q e i ↦ absurd (f q)
-          | was_not q e ↦ going-stop (reason_of t.outcome)
-              (ap (λ (z : ℕ). run_from z (net_of net)) some_left ∙ from-stuck (left - 1) (net_of net) (stop_of (reason_of t.outcome)) e)
-        ]
+      -- no number or no rows for the step
+      pub going-full : (t.outcome ≡ Outcome.Made → ⊥) → Told (some (run_from k m)) (stopped_with (reason_of t.outcome) net count list)
+      going-full f = elim step-taken [
+        | was_made q e i ↦ absurd (f q)
+        | was_not q e ↦ going-stop (reason_of t.outcome)
+            (ap (λ (z : ℕ). run_from z (net_of net)) some_left ∙ from-stuck (left - 1) (net_of net) (stop_of (reason_of t.outcome)) e)
+      ]
 
-        -- the step is made, and listed
-        module _ (shape-t : Shaped t.network) (rest : ℕ) (f : pos rest ≡ pos literals -ℤ s.weight)
-            (x : Made) (y : x ≡ made_by s t.number rest) (q : t.outcome ≡ Outcome.Made) where
-          rest-is : rest ≡ literal_count (step (net_of net) d)
-          rest-is = let e = f ∙ sym falls in cc
+      -- the step is made, and listed
+      module _ (shape-t : Shaped t.network) (rest : ℕ) (f : pos rest ≡ pos literals -ℤ s.weight)
+          (x : Made) (y : x ≡ made_by s t.number rest) (b : Step) (c : Runnable t.network → Chosen (chosen_in t.network) b)
+          (q : t.outcome ≡ Outcome.Made) where
+        rest-is : rest ≡ literal_count (step (net_of net) d)
+        rest-is = let e = f ∙ sym falls in cc
 
-          step-made : After (net_of net) d t → made_of x ≡ making (net_of net) d
-          step-made a = ap made_of y ∙ (λ i. record {
-            divisor = d;
-            weight = (worth.1 i).weight;
-            uses = (worth.1 i).uses;
-            number = a.number i;
-            literals = rest-is i;
-          })
+        step-made : After (net_of net) d t → made_of x ≡ making (net_of net) d
+        step-made a = ap made_of y ∙ (λ i. record {
+          divisor = d;
+          weight = (worth.1 i).weight;
+          uses = (worth.1 i).uses;
+          number = a.number i;
+          literals = rest-is i;
+        })
 
-          abbrev Onward : Type 0
-          Onward =
-              Going k m (set list count x) (count + 1) (left - 1) t.network rest
-              × (t.network.inputs + t.network.divisors ≡ suc (net.inputs + net.divisors))
+        abbrev Onward : Type 0
+        Onward =
+            Going k m (set list count x) (count + 1) (left - 1) t.network rest b
+            × (t.network.inputs + t.network.divisors ≡ suc (net.inputs + net.divisors))
 
-          pub going_on : Onward
-          going_on = elim step-taken [ was_made p e i ↦ go e i | was_not p e ↦ absurd (p q) ]
-            where
-              go : move_of (net_of net) ≡ makes d → Takes (net_of net) d t → Onward
-              go e i =
-                  let more = next-divisors net g.shape g.ready d t i in
-                  let is = next-is net g.shape g.ready d t i ∙ sym (prepare-same (step (net_of net) d)) in
-                  let later = run_from (left - 1) (prepare (step (net_of net) d)) in (
-                    record {
-                      ready = next-ready net g.shape g.ready d t i;
-                      shape = shape-t;
-                      few = omega (arith, g.few);
-                      long = length-set list count x ∙ g.long;
-                      rest = listed-rest x;
-                      counted = rest-is ∙ ap literal_count (sym (next-is net g.shape g.ready d t i));
-                      goes = g.goes ∙ ap (after (listed count list)) (ap (λ (z : ℕ). run_from z (net_of net)) some_left ∙ from-make (left - 1) (net_of net) d e)
-                          ∙ ap (λ (l : List runs.Made). record { network = later.network; stop = later.stop; steps = l })
-                          (sym (append_assoc (listed count list) (making (net_of net) d ∷ []) later.steps))
-                          ∙ ap₂ (λ (l : List runs.Made) (z : Net). after l (run_from (left - 1) z))
-                          (sym (listed_next x ∙ ap (λ (z : runs.Made). listed count list ++ (z ∷ [])) (step-made i.after))) (sym is);
-                    },
-                    omega arith,
-                  )
+        pub going_on : Onward
+        going_on = elim step-taken [ was_made p e i ↦ go e i | was_not p e ↦ absurd (p q) ]
+          where
+            go : move_of (net_of net) ≡ makes d → Takes (net_of net) d t → Onward
+            go e i =
+                let more = next-divisors net g.shape g.ready d t i in
+                let is = next-is net g.shape g.ready d t i ∙ sym (prepare-same (step (net_of net) d)) in
+                let later = run_from (left - 1) (prepare (step (net_of net) d)) in (
+                  record {
+                    ready = next-ready net g.shape g.ready d t i;
+                    shape = shape-t;
+                    few = omega (arith, g.few);
+                    long = length-set list count x ∙ g.long;
+                    rest = listed-rest x;
+                    counted = rest-is ∙ ap literal_count (sym (next-is net g.shape g.ready d t i));
+                    chosen = c (next-ready net g.shape g.ready d t i);
+                    goes = g.goes ∙ ap (after (listed count list)) (ap (λ (z : ℕ). run_from z (net_of net)) some_left ∙ from-make (left - 1) (net_of net) d e)
+                        ∙ ap (λ (l : List runs.Made). record { network = later.network; stop = later.stop; steps = l })
+                        (sym (append_assoc (listed count list) (making (net_of net) d ∷ []) later.steps))
+                        ∙ ap₂ (λ (l : List runs.Made) (z : Net). after l (run_from (left - 1) z))
+                        (sym (listed_next x ∙ ap (λ (z : runs.Made). listed count list ++ (z ∷ [])) (step-made i.after))) (sym is);
+                  },
+                  omega arith,
+                )

@@ -1,14 +1,12 @@
 -- Words for the contracts of the private functions: a network that a run starts from, and how a run is handed back.
-use Rattle.std.specs.Prelude.{ℕ, ◌≤◌, length, ℤ, pos, ◌-ℤ◌}
+use Rattle.std.specs.Prelude.{ℕ, ◌≤◌, ℤ, pos, ◌-ℤ◌}
 use mathlib.Core.{Path.◌≡◌, Bool.true, Bool.cond, List.List}
 use Rattle.std.specs.Int.Signed.{lt_z}
 use Rattle.cube.specs.declared.Variable.{Variable}
 use Rattle.network.specs.{Net.nodes, Held.net_of, Held.rules, Held.most_literals}
-use Rattle.extract_gains.specs.Gains.{Open, Alike}
 use Rattle.extract_counts.specs.Counts.{Says}
-use Rattle.extract_keep.specs.Keep.{enough}
 use Rattle.extract_choice.specs.Choice.{chosen_in, Chosen}
-use Rattle.network.specs.{Handed.Holds, Handed.Shaped, declared.Network.Network}
+use Rattle.network.specs.{Handed.Holds, declared.Network.Network}
 use Rattle.extract_divisor.specs.declared.Step.{Step}
 use Rattle.extract_step.specs.declared.Outcome.{Outcome}
 use Rattle.extract_step.specs.declared.Outcome.TheVariants as Outcome
@@ -23,19 +21,9 @@ pub record Runnable (n : Network) : Type 0 where
   pub tidy : arranged n ≡ true
   pub held : Holds n (net_of n)
 
--- by the rules and in cube order, in as many words and counts as a network has
-pub record Lent (n : Network) : Type 0 where
-  pub shape : Shaped n
-  pub lawful : rules n ≡ true
-  pub tidy : arranged n ≡ true
-
--- the table is as large as it was. Unless it is full, the step is the best one of the network, and the table says the gains of all its divisors; and a
--- table that has room for the divisors of any network is not full.
-pub record Leads (t g u h : List ℕ) (n : Network) (s : Step) : Type 0 where
-  pub alike : Alike t g u h
-  pub best : Open u h → Chosen (chosen_in n) s
-  pub says : Open u h → Says u h (nodes (net_of n))
-  pub room : enough ≤ length g → Open u h
+-- the step is the best one of the network, and the table says the gains of all its divisors
+abbrev pub Leads : List ℕ → List ℕ → Network → Step → Type 0
+Leads t g n s = Chosen (chosen_in n) s × Says t g (nodes (net_of n))
 
 -- a weight taken off a count of literals leaves such a count
 pub record Leaves (count : ℕ) (weight : ℤ) : Type 0 where

@@ -1,5 +1,4 @@
 pub mod Weights
-pub mod Passing
 pub mod Counting
 pub mod Leading
 pub mod Deciding

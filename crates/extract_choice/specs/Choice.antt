@@ -1,13 +1,12 @@
 -- What the choice of the best divisor answers.
-use Rattle.std.specs.Prelude.{ℕ, pos}
-use mathlib.Core.{Path.◌≡◌, Bool.true, Bool.cond, List.List}
+use mathlib.Core.{Path.◌≡◌, Bool.cond}
 use Rattle.std.proofs.Math.Option.{Option, none, some}
+use Rattle.std.specs.Prelude.{pos}
 use Rattle.std.specs.Int.Signed.{lt_z}
-use Rattle.network.specs.{Net.Net, Net.nodes, Held.net_of, Handed.Shaped, declared.Network.Network}
+use Rattle.network.specs.{Net.Net, Held.net_of, declared.Network.Network}
 use Rattle.extract_laws.specs.Divisor as extraction
 use Rattle.extract_laws.specs.{Extract.weight, Extract.best, Run.Weighed, Run.weighing}
 use Rattle.extract_tidy.specs.Tidy.{arranged}
-use Rattle.extract_counts.specs.Counts.{Says}
 use Rattle.extract_divisor.specs.{Divisor.weighed_of, Divisor.no_step, declared.Step.Step}
 
 -- the best divisor, where its weight is above 0, with its weight and uses
@@ -22,8 +21,3 @@ chosen_in n = cond (arranged n) (worth_in (net_of n) (best (net_of n))) none
 abbrev pub Chosen : Option Weighed → Step → Type 0
 Chosen (some m) s = weighed_of s ≡ m
 Chosen none s = s ≡ no_step
-
--- the choice, where the table says the gains of a network that stands in cube order; no step of words and counts that are not as many as a network has
-pub record Chooses (t g : List ℕ) (n : Network) (s : Step) : Type 0 where
-  pub shaped : Shaped n → (arranged n ≡ true → Says t g (nodes (net_of n))) → Chosen (chosen_in n) s
-  pub other : (Shaped n → ⊥) → s ≡ no_step

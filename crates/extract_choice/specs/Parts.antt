@@ -1,6 +1,6 @@
 -- Words for the contracts of the private functions: what the entries of a table offer, and what words and counts hold.
-use Rattle.std.specs.Prelude.{ℕ, zero, suc, ◌<◌, ◌≤◌, List, length, get_or, ℤ, pos, ◌-ℤ◌}
-use mathlib.Core.{Path.◌≡◌, Bool.true, Bool.false, Bool.cond}
+use Rattle.std.specs.Prelude.{ℕ, zero, suc, ◌≤◌, List, length, get_or, ℤ, pos, ◌-ℤ◌}
+use mathlib.Core.{Path.◌≡◌, Bool.true, Bool.cond}
 use Rattle.std.specs.Int.Signed.{lt_z}
 use Rattle.sets.specs.Lists.{all, total}
 use Rattle.expression.specs.{Words.cubes_of, Expression.ordered}
@@ -27,10 +27,6 @@ picked h o = cond (outweighs o.weight h.weight (sooner o.divisor h.divisor)) o h
 unfoldable pub best_below : List ℕ → List ℕ → ℕ → Weighed
 best_below t g zero = weighed_of no_step
 best_below t g (suc e) = picked (best_below t g e) (offered (key_at t e) (get_or g e 0))
-
--- from e on to before r no entry has more gain than the weight; r is at most n where e is
-abbrev pub Passes : List ℕ → ℕ → ℕ → ℤ → ℕ → Type 0
-Passes g e n w r = (e ≤ n → (e ≤ r) × (r ≤ n)) × ((i : ℕ) → e ≤ i → i < r → lt_z w (pos (get_or g i 0)) ≡ false)
 
 -- no more than a gain can be
 abbrev pub Modest : ℤ → Type 0

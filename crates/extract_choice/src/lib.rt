@@ -5,16 +5,24 @@ ghost use Rattle.sets.specs.Lists.{total};
 ghost use Rattle.cube.specs.Cube.{lits};
 ghost use Rattle.expression.specs.Words.{cubes_of};
 ghost use Rattle.expression.specs.Expression.{ordered};
-ghost use Rattle.network.specs.Held.{most_cubes};
-ghost use Rattle.network.specs.Parts.{nodes_of, held_in};
+ghost use Rattle.network.specs.Net.{nodes};
+ghost use Rattle.network.specs.Held.{net_of, most_cubes};
+ghost use Rattle.network.specs.Parts.{nodes_of};
 ghost use Rattle.extract_laws.specs.Divisor.{sum, uses};
+ghost use Rattle.extract_tidy.specs.Tidy.{arranged};
 ghost use Rattle.extract_divisor.specs.Divisor.{divisor_of, weighed_of};
 ghost use Rattle.extract_gains.specs.Gains.{many};
-ghost use Rattle.extract_choice.specs.Choice.{Chooses};
-ghost use Rattle.extract_choice.specs.Parts.{offered, picked, best_below, Passes, Modest, Counted, Orderly};
+ghost use Rattle.extract_counts.specs.Counts.{Says};
+ghost use Rattle.extract_choice.specs.Choice.{Chosen, chosen_in};
+ghost use Rattle.extract_choice.specs.Parts.{offered, picked, best_below, Modest, Counted, Orderly};
 
 use cube::Cube;
 use extract_divisor::{Divisor, Step};
+use network::Network;
+
+const TABLE_WORDS: usize = extract_gains::TABLE_WORDS;
+
+const MOST_ENTRIES: usize = extract_gains::MOST_ENTRIES;
 
 // ---- the table
 
@@ -43,37 +51,19 @@ fn offer(held: Step, key: u32, gain: u16) -> Step
     extract_rank::better_of(held, s)
 }
 
-// The first entry from e on, before n, whose gain is above a weight, or n; promised is only that none before it is.
-fn next_above(g: &[u16], e: usize, n: usize, weight: i32) -> usize
-    ensures { Passes g.now e n weight result }
-{
-    if n > g.len() {
-        return e;
-    }
-    let mut i = e;
-    while i < n {
-        if g[i] as i32 > weight {
-            return i;
-        }
-        i += 1;
-    }
-    i
-}
-
-// The best of all entries. A gain is more than the weight that it leaves, so that entries with no more gain than the weight that is held are passed over.
-fn scan(t: &[u32], g: &[u16]) -> Step
+// The best of all entries, in turn. A gain is more than the weight that it leaves.
+fn scan(t: &[u32; TABLE_WORDS], g: &[u16; MOST_ENTRIES]) -> Step
     ensures { (weighed_of result ≡ best_below t.now g.now (many t.now)) × Modest result.weight }
 {
     let n = extract_gains::number(t);
     let mut held = extract_divisor::no_step();
-    let mut e = next_above(g, 0, n, held.weight);
+    let mut e = 0;
     while e < n {
-        held = offer(
-            held,
-            extract_gains::key_at(t, e),
-            extract_gains::gain_at(g, e),
-        );
-        e = next_above(g, e + 1, n, held.weight);
+        let gain = extract_gains::gain_at(g, e);
+        if gain as i32 > held.weight {
+            held = offer(held, extract_gains::key_at(t, e), gain);
+        }
+        e += 1;
     }
     held
 }
@@ -135,34 +125,21 @@ fn uses_of(words: &[u64], counts: &[usize], e: usize, s: Step) -> u32
 
 // ---- the choice
 
-// The best divisor of a network in cube order of which the table says the gains, if its weight is above 0; a step of zeros where no weight is, and where
-// words and counts are not as many as a network has.
-pub fn best(
-    t: &[u32],
-    g: &[u16],
-    inputs: usize,
-    outputs: usize,
-    divisors: usize,
-    words: &[u64],
-    counts: &[usize],
-) -> Step
-    ensures { Chooses t.now g.now (held_in inputs outputs divisors counts.now words.now) result }
+// The best divisor of a network in cube order of which the table says the gains, if its weight is above 0; else a step of zeros.
+pub fn best(t: &[u32; TABLE_WORDS], g: &[u16; MOST_ENTRIES], n: Network) -> Step
+    ensures { (arranged n ≡ true → Says t.now g.now (nodes (net_of n))) → Chosen (chosen_in n) result }
 {
-    if words.len() != network::WORD_SLOTS {
-        return extract_divisor::no_step();
-    }
-    if counts.len() != network::NODE_SLOTS {
-        return extract_divisor::no_step();
-    }
-    if !extract_tidy::are_arranged(inputs, outputs, divisors, words, counts) {
+    if !extract_tidy::is_arranged(n) {
         return extract_divisor::no_step();
     }
     let s = scan(t, g);
     if s.weight <= 0 {
         return extract_divisor::no_step();
     }
-    let e = outputs + divisors;
-    let uses = uses_of(network_nodes::front(words, counts, e), counts, e, s);
+    let words = n.words;
+    let counts = n.counts;
+    let e = n.outputs + n.divisors;
+    let uses = uses_of(network_nodes::front(&words, &counts, e), &counts, e, s);
     let divisor = s.divisor;
     Step {
         divisor,

@@ -1,6 +1,6 @@
 -- The gains by key in all nodes of a network are those that the weights count. Assumes nothing.
 use Prim.Native.Nat.{ℕ, ◌+◌, ◌*◌, ◌<◌}
-use mathlib.Core.{Path.◌≡◌, Path.◌∙◌, Logic.inl, Logic.inr, Bool.true}
+use mathlib.Core.{Path.◌≡◌, Logic.inl, Logic.inr, Bool.true}
 use mathlib.Core.List.{List, ◌++◌}
 use mathlib.Core.List.Memᴰ
 use Rattle.sets.specs.{Lists.all, Lists.total, Sets.mem, Sets.asc}
@@ -9,9 +9,8 @@ use Rattle.cube.specs.Cube.{width}
 use Rattle.expression.specs.Expression.{ordered}
 use Rattle.extract_laws.specs.{Divisor.Divisor, Extract.gather, Extract.pairs_in, Extract.sums_in, Extract.gain_in}
 use Rattle.extract_laws.proofs.Offering.{gather-in}
-use Rattle.extract_gains.specs.Gains.{gain}
 use Rattle.extract_keys.{specs.Keys.Plain, specs.Keys.key_of, proofs.Keys.key_one}
-use Rattle.extract_counts.specs.Counts.{node_gain, net_gain, Says}
+use Rattle.extract_counts.specs.Counts.{node_gain, net_gain}
 use Rattle.extract_counts.proofs.Gaining.{total-some, node-gain, node_made}
 
 -- a node in cube order, of cubes that the masks can hold
@@ -25,10 +24,6 @@ module _ (fs : List (List (List ℕ))) (neat : (f : List (List ℕ)) → f ∈ f
   unfolding net_gain
   net-gain d p = total-cong (node_gain (key_of d)) (gain_in d) fs (λ f m. let n = neat f m in
       node-gain (λ x y q r e. key_one q r e) f n.order n.ascends n.inside d p)
-
-  -- so a table that says the gains of these nodes says of every divisor what its uses in them give it
-  pub says-gain : {t g : List ℕ} → Says t g fs → (d : Divisor) → Plain d → gain t g (key_of d) ≡ total (gain_in d) fs
-  says-gain s d p = s.gains (key_of d) ∙ net-gain d p
 
   -- a key that has a gain is that of a divisor of the network
   pub net-made : (k : ℕ) → 0 < net_gain k fs → (d : Divisor) × Plain d × (key_of d ≡ k) × (d ∈ (gather (gather pairs_in) fs ++ gather sums_in fs))

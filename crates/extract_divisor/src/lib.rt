@@ -8,14 +8,14 @@ use cube::{Cube, Literal};
 use expression::Position;
 
 // A pair of literals, the smaller first, or a sum of two parts that are cubes, the one that is first in cube order first.
-#[derive(Drop)]
+#[derive(Clone, Copy)]
 pub enum Divisor {
     Pair(Literal, Literal),
     Sum(Cube, Cube),
 }
 
 // A step: its divisor, what the divisor weighs, and its uses.
-#[derive(Drop)]
+#[derive(Clone, Copy)]
 pub struct Step {
     pub divisor: Divisor,
     pub weight: i32,

@@ -9,9 +9,9 @@ use lib.ListN.{length, get_or, set, length-set}
 use lib.Seq.{get_or-set_same, get_or-set_other}
 use borrow.Author.Tests.{eq-eqb, ne_eqb}
 use Rattle.sets.proofs.Truth.{Stand, below, equal, beyond, compared}
-use Rattle.extract_gains.specs.Gains.{many, place_of, link_at, key_at, head_of, newest, holds, gain, Sound, Open, Keyed, Turns, only, nothing}
+use Rattle.extract_gains.specs.Gains.{entries, first, many, place_of, link_at, key_at, head_of, newest, holds, gain, Sound, Keyed, Turns, only, none}
 use Rattle.extract_gains.specs.Parts.{Missing}
-use Rattle.extract_gains.proofs.Chains.{chain_of, head-from, head-to, newest-same}
+use Rattle.extract_gains.proofs.Chains.{head-from, head-to, newest-same}
 use Rattle.extract_gains.proofs.{Holding.holds_same, Table.many-few, Changing.eqb-turn, Changing.only_same}
 
 -- the link, the key, the head and the number of entries, written one after the other
@@ -30,19 +30,15 @@ grown t e h key = set (headed t e h key) 0 (e + 1)
 length-grown : (t : List ℕ) (e h key : ℕ) → length (grown t e h key) ≡ length t
 length-grown t e h key = simp length-set
 
--- the newest entries of the chains of the table as it was, by the keys of another
-abbrev newest_by : List ℕ → List ℕ → List ℕ → ℕ → ℕ → ℕ
-newest_by t g u i e = newest (length t) (length g) u i e
-
-module _ (t g : List ℕ) (key by e h : ℕ) (s : Sound t g) (pe : e ≡ many t) (ph : h ≡ chain_of t (length g) key) (r : e < length g) (free : Missing t key) where
+module _ (t g : List ℕ) (key by e h : ℕ) (s : Sound t g) (pe : e ≡ many t) (ph : h ≡ head_of key) (r : e < entries) (free : Missing t key) where
   u : List ℕ
   u = grown t e h key
 
-  from : place_of (length g) ≤ h
-  from = rw ph (head-from (length t) (length g) key)
+  from : 1 ≤ h
+  from = rw ph (head-from key)
 
-  to : h < length t
-  to = rw ph (head-to (length t) (length g) key s.long)
+  to : h < first
+  to = rw ph (head-to key)
 
   -- the other words are as they were
   others : (i : ℕ) → (i ≡ 0 → ⊥) → (i ≡ h → ⊥) → (i ≡ place_of e → ⊥) → (i ≡ place_of e + 1 → ⊥) → get_or u i 0 ≡ get_or t i 0
@@ -61,52 +57,49 @@ module _ (t g : List ℕ) (key by e h : ℕ) (s : Sound t g) (pe : e ≡ many t)
   unfolding u
   head-new =
       get_or-set_other (headed t e h key) 0 h (e + 1) 0 (λ q. omega (arith, from))
-      ∙ get_or-set_same (tagged t e h key) h (place_of e) 0 (simp length-set (omega (arith, to)))
+      ∙ get_or-set_same (tagged t e h key) h (place_of e) 0 (simp length-set (omega (arith, s.long, to)))
 
   key-new : key_at u e ≡ key
   unfolding u
   key-new =
       get_or-set_other (headed t e h key) 0 (place_of e + 1) (e + 1) 0 (λ q. omega arith)
-      ∙ get_or-set_other (tagged t e h key) h (place_of e + 1) (place_of e) 0 (λ q. omega (arith, from))
+      ∙ get_or-set_other (tagged t e h key) h (place_of e + 1) (place_of e) 0 (λ q. omega (arith, to))
       ∙ get_or-set_same (linked t e h) (place_of e + 1) key 0 (simp length-set (omega (arith, s.long)))
 
   link-new : link_at u e ≡ get_or t h 0
   unfolding u
   link-new =
       get_or-set_other (headed t e h key) 0 (place_of e) (e + 1) 0 (λ q. omega arith)
-      ∙ get_or-set_other (tagged t e h key) h (place_of e) (place_of e) 0 (λ q. omega (arith, from))
+      ∙ get_or-set_other (tagged t e h key) h (place_of e) (place_of e) 0 (λ q. omega (arith, to))
       ∙ get_or-set_other (linked t e h) (place_of e + 1) (place_of e) key 0 (λ q. omega arith)
       ∙ get_or-set_same t (place_of e) (get_or t h 0) 0 (omega (arith, s.long))
 
   -- and so are the entries before
   keys : (d : ℕ) → d < e → key_at u d ≡ key_at t d
-  keys d b = others (place_of d + 1) (λ q. omega arith) (λ q. omega (arith, from)) (λ q. omega arith) (λ q. omega arith)
+  keys d b = others (place_of d + 1) (λ q. omega arith) (λ q. omega (arith, to)) (λ q. omega arith) (λ q. omega arith)
 
   links : (d : ℕ) → d < e → link_at u d ≡ link_at t d
-  links d b = others (place_of d) (λ q. omega arith) (λ q. omega (arith, from)) (λ q. omega arith) (λ q. omega arith)
+  links d b = others (place_of d) (λ q. omega arith) (λ q. omega (arith, to)) (λ q. omega arith) (λ q. omega arith)
 
-  newest-old : (i d : ℕ) → d ≤ e → newest_by t g u i d ≡ newest_by t g t i d
-  newest-old i d b = newest-same (length t) (length g) t u i d (λ c l. keys c (omega arith))
+  head-old : (i : ℕ) → 1 ≤ i → i < first → get_or t i 0 ≡ newest u i e
+  head-old i a b = s.heads i a b ∙ ap (newest t i) (sym pe) ∙ sym (newest-same t u i e keys)
 
-  head-old : (i : ℕ) → place_of (length g) ≤ i → i < length t → get_or t i 0 ≡ newest_by t g u i e
-  head-old i a b = s.heads i a b ∙ ap (newest_by t g t i) (sym pe) ∙ sym (newest-old i e (omega arith))
-
-  heads-new : (i : ℕ) → place_of (length g) ≤ i → i < length t → get_or u i 0 ≡ newest_by t g u i (suc e)
+  heads-new : (i : ℕ) → 1 ≤ i → i < first → get_or u i 0 ≡ newest u i (suc e)
   unfolding newest
   heads-new i a b = rw key-new (go (compared i h))
     where
-      go : Stand i h → get_or u i 0 ≡ cond (eqb (chain_of t (length g) key) i) (place_of e) (newest_by t g u i e)
-      go (equal q _ _) = rw (eq-eqb (chain_of t (length g) key) i (sym ph ∙ sym q)) (ap (λ j. get_or u j 0) q ∙ head-new)
-      go (below q _ _) = rw (ne_eqb (chain_of t (length g) key) i (λ z. omega (arith, ph)))
+      go : Stand i h → get_or u i 0 ≡ cond (eqb (head_of key) i) (place_of e) (newest u i e)
+      go (equal q _ _) = rw (eq-eqb (head_of key) i (sym ph ∙ sym q)) (ap (λ j. get_or u j 0) q ∙ head-new)
+      go (below q _ _) = rw (ne_eqb (head_of key) i (λ z. omega (arith, ph)))
           (others i (λ z. omega arith) (λ z. omega arith) (λ z. omega arith) (λ z. omega arith) ∙ head-old i a b)
-      go (beyond q _ _) = rw (ne_eqb (chain_of t (length g) key) i (λ z. omega (arith, ph)))
+      go (beyond q _ _) = rw (ne_eqb (head_of key) i (λ z. omega (arith, ph)))
           (others i (λ z. omega arith) (λ z. omega arith) (λ z. omega arith) (λ z. omega arith) ∙ head-old i a b)
 
-  links-new : (d : ℕ) → d < suc e → link_at u d ≡ newest_by t g u (chain_of t (length g) (key_at u d)) d
+  links-new : (d : ℕ) → d < suc e → link_at u d ≡ newest u (head_of (key_at u d)) d
   links-new d l = go (compared d e)
     where
-      go : Stand d e → link_at u d ≡ newest_by t g u (chain_of t (length g) (key_at u d)) d
-      go (below q _ _) = rw (keys d q, newest-old (chain_of t (length g) (key_at t d)) d (omega arith)) (links d q ∙ s.links d (omega arith))
+      go : Stand d e → link_at u d ≡ newest u (head_of (key_at u d)) d
+      go (below q _ _) = rw (keys d q, newest-same t u (head_of (key_at t d)) d (λ c b. keys c (omega arith))) (links d q ∙ s.links d (omega arith))
       go (equal q _ _) = rw (q, key-new, ← ph) (link-new ∙ head-old h from to)
       go (beyond q _ _) = absurd (omega arith)
 
@@ -121,17 +114,17 @@ module _ (t g : List ℕ) (key by e h : ℕ) (s : Sound t g) (pe : e ≡ many t)
   sound-new : Sound u (set g e by)
   unfolding u
   sound-new = record {
-    long = rw (length-grown t e h key, length-set g e by) s.long;
-    short = rw (length-grown t e h key) s.short;
-    few = omega (arith, many-new, length-set g e by);
-    heads = rw (length-grown t e h key, length-set g e by) (λ i a b. heads-new i a b ∙ ap (newest_by t g u i) (sym (many-new ∙ add-one e)));
-    links = rw (length-grown t e h key, length-set g e by) (λ d b. links-new d (omega (arith, many-new)));
+    long = length-grown t e h key ∙ s.long;
+    beside = length-set g e by ∙ s.beside;
+    few = omega (arith, many-new);
+    heads = λ i a b. heads-new i a b ∙ ap (newest u i) (sym (many-new ∙ add-one e));
+    links = λ d b. links-new d (omega (arith, many-new));
     once = λ c d b l. once-new c d b (omega (arith, many-new));
   }
 
   gain-new : (k : ℕ) → gain u (set g e by) k ≡ only key by k + gain t g k
   unfolding gain holds
-  gain-new k = rw (many-new, add-one, key-new, get_or-set_same g e by 0 r, eqb-turn key k)
+  gain-new k = rw (many-new, add-one, key-new, get_or-set_same g e by 0 (omega (arith, s.beside)), eqb-turn key k)
       (ap (λ x. only key by k + x) (holds_same t u g (set g e by) k e keys
       (λ d b. get_or-set_other g e d by 0 (λ q. omega arith)) ∙ ap (holds t g k) pe))
 
@@ -144,18 +137,15 @@ module _ (t g : List ℕ) (key by e h : ℕ) (s : Sound t g) (pe : e ≡ many t)
   ]
 
   -- an entry has room where the keys are few
-  fits-new : (l : List ℕ) → length l + 1 < length g → Keyed t l → Memᴰ key l → Open u (set g e by) × Keyed u l
-  fits-new l short old new = (omega (arith, many-new, many-few s l old, length-set g e by), keyed-new l old new)
+  fits-new : (l : List ℕ) → length l + 1 < entries → Keyed t l → Memᴰ key l → (many u < entries) × Keyed u l
+  fits-new l short old new = (omega (arith, many-new, many-few s l old), keyed-new l old new)
 
-pub turns-enter : (t g : List ℕ) (key by e h : ℕ) → e ≡ many t → h ≡ head_of (length t) (length g) key → e < length g
-    → (Sound t g → Missing t key) → 0 < by → Turns t g (grown t e h key) (set g e by) nothing (only key by)
+pub turns-enter : (t g : List ℕ) (key by e h : ℕ) → e ≡ many t → h ≡ head_of key → e < entries → (Sound t g → Missing t key) → 0 < by
+    → Turns t g (grown t e h key) (set g e by) none (only key by)
 unfolding u
 turns-enter t g key by e h pe ph r free some = record {
-  shifts = record {
-    alike = record { words = length-grown t e h key; room = length-set g e by };
-    stays = λ f. absurd (omega arith);
-    sound = λ s f. sound-new t g key by e h s pe ph r (free s);
-    moves = λ s f k. omega (arith, gain-new t g key by e h s pe ph r (free s) k);
-  };
+  stays = λ f. absurd (omega arith);
+  sound = λ s f. sound-new t g key by e h s pe ph r (free s);
+  moves = λ s f k. omega (arith, gain-new t g key by e h s pe ph r (free s) k);
   fits = λ s b l short old falls rise most. fits-new t g key by e h s pe ph r (free s) l short old (rise key (omega (arith, only_same key by)));
 }

@@ -1,4 +1,4 @@
--- What a table says that is filled anew, or kept; and enough room is room for every divisor of a network by the rules. Assumes nothing.
+-- A table that is filled anew has room for every divisor of a network by the rules. Assumes nothing.
 use Prim.Native.Nat.{ℕ, ◌+◌, ◌*◌, ◌<◌, ◌≤◌}
 use mathlib.Core.Path.{◌≡◌, refl, sym, ap, subst}
 use mathlib.Core.{Logic.inl, Logic.inr, Bool.true}
@@ -16,9 +16,9 @@ use Rattle.network.specs.{Net.nodes, Held.net_of, Held.rules, Held.most_cubes, H
 use Rattle.network.proofs.Holding.{nodes-held}
 use Rattle.extract_laws.proofs.{Weighing.saved-within, Following.rules-good, Following.rules-within}
 use Rattle.extract_tidy.specs.Tidy.{arranged}
-use Rattle.extract_gains.{specs.Gains.most_gain, specs.Gains.whole, specs.Gains.Open, specs.Gains.Shifts, specs.Gains.Turns, specs.Gains.Clears, specs.Gains.nothing}
-use Rattle.extract_gains.proofs.Table.{gain-empty, alike_then}
-use Rattle.extract_keep.specs.Keep.{enough, Fills}
+use Rattle.extract_gains.{specs.Gains.entries, specs.Gains.many, specs.Gains.most_gain, specs.Gains.Sound, specs.Gains.Turns, specs.Gains.none}
+use Rattle.extract_gains.{proofs.Table.gain-empty}
+use Rattle.extract_keep.specs.Keep.{Knows}
 use Rattle.extract_keys.specs.Keys.{key_of}
 use Rattle.extract_counts.{specs.Counts.net_gain, specs.Counts.Says, proofs.Arranged.arranged-neat}
 use Rattle.extract_counts.proofs.Netting.{Neat, net-gain, net-made}
@@ -68,7 +68,7 @@ abbrev keys_of : List (List (List ℕ)) → List ℕ
 keys_of fs = map key_of (pairs_in (from 0 (2 * width))) ++ map key_of (gather sums_in fs)
 
 module _ (fs : List (List (List ℕ))) where
-  keys-few : total length fs ≤ most_cubes → length (keys_of fs) + 1 < enough
+  keys-few : total length fs ≤ most_cubes → length (keys_of fs) + 1 < entries
   unfolding from
   keys-few h =
       let n = total length fs in
@@ -108,21 +108,6 @@ module _ (fs : List (List (List ℕ))) where
 
 -- ---- a table filled anew
 
--- it was made empty, and turned by the gains that the cubes of the nodes give
-pub fills_of : {fs : List (List (List ℕ))} {t g x y u h : List ℕ} → Clears t g x y → Turns x y u h nothing (λ k. net_gain k fs) → Fills t g u h fs
-fills_of {fs} {x = x} {y = y} c p = record {
-  alike = alike_then c.alike p.shifts.alike;
-  says = λ w o. record {
-    sound = p.shifts.sound (c.sound w) o;
-    gains = λ k. omega (arith, p.shifts.moves (c.sound w) o k, gain-empty x y k (c.empty w));
-  };
-  fits = λ w keys short within few.
-      let z = c.empty w in
-      let q = c.alike.room in
-      (p.fits (c.sound w) (omega arith) keys (omega arith) (λ d l. absurd (omega arith)) (λ k. refl) within
-      (λ k. omega (arith, gain-empty x y k z, few k))).0;
-}
-
 module _ (n : Network) (shape : Shaped n) (r : rules n ≡ true) (a : arranged n ≡ true) where
   -- no gain is more than the literals that there are
   gains-few : (k : ℕ) → net_gain k (nodes (net_of n)) ≤ most_gain
@@ -140,20 +125,14 @@ module _ (n : Network) (shape : Shaped n) (r : rules n ≡ true) (a : arranged n
     | beyond h _ _ ↦ omega arith
   ]
 
-  room-filled : {t g u h : List ℕ} → Fills t g u h (nodes (net_of n)) → whole (length t) (length g) ≡ true → enough ≤ length g → Open u h
-  room-filled f w e =
-      let fs = nodes (net_of n) in
-      f.fits w (keys_of fs) (omega (arith, keys-few fs (rules-within n shape r).cubes)) (keys_in fs (arranged-neat n a)) gains-few
+  says-filled : (t g u h : List ℕ) → Sound t g → many t ≡ 0 → Turns t g u h none (λ k. net_gain k (nodes (net_of n))) → Says u h (nodes (net_of n))
+  says-filled t g u h s z p =
+      let f = p.fits s (omega arith) (keys_of (nodes (net_of n))) (keys-few (nodes (net_of n)) (rules-within n shape r).cubes) (λ e l. absurd (omega arith))
+      (λ k. refl) (keys_in (nodes (net_of n)) (arranged-neat n a)) (λ k. omega (arith, gain-empty t g k z, gains-few k)) in
+      record { sound = p.sound s f.0; gains = λ k. omega (arith, p.moves s f.0 k, gain-empty t g k z) }
 
--- a table filled with the nodes of a network by the rules and in cube order says the gains of its divisors, unless it is full; and one that has
--- enough room is not full
-pub filled : (n : Network) → Shaped n → rules n ≡ true → arranged n ≡ true → {t g u h : List ℕ}
-    → Fills t g u h (nodes_of (n.outputs + n.divisors) n.counts n.words) → whole (length t) (length g) ≡ true
-    → (Open u h → Says u h (nodes (net_of n))) × (enough ≤ length g → Open u h)
-filled n shape r a {t} {g} {u} {h} f w =
-    let p = subst (Fills t g u h) (sym (nodes-held n)) f in (p.says w, room-filled n shape r a p w)
-
--- a table that said the gains of some nodes says those of others
-pub renewed : {fs hs : List (List (List ℕ))} {t g u h : List ℕ} → Says t g fs → Shifts t g u h (λ k. net_gain k fs) (λ k. net_gain k hs)
-    → Open u h → Says u h hs
-renewed p s o = record { sound = s.sound p.sound o; gains = λ k. omega (arith, s.moves p.sound o k, p.gains k) }
+-- the table is filled with the nodes of a network
+pub filled : (n : Network) → Shaped n → (t g u h : List ℕ) → Sound t g × (many t ≡ 0)
+    → Turns t g u h none (λ k. net_gain k (nodes_of (n.outputs + n.divisors) n.counts n.words)) → Knows u h n
+filled n shape t g u h (s, z) p r a =
+    says-filled n shape r a t g u h s z (subst (λ fs. Turns t g u h none (λ k. net_gain k fs)) (sym (nodes-held n)) p)

@@ -4,33 +4,49 @@ use mathlib.Core.Path.{◌≡◌, refl, sym, ap, ◌∙◌, subst}
 use mathlib.Core.Bool.{Bool, true}
 use mathlib.Core.List.{List, [], ◌∷◌, ◌++◌, append_assoc, append-nil}
 use native.Mathlib.Omega.{arith}
-use lib.ListN.{length, get_or, take, drop, length-take, length-drop, drop_of_length-le, take-append-drop, get_or-eq_default}
+use lib.ListN.{length, get_or, take, drop, length-drop, drop_of_length-le, take-append-drop, get_or-eq_default}
 use lib.Seq.{take_all, take-suc}
 use native.Mathlib.{Numerals.add-one, Nat.add-zero}
 use Rattle.sets.{specs.Lists.all, specs.Lists.total, specs.Sets.asc}
-use Rattle.sets.proofs.{Truth.compared, Truth.Stand.below, Truth.Stand.equal, Truth.Stand.beyond, Lists.all-out, Lists.all-parts, Lists.total-take-le}
-use Rattle.sets.proofs.Places.{at_in, drop-next, total-next}
+use Rattle.sets.proofs.{Truth.compared, Truth.Stand.below, Truth.Stand.equal, Truth.Stand.beyond, Lists.all-out, Lists.all-parts, Places.at_in}
+use Rattle.sets.proofs.{Places.drop-next, Places.total-next}
 use Rattle.expression.{specs.Words.cubes_of, proofs.Words.cubes-asc}
-use Rattle.extract_gains.specs.Gains.{many, Alike, Shifts, Turns, nothing}
-use Rattle.extract_gains.proofs.Table.{shifts_none, shifts-both, turns-none, turns_then, turns_as}
-use Rattle.extract_counts.specs.Counts.{pairs_gain, row_gain, node_gain, net_gain}
+use Rattle.extract_gains.{specs.Gains.entries, specs.Gains.many, specs.Gains.Turns, specs.Gains.none, proofs.Table.turns-none}
+use Rattle.extract_counts.specs.Counts.{pairs_gain, row_gain, node_gain, net_gain, Says}
 use Rattle.extract_counts.proofs.Turning.{node-middle}
-use Rattle.network.{specs.Parts.nodes_of, proofs.Parts.nodes-at}
-use Rattle.network_nodes.{specs.Nodes.cut, proofs.Cutting.cut-length}
-use Rattle.extract_keep.specs.Parts.{between}
+use Rattle.network.{specs.Net.nodes, specs.Held.net_of, specs.Parts.nodes_of, specs.declared.Network.Network, proofs.Holding.nodes-held}
+use Rattle.extract_keep.specs.{Keep.Kept, Parts.Shifts, Parts.between}
 
 take_next : {A : Type 0} (l : List A) (j : ℕ) (d : A) → j < length l → take (j + 1) l ≡ take j l ++ (get_or l j d ∷ [])
 take_next l j d h = rw (add-one j) (take-suc l j d h)
 
 -- ---- changes one after the other
 
--- a full table says nothing
-pub shifts-full : {t g u h : List ℕ} {a b : ℕ → ℕ} → Alike t g u h → length h ≤ many u → Shifts t g u h a b
-shifts-full p full = record { alike = p; stays = λ f. full; sound = λ s f. absurd (omega arith); moves = λ s f. absurd (omega arith) }
+pub shift_of : {t g u h : List ℕ} {a b : ℕ → ℕ} → Turns t g u h a b → Shifts t g u h a b
+shift_of p = record { stays = p.stays; sound = p.sound; moves = p.moves }
+
+pub shift_none : (t g : List ℕ) (a : ℕ → ℕ) → Shifts t g t g a a
+shift_none t g a = record { stays = λ h. h; sound = λ s h. s; moves = λ s h k. refl }
+
+-- one after the other, said by other amounts that differ by as much
+pub shift-both : {t g u h v i : List ℕ} {a b c d x y : ℕ → ℕ} → Shifts t g u h a b → Shifts u h v i c d
+    → ((k : ℕ) → y k + (a k + c k) ≡ x k + (b k + d k)) → Shifts t g v i x y
+shift-both {u = u} {v = v} p q z = record {
+  stays = λ f. q.stays (p.stays f);
+  sound = λ s f. q.sound (p.sound s (roomy f)) f;
+  moves = λ s f k. omega (arith, p.moves s (roomy f) k, q.moves (p.sound s (roomy f)) f k, z k);
+}
+  where
+    roomy : many v < entries → many u < entries
+    roomy f = elim (compared (many u) entries) [
+      | below k _ _ ↦ k
+      | equal k _ _ ↦ absurd (omega (arith, q.stays (omega arith)))
+      | beyond k _ _ ↦ absurd (omega (arith, q.stays (omega arith)))
+    ]
 
 -- the cubes on the way, one cube further
 pub shift-on : {t g u h v i : List ℕ} {a b e : ℕ → ℕ} → Shifts t g u h a b → Shifts u h v i b e → Shifts t g v i a e
-shift-on p q = shifts-both p q (λ k. omega arith)
+shift-on p q = shift-both p q (λ k. omega arith)
 
 -- the same cubes by another name
 pub shift-to : {t g u h : List ℕ} {a : ℕ → ℕ} {f e : List (List ℕ)} → f ≡ e → Shifts t g u h a (λ k. node_gain k f) → Shifts t g u h a (λ k. node_gain k e)
@@ -73,33 +89,24 @@ front b j q = let z : j - 0 ≡ j = omega arith in q ∙ ap (λ m. take m b) z
 
 module _ (t g u h : List ℕ) (wa wb : List ℕ) (i j n : ℕ) {c : List ℕ} {x y : List (List ℕ)} where
   pub gone-shift : i < length (cubes_of wa) → n ≡ length (cubes_of wa) → c ≡ get_or (cubes_of wa) i [] → x ≡ take (j - 0) (drop 0 (cubes_of wb))
-      → y ≡ take (n - (i + 1)) (drop (i + 1) (cubes_of wa)) → Turns t g u h (added c x y) nothing
+      → y ≡ take (n - (i + 1)) (drop (i + 1) (cubes_of wa)) → Turns t g u h (added c x y) none
       → Shifts t g u h (λ k. node_gain k (between (cubes_of wa) i (cubes_of wb) j)) (λ k. node_gain k (between (cubes_of wa) (i + 1) (cubes_of wb) j))
   gone-shift l m p q r z =
       let a = cubes_of wa in
       let e : y ≡ drop (i + 1) a = r ∙ take_all (n - (i + 1)) (drop (i + 1) a) (omega (arith, length-drop (i + 1) a)) in
-      shifts-both (shifts_none t g (λ k. node_gain k (between a i (cubes_of wb) j))) z.shifts
+      shift-both (shift_none t g (λ k. node_gain k (between a i (cubes_of wb) j))) (shift_of z)
       (λ k. omega (arith, cube-gone a (cubes_of wb) (cubes-asc wa) (cubes-asc wb) i j l k, added-as p (front (cubes_of wb) j q) e k))
 
   pub come-shift : j < length (cubes_of wb) → n ≡ length (cubes_of wa) → c ≡ get_or (cubes_of wb) j [] → x ≡ take (j - 0) (drop 0 (cubes_of wb))
-      → y ≡ take (n - i) (drop i (cubes_of wa)) → Turns t g u h nothing (added c x y)
+      → y ≡ take (n - i) (drop i (cubes_of wa)) → Turns t g u h none (added c x y)
       → Shifts t g u h (λ k. node_gain k (between (cubes_of wa) i (cubes_of wb) j)) (λ k. node_gain k (between (cubes_of wa) i (cubes_of wb) (j + 1)))
   come-shift l m p q r z =
       let a = cubes_of wa in
       let e : y ≡ drop i a = r ∙ take_all (n - i) (drop i a) (omega (arith, length-drop i a)) in
-      shifts-both (shifts_none t g (λ k. node_gain k (between a i (cubes_of wb) j))) z.shifts
+      shift-both (shift_none t g (λ k. node_gain k (between a i (cubes_of wb) j))) (shift_of z)
       (λ k. omega (arith, cube-come a (cubes_of wb) (cubes-asc wa) (cubes-asc wb) i j l k, added-as p (front (cubes_of wb) j q) e k))
 
 -- ---- node by node
-
--- there are no more nodes than are asked for
-pub nodes-few : (counts words : List ℕ) (e : ℕ) → length (nodes_of e counts words) ≤ e
-nodes-few counts words e = omega (arith, cut-length (take e counts) (cubes_of words), length-take e counts)
-
--- past the last count there is none
-pub nodes-all : (counts words : List ℕ) (e : ℕ) → length counts ≤ e → nodes_of (length counts) counts words ≡ nodes_of e counts words
-nodes-all counts words e h =
-    ap (λ l. cut l (cubes_of words)) (take_all (length counts) counts (omega arith) ∙ sym (take_all e counts h))
 
 -- a node more; past the last there is none
 pub net-next : (fs : List (List (List ℕ))) (i k : ℕ) → net_gain k (take (i + 1) fs) ≡ net_gain k (take i fs) + node_gain k (get_or fs i [])
@@ -116,33 +123,46 @@ net-next fs i k = elim (compared i (length fs)) [
 pub net-all : (fs : List (List (List ℕ))) (i : ℕ) → length fs ≤ i → (k : ℕ) → net_gain k (take i fs) ≡ net_gain k fs
 net-all fs i h k = ap (net_gain k) (take_all i fs h)
 
--- the first nodes give no more than all
-pub net-under : (fs : List (List (List ℕ))) (i k : ℕ) → net_gain k (take i fs) ≤ net_gain k fs
+pub net-none : (t g : List ℕ) (fs : List (List (List ℕ))) → Turns t g t g none (λ k. net_gain k (take 0 fs))
 unfolding net_gain
-net-under fs i k = rw (take_all (i + length fs) fs (omega arith)) at (total-take-le (node_gain k) fs i (i + length fs) (omega arith))
-
--- a table that has the first nodes: none, and one more
-module _ (counts words : List ℕ) (e : ℕ) where
-  pub net-none : (t g : List ℕ) → Turns t g t g nothing (λ k. net_gain k (take 0 (nodes_of e counts words)))
-  unfolding net_gain
-  net-none t g = turns-none t g
-
-  pub net-more : (i : ℕ) → i < e → {t g u h v w : List ℕ} {x : List (List ℕ)} → Turns t g u h nothing (λ k. net_gain k (take i (nodes_of e counts words)))
-      → x ≡ get_or (cut counts (cubes_of words)) i [] → Turns u h v w nothing (λ k. node_gain k x)
-      → Turns t g v w nothing (λ k. net_gain k (take (i + 1) (nodes_of e counts words)))
-  net-more i b p q z =
-      turns_as (λ k. refl) (λ k. omega (arith, net-next (nodes_of e counts words) i k, ap (node_gain k) (q ∙ sym (nodes-at counts words e i b)))) (turns_then p z)
+net-none t g fs = turns-none t g
 
 module _ (fs hs : List (List (List ℕ))) where
   pub shift-first : (t g : List ℕ) → Shifts t g t g (λ k. net_gain k (take 0 fs)) (λ k. net_gain k (take 0 hs))
-  shift-first t g = shifts_none t g (λ k. net_gain k [])
+  shift-first t g = shift_none t g (λ k. net_gain k [])
 
   module _ (i : ℕ) {t g u h : List ℕ} (p : Shifts t g u h (λ k. net_gain k (take i fs)) (λ k. net_gain k (take i hs))) where
     -- one more node of the first becomes that of the second
     pub shift-net : {v w : List ℕ} {x y : List (List ℕ)} → x ≡ get_or fs i [] → y ≡ get_or hs i [] → Shifts u h v w (λ k. node_gain k x) (λ k. node_gain k y)
         → Shifts t g v w (λ k. net_gain k (take (i + 1) fs)) (λ k. net_gain k (take (i + 1) hs))
-    shift-net a b q = shifts-both p q (λ k. omega (arith, net-next fs i k, net-next hs i k, ap (node_gain k) a, ap (node_gain k) b))
+    shift-net a b q = shift-both p q (λ k. omega (arith, net-next fs i k, net-next hs i k, ap (node_gain k) a, ap (node_gain k) b))
 
     -- and at the end all are
     pub shift-all : length fs ≤ i → length hs ≤ i → Shifts t g u h (λ k. net_gain k fs) (λ k. net_gain k hs)
-    shift-all a b = shifts-both p (shifts_none u h nothing) (λ k. omega (arith, net-all fs i a k, net-all hs i b k))
+    shift-all a b = shift-both p (shift_none u h none) (λ k. omega (arith, net-all fs i a k, net-all hs i b k))
+
+-- ---- from one network to another
+
+pub renewed : (old new : Network) (t g u h : List ℕ) → Kept t g old
+    → Shifts t g u h (λ k. net_gain k (nodes_of (old.outputs + old.divisors) old.counts old.words))
+    (λ k. net_gain k (nodes_of (new.outputs + new.divisors) new.counts new.words))
+    → many u < entries → Says u h (nodes (net_of new))
+renewed old new t g u h k s f =
+    let a = k roomy in
+    record {
+      sound = s.sound a.sound f;
+      gains = λ x. omega (
+        arith,
+        s.moves a.sound f x,
+        a.gains x,
+        ap (net_gain x) (nodes-held old),
+        ap (net_gain x) (nodes-held new),
+      );
+    }
+  where
+    roomy : many t < entries
+    roomy = elim (compared (many t) entries) [
+      | below k _ _ ↦ k
+      | equal k _ _ ↦ absurd (omega (arith, s.stays (omega arith)))
+      | beyond k _ _ ↦ absurd (omega (arith, s.stays (omega arith)))
+    ]

@@ -1,18 +1,15 @@
--- What a table says that is filled anew.
-use Rattle.std.specs.Prelude.{ℕ, ◌+◌, ◌<◌, ◌≤◌, length}
+-- What the table says of a network.
+use Rattle.std.specs.Prelude.{ℕ, ◌<◌, List}
 use mathlib.Core.{Path.◌≡◌, Bool.true}
-use mathlib.Core.List.{List, Memᴰ}
-use Rattle.extract_gains.specs.Gains.{most_gain, whole, Open, Alike}
-use Rattle.extract_counts.specs.Counts.{net_gain, Says}
+use Rattle.network.specs.{Net.nodes, Held.net_of, Held.rules, declared.Network.Network}
+use Rattle.extract_tidy.specs.Tidy.{arranged}
+use Rattle.extract_gains.specs.Gains.{entries, many}
+use Rattle.extract_counts.specs.Counts.{Says}
 
--- a table with room for so many entries has room for all divisors of a network by the rules
-abbrev pub enough : ℕ
-enough = 600000
+-- of a network by the rules and in cube order it says the gains of all divisors
+abbrev pub Knows : List ℕ → List ℕ → Network → Type 0
+Knows t g n = rules n ≡ true → arranged n ≡ true → Says t g (nodes (net_of n))
 
--- the first table became the second, which says the gains that the cubes of these nodes give, unless it is full. It is not full where the keys that
--- have a gain are of a list at least two shorter than the room, and no gain is more than the most.
-pub record Fills (t g u h : List ℕ) (fs : List (List (List ℕ))) : Type 0 where
-  pub alike : Alike t g u h
-  pub says : whole (length t) (length g) ≡ true → Open u h → Says u h fs
-  pub fits : whole (length t) (length g) ≡ true → (keys : List ℕ) → length keys + 1 < length g → ((k : ℕ) → 0 < net_gain k fs → Memᴰ k keys)
-      → ((k : ℕ) → net_gain k fs ≤ most_gain) → Open u h
+-- of this network it says them, unless it is full
+abbrev pub Kept : List ℕ → List ℕ → Network → Type 0
+Kept t g n = many t < entries → Says t g (nodes (net_of n))

@@ -1,7 +1,14 @@
--- Words for the contracts of the private functions: the cubes of a node on its way, and which cube is next.
-use Rattle.std.specs.Prelude.{ℕ, ◌<◌, ◌≤◌, ◌≡◌, List, [], ◌++◌, length, get_or, take, drop}
+-- Words for the contracts of the private functions: gains that fall and rise, and which cube is next.
+use Rattle.std.specs.Prelude.{ℕ, ◌+◌, ◌<◌, ◌≤◌, ◌≡◌, List, [], ◌++◌, length, get_or, take, drop}
+use Rattle.extract_gains.specs.Gains.{entries, many, gain, Sound}
 use Rattle.extract_keep.specs.declared.Next.{Next}
 use Rattle.extract_keep.specs.declared.Next.TheVariants.{Goes, Comes, Stays, Ended}
+
+-- the first table became the second: some gains fell, others rose. A full table stays full, and of one nothing is said.
+pub record Shifts (t g u h : List ℕ) (less more : ℕ → ℕ) : Type 0 where
+  pub stays : entries ≤ many t → entries ≤ many u
+  pub sound : Sound t g → many u < entries → Sound u h
+  pub moves : Sound t g → many u < entries → (k : ℕ) → gain t g k + more k ≡ gain u h k + less k
 
 -- the cubes that a node has on its way from a to b: of b those before place j, of a those from place i on
 abbrev pub between : List (List ℕ) → ℕ → List (List ℕ) → ℕ → List (List ℕ)

@@ -2,18 +2,24 @@
 ghost use Rattle.std.specs.Prelude.{◌≡◌, ◌+◌, ◌<◌, ◌≤◌, [], length, get_or};
 ghost use Rattle.expression.specs.Words.{cubes_of};
 ghost use Rattle.network.specs.Parts.{nodes_of};
-ghost use Rattle.extract_gains.specs.Gains.{Shifts, Turns, nothing};
+ghost use Rattle.network.specs.Handed.{node_slots};
+ghost use Rattle.extract_gains.specs.Gains.{Turns, none};
 ghost use Rattle.extract_counts.specs.Counts.{node_gain, net_gain};
-ghost use Rattle.extract_keep.specs.Keep.{Fills};
-ghost use Rattle.extract_keep.specs.Parts.{between, Turn};
+ghost use Rattle.extract_keep.specs.Keep.{Knows, Kept};
+ghost use Rattle.extract_keep.specs.Parts.{Shifts, between, Turn};
 
 use cube::Order;
+use network::Network;
+
+const TABLE_WORDS: usize = extract_gains::TABLE_WORDS;
+
+const MOST_ENTRIES: usize = extract_gains::MOST_ENTRIES;
 
 // ---- a table anew
 
 // The cubes of a node come to a table that has none of it.
-fn fill_node(t: &mut [u32], g: &mut [u16], f: &[u64])
-    ensures { Turns t.old g.old t.new g.new nothing (λ k. node_gain k (cubes_of f.now)) }
+fn fill_node(t: &mut [u32; TABLE_WORDS], g: &mut [u16; MOST_ENTRIES], f: &[u64])
+    ensures { Turns t.old g.old t.new g.new none (λ k. node_gain k (cubes_of f.now)) }
 {
     let n = expression::number(f);
     let mut i = 0;
@@ -24,37 +30,41 @@ fn fill_node(t: &mut [u32], g: &mut [u16], f: &[u64])
     extract_partners::count_sums(t, g, f);
 }
 
-// The cubes of the first e nodes, until the table is full.
-fn fill_nodes(t: &mut [u32], g: &mut [u16], words: &[u64], counts: &[usize], e: usize)
+// The cubes of the first e nodes.
+fn fill_nodes(
+    t: &mut [u32; TABLE_WORDS],
+    g: &mut [u16; MOST_ENTRIES],
+    words: &[u64],
+    counts: &[usize],
+    e: usize,
+)
     requires { e ≤ length counts.now }
     ensures { Turns t.old g.old t.new g.new
-        nothing (λ k. net_gain k (nodes_of e counts.now words.now)) }
+        none (λ k. net_gain k (nodes_of e counts.now words.now)) }
 {
     let mut i = 0;
     while i < e {
         fill_node(t, g, network_nodes::node(words, counts, i));
-        if extract_gains::is_full(t, g) {
-            return;
-        }
         i += 1;
     }
 }
 
-// The table anew, with the cubes of the first e nodes, whatever it said before.
-pub fn fill(t: &mut [u32], g: &mut [u16], words: &[u64], counts: &[usize], e: usize)
-    ensures { Fills t.old g.old t.new g.new (nodes_of e counts.now words.now) }
+// The table says the gains of a network, whatever it said before.
+pub fn fill(t: &mut [u32; TABLE_WORDS], g: &mut [u16; MOST_ENTRIES], n: Network)
+    ensures { Knows t.new g.new n }
 {
     extract_gains::clear(t, g);
-    if counts.len() < e {
-        fill_nodes(t, g, words, counts, counts.len());
+    if !extract_tidy::is_arranged(n) {
         return;
     }
-    fill_nodes(t, g, words, counts, e);
+    let words = n.words;
+    let counts = n.counts;
+    fill_nodes(t, g, &words, &counts, n.outputs + n.divisors);
 }
 
 // ---- a table kept
 
-#[derive(Drop)]
+#[derive(Clone, Copy)]
 enum Next {
     Goes,
     Comes,
@@ -87,7 +97,14 @@ fn next_of(a: &[u64], n: usize, i: usize, b: &[u64], m: usize, j: usize) -> Next
 }
 
 // Cube i of a goes.
-fn take_out(t: &mut [u32], g: &mut [u16], a: &[u64], i: usize, b: &[u64], j: usize)
+fn take_out(
+    t: &mut [u32; TABLE_WORDS],
+    g: &mut [u16; MOST_ENTRIES],
+    a: &[u64],
+    i: usize,
+    b: &[u64],
+    j: usize,
+)
     requires { i < length (cubes_of a.now) }
     ensures { Shifts t.old g.old t.new g.new
         (λ k. node_gain k (between (cubes_of a.now) i (cubes_of b.now) j))
@@ -105,7 +122,14 @@ fn take_out(t: &mut [u32], g: &mut [u16], a: &[u64], i: usize, b: &[u64], j: usi
 }
 
 // Cube j of b comes.
-fn put_in(t: &mut [u32], g: &mut [u16], a: &[u64], i: usize, b: &[u64], j: usize)
+fn put_in(
+    t: &mut [u32; TABLE_WORDS],
+    g: &mut [u16; MOST_ENTRIES],
+    a: &[u64],
+    i: usize,
+    b: &[u64],
+    j: usize,
+)
     requires { j < length (cubes_of b.now) }
     ensures { Shifts t.old g.old t.new g.new
         (λ k. node_gain k (between (cubes_of a.now) i (cubes_of b.now) j))
@@ -123,7 +147,7 @@ fn put_in(t: &mut [u32], g: &mut [u16], a: &[u64], i: usize, b: &[u64], j: usize
 }
 
 // A node that had the cubes of a has those of b.
-fn renew_node(t: &mut [u32], g: &mut [u16], a: &[u64], b: &[u64])
+fn renew_node(t: &mut [u32; TABLE_WORDS], g: &mut [u16; MOST_ENTRIES], a: &[u64], b: &[u64])
     ensures { Shifts t.old g.old t.new g.new
         (λ k. node_gain k (cubes_of a.now)) (λ k. node_gain k (cubes_of b.now)) }
 {
@@ -131,7 +155,7 @@ fn renew_node(t: &mut [u32], g: &mut [u16], a: &[u64], b: &[u64])
     let m = expression::number(b);
     let mut i = 0;
     let mut j = 0;
-    while !extract_gains::is_full(t, g) {
+    loop {
         let x = next_of(a, n, i, b, m, j);
         match x {
             Next::Goes => {
@@ -155,6 +179,7 @@ fn renew_node(t: &mut [u32], g: &mut [u16], a: &[u64], b: &[u64])
 
 // Node i of the first e, or no cubes where there is none.
 fn node_of<'a>(words: &'a [u64], counts: &[usize], e: usize, i: usize) -> &'a [u64]
+    requires { e ≤ length counts.now }
     ensures { cubes_of result.now ≡ get_or (nodes_of e counts.now words.now) i [] }
 {
     if i < e {
@@ -163,17 +188,10 @@ fn node_of<'a>(words: &'a [u64], counts: &[usize], e: usize, i: usize) -> &'a [u
     expression::part(words, 0, 0)
 }
 
-// The greater of two numbers.
-fn greater(a: usize, b: usize) -> usize
-    ensures { (a ≤ result) × (b ≤ result) }
-{
-    if a < b { b } else { a }
-}
-
-// The first a nodes of one network become the first b of another: cubes that go are taken out, cubes that come are put in, until the table is full.
-pub fn renew(
-    t: &mut [u32],
-    g: &mut [u16],
+// The first a nodes of one network become the first b of another.
+fn renew_nodes(
+    t: &mut [u32; TABLE_WORDS],
+    g: &mut [u16; MOST_ENTRIES],
     words: &[u64],
     counts: &[usize],
     a: usize,
@@ -181,12 +199,12 @@ pub fn renew(
     sizes: &[usize],
     b: usize,
 )
+    requires { (a ≤ length counts.now) × (a ≤ node_slots) × (b ≤ length sizes.now) × (b ≤ node_slots) }
     ensures { Shifts t.old g.old t.new g.new
         (λ k. net_gain k (nodes_of a counts.now words.now)) (λ k. net_gain k (nodes_of b sizes.now other.now)) }
 {
-    let e = greater(a, b);
     let mut i = 0;
-    while i < e {
+    while i < network::NODE_SLOTS {
         renew_node(
             t,
             g,
@@ -194,5 +212,36 @@ pub fn renew(
             node_of(other, sizes, b, i),
         );
         i += 1;
+    }
+}
+
+// The table said the gains of one network, and says those of another: cubes that go are taken out, cubes that come are put in. Where it has no room
+// for that, it is filled anew.
+pub fn renew(t: &mut [u32; TABLE_WORDS], g: &mut [u16; MOST_ENTRIES], old: Network, new: Network)
+    ensures { Kept t.old g.old old → Knows t.new g.new new }
+{
+    if !extract_tidy::is_arranged(old) {
+        fill(t, g, new);
+        return;
+    }
+    if !extract_tidy::is_arranged(new) {
+        return;
+    }
+    let words = old.words;
+    let counts = old.counts;
+    let other = new.words;
+    let sizes = new.counts;
+    renew_nodes(
+        t,
+        g,
+        &words,
+        &counts,
+        old.outputs + old.divisors,
+        &other,
+        &sizes,
+        new.outputs + new.divisors,
+    );
+    if extract_gains::number(t) >= MOST_ENTRIES {
+        fill(t, g, new);
     }
 }

@@ -9,7 +9,7 @@ use lib.ListN.{length, get_or, take}
 use borrow.Author.Tests.{eqb-true, eqb-false}
 use Rattle.sets.specs.{Lists.total, Sets.same, Sets.apart}
 use Rattle.sets.proofs.{Truth.decided, Truth.both, Truth.refuted, Places.total-next, Sets.same-eq}
-use Rattle.extract_gains.specs.Gains.{Turns, nothing}
+use Rattle.extract_gains.specs.Gains.{Turns, none}
 use Rattle.extract_partners.specs.Table.{part_at, left_at, use_gain, code_of, first, place_of, code_at, newest, Entered}
 use Rattle.extract_partners.proofs.Turning.{Partly, partly-first, partly-as, partly-then, partly-end}
 
@@ -117,7 +117,7 @@ module _ (f : List (List ℕ)) (ws r : List ℕ) (e w code : ℕ) (s : Entered f
   }
 
   module _ {t₀ g₀ t g : List ℕ} {at : ℕ} (p : Walk t₀ g₀ t g at) where
-    pub walk_end : at < first → Turns t₀ g₀ t g nothing (gains e)
+    pub walk_end : at < first → Turns t₀ g₀ t g none (gains e)
     walk_end b = partly-end p.partly (λ k. chain-end ws r (code % first) p.upto (omega (arith, p.within, s.within))
         (omega (arith, p.stands)) (λ v. use_gain f k v w) (λ c i. quiet k c (omega (arith, p.within))))
 
@@ -144,7 +144,7 @@ module _ (f : List (List ℕ)) (ws r : List ℕ) (e w code : ℕ) (s : Entered f
 
       -- a removal of the same code is met
       pub walk-met : {u h : List ℕ} {d next : ℕ} → d ≡ (walk_at b).entry → next ≡ get_or r at 0
-          → Turns t g u h nothing (λ k. use_gain f k (get_or ws d 0) w) → Walk t₀ g₀ u h next
+          → Turns t g u h none (λ k. use_gain f k (get_or ws d 0) w) → Walk t₀ g₀ u h next
       walk-met q i n = record {
         upto = (walk_at b).entry;
         within = omega (arith, walk-below);

@@ -1,5 +1,5 @@
 -- The removals of a node, each two of them met, gain what every two cubes of the node gain. Assumes nothing.
-use Prim.Native.Nat.{ℕ, suc, ◌+◌, ◌-◌, ◌*◌, ◌<◌, ◌≤◌}
+use Prim.Native.Nat.{ℕ, suc, ◌+◌, ◌-◌, ◌*◌, ◌<◌}
 use mathlib.Core.Path.{◌≡◌, refl, sym, ap, ap₂, ◌∙◌}
 use mathlib.Core.Logic.{inl, inr}
 use mathlib.Core.Bool.{Bool, true, false, cond, not, ◌&&◌}
@@ -8,7 +8,7 @@ use mathlib.Core.List.Memᴰ.{tail as there}
 use mathlib.Core.List.{List, [], ◌∷◌, ◌++◌, map}
 use native.Mathlib.Omega.{arith}
 use lib.Dec.{ltb}
-use lib.ListN.{length, get_or, take, drop, take-append-drop}
+use lib.ListN.{length, get_or, take}
 use Rattle.sets.{specs.Lists.all, specs.Lists.total, proofs.Rows.take_next}
 use Rattle.sets.specs.Sets.{mem, asc, apart, without, meet, same}
 use Rattle.sets.proofs.Truth.{decided, refuted, both}
@@ -46,10 +46,6 @@ pub every-next : (g : ℕ → ℕ → ℕ) (l : List ℕ) (e : ℕ) → e < leng
 unfolding every_two
 every-next g l e h = ap (every_two g) (take_next l e 0 h) ∙ every_append g (take e l) (get_or l e 0 ∷ [])
     ∙ omega (arith, total-cong (λ x. g x (get_or l e 0) + 0) (λ x. g x (get_or l e 0)) (take e l) (λ x m. omega arith))
-
--- the first ones have at most what all have
-pub every-few : (g : ℕ → ℕ → ℕ) (l : List ℕ) (e : ℕ) → every_two g (take e l) ≤ every_two g l
-every-few g l e = omega (arith, every_append g (take e l) (drop e l), ap (every_two g) (take-append-drop e l))
 
 -- ---- the removals of a cube of a node
 

@@ -6,17 +6,17 @@ use mathlib.Core.List.{List, []}
 use native.Mathlib.Omega.{arith}
 use lib.Dec.{ltb}
 use lib.ListN.{length, get_or, take, drop, replicate, length-replicate, get_or-replicate}
-use lib.Seq.{get_or-take, take-take, length-take-le}
+use lib.Seq.{get_or-take, length-take-le}
 use borrow.Author.Tests.{lt-ltb}
 use Rattle.sets.specs.{Lists.total, Sets.asc}
 use Rattle.sets.proofs.{Lists.◌∈◌, Lists.all-out, Places.at_in, Places.drop-next, Sets.all-mem}
 use Rattle.cube.specs.Cube.{width}
 use Rattle.expression.{specs.Words.cubes_of, proofs.Words.cubes-asc, proofs.Words.cubes-inside}
-use Rattle.extract_gains.specs.Gains.{many, Turns, nothing}
-use Rattle.extract_gains.proofs.Table.{turns-none, turns_then, turns_as, turns_stopped}
+use Rattle.extract_gains.specs.Gains.{Turns, none}
+use Rattle.extract_gains.proofs.Table.{turns-none, turns_then, turns_as}
 use Rattle.extract_counts.specs.Counts.{row_gain, sums_gain}
 use Rattle.extract_partners.specs.Table.{part_at, removals_from, use_gain, every_two, room, newest, Entered}
-use Rattle.extract_partners.proofs.Meeting.{Narrow, every-next, every-few, node-cubes}
+use Rattle.extract_partners.proofs.Meeting.{Narrow, every-next, node-cubes}
 use Rattle.extract_partners.proofs.Numbering.{removals-part}
 
 -- ---- cube by cube
@@ -66,19 +66,14 @@ module _ {f ws : List ℕ} {n : ℕ} (w : Whole f ws n) where
       removals-part 0 (cubes_of f) (cubes-narrow f)
       (subst (get_or ws e 0 ∈◌) w.all (Memᴰ.cast (sym (get_or-take n ws e 0 b)) (at_in (take n ws) e 0 (omega (arith, length-take-le n ws w.few)))))
 
-  pub turns-first : (t g : List ℕ) → Turns t g t g nothing (gains 0)
+  pub turns-first : (t g : List ℕ) → Turns t g t g none (gains 0)
   unfolding every_two
   turns-first t g = turns-none t g
 
-  pub turns_next : {t g u h v i : List ℕ} (e : ℕ) → e < n → Turns t g u h nothing (gains e)
-      → Turns u h v i nothing (λ k. total (λ v. use_gain (cubes_of f) k v (get_or ws e 0)) (take e ws)) → Turns t g v i nothing (gains (e + 1))
+  pub turns_next : {t g u h v i : List ℕ} (e : ℕ) → e < n → Turns t g u h none (gains e)
+      → Turns u h v i none (λ k. total (λ v. use_gain (cubes_of f) k v (get_or ws e 0)) (take e ws)) → Turns t g v i none (gains (e + 1))
   turns_next e b p q = turns_as (λ k. refl) (λ k. sym (every-next (use_gain (cubes_of f) k) ws e (omega (arith, w.few)))) (turns_then p q)
 
-  pub turns-all : {t g u h : List ℕ} → Turns t g u h nothing (gains n) → Turns t g u h nothing (λ k. sums_gain k (cubes_of f))
+  pub turns-all : {t g u h : List ℕ} → Turns t g u h none (gains n) → Turns t g u h none (λ k. sums_gain k (cubes_of f))
   turns-all p = turns_as (λ k. refl) (λ k. ap (every_two (use_gain (cubes_of f) k)) w.all
       ∙ node-cubes (cubes_of f) k (cubes_of f) 0 (cubes-narrow f) (λ i. ap (λ j. get_or (cubes_of f) j []) (omega arith))) p
-
-  -- the table is full, and the rest are not met
-  pub turns-few : {t g u h : List ℕ} (e : ℕ) → e ≤ n → Turns t g u h nothing (gains e) → length h ≤ many u
-      → Turns t g u h nothing (λ k. sums_gain k (cubes_of f))
-  turns-few e b p full = turns-all (turns_stopped p (λ k. rw (take-take e n ws b) at (every-few (use_gain (cubes_of f) k) (take n ws) e)) full)

@@ -9,7 +9,6 @@ use mathlib.Core.List.Memᴰ.{head as here}
 use mathlib.Core.List.{List, [], ◌∷◌, Memᴰ}
 use native.Mathlib.Omega.{arith}
 use native.Mathlib.Nat.{mul-zero}
-use borrow.Author.Tests.{not-true}
 use Rattle.sets.specs.Lists.{any, all, keep, total, pairwise}
 use Rattle.sets.specs.Sets.{mem, asc, apart, without, same, before}
 use Rattle.sets.proofs.Truth.{both, together, decided, clash, refuted}
@@ -18,7 +17,6 @@ use Rattle.sets.proofs.Orders.{before-order, ext-in}
 use Rattle.sets.proofs.Sets.{sub_out, apart_out, without-mem, without-asc, without_sub, ext, same-eq, same_self, eq-same}
 use Rattle.extract_laws.specs.{Divisor.Divisor, Divisor.small, Extract.smaller_first, Extract.sum_of}
 use Rattle.extract_laws.proofs.{Using.apart-flip, Parting.parts-apart, Offering.sum-of-out}
-use Rattle.extract_counts.specs.Counts.{two_gain, row_gain}
 use Rattle.extract_partners.specs.Removal.{removals, test, partners, Meets}
 use Rattle.extract_partners.proofs.Removing.{Removal, removal-out, removal-in, removals-ordered}
 
@@ -141,26 +139,3 @@ pub met-once : (c d : List ℕ) → asc c ≡ true → asc d ≡ true
     → total (λ a. total (λ b. cond (same (without c a) (without d b) && apart a b) 1 0) (removals d)) (removals c)
     ≡ cond (small (without c d) && small (without d c)) 1 0
 met-once c d h k = met c d h k (λ a b. 1)
-
--- ---- what the partners gain
-
--- a cube that is no partner makes no divisor
-alone : (k : ℕ) (c d : List ℕ) → asc c ≡ true → asc d ≡ true → any (λ a. any (test c d a) (removals d)) (removals c) ≡ false → two_gain k c d ≡ 0
-unfolding two_gain sum_of
-alone k c d h g n = elim (decided (small (without c d) && small (without d c))) [
-  | inl t ↦
-      let (s, u) = both (small (without c d)) (small (without d c)) t in
-      let w = parts_meet c d h g s u in
-      clash (any-in (λ a. any (test c d a) (removals d)) w.in_first
-      (any-in (test c d (without c d)) w.in_second (rw (w.left, same_self (without d (without d c)), w.disjoint)))) n
-  | inr t ↦ rw t
-]
-
--- so a cube gains with the cubes of a node what it gains with its partners
-pub row-partners : (k : ℕ) (c : List ℕ) (f : List (List ℕ)) → asc c ≡ true → all asc f ≡ true → row_gain k c f ≡ row_gain k c (partners c f)
-unfolding row_gain partners
-row-partners k c f h g =
-    let found : List ℕ → Bool = λ d. any (λ a. any (test c d a) (removals d)) (removals c) in
-    let none = total-zero (two_gain k c) (keep (λ d. not (found d)) f) (λ d m.
-    let (i, n) = keep_out (λ d. not (found d)) f m in alone k c d h (all-out asc i g) (not-true (found d) n)) in
-    omega (arith, total-split (two_gain k c) found f, none)

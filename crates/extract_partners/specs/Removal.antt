@@ -1,5 +1,4 @@
--- Partners by removal: two cubes make a divisor where a part of one and a part of the other, of one or two literals each, share no literal and leave the
--- same.
+-- Partners by removal: two cubes make a divisor where a part of one and a part of the other, of one or two literals each, leave the same.
 use Rattle.std.specs.Prelude.{ℕ, ◌+◌, ◌*◌, ◌≡◌, Bool, true, ◌&&◌, leb, length}
 use mathlib.Core.List.{List, [], ◌∷◌, ◌++◌, map, Memᴰ}
 use Rattle.sets.specs.{Lists.any, Lists.keep, Lists.total, Sets.apart, Sets.without, Sets.same}

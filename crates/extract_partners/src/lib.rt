@@ -3,12 +3,16 @@ ghost use Rattle.std.specs.Prelude.{◌≡◌, true, ◌∷◌, [], map, suc, �
 ghost use Rattle.sets.specs.Lists.{total};
 ghost use Rattle.cube.specs.Cube.{width, lits};
 ghost use Rattle.expression.specs.Words.{cubes_of};
-ghost use Rattle.extract_gains.specs.Gains.{Turns, nothing};
+ghost use Rattle.extract_gains.specs.Gains.{Turns, none};
 ghost use Rattle.extract_counts.specs.Counts.{sums_gain};
 ghost use Rattle.extract_partners.specs.Removal.{removals, is_short};
 ghost use Rattle.extract_partners.specs.Table.{removal_of, part_at, left_at, removals_from, use_gain, Listed, code_of, Chained, Entered, Enters};
 
 use cube::{Cube, Found, Literal};
+
+const TABLE_WORDS: usize = extract_gains::TABLE_WORDS;
+
+const MOST_ENTRIES: usize = extract_gains::MOST_ENTRIES;
 
 // The most removals of a node that is searched by them.
 const MOST_REMOVALS: usize = 16384;
@@ -128,9 +132,9 @@ fn left_at(f: &[u64], w: u32) -> Cube
 // ---- the search
 
 // Two removals that leave the same and share no literal are a use of the sum of their parts.
-fn count_use(t: &mut [u32], g: &mut [u16], f: &[u64], v: u32, w: u32)
+fn count_use(t: &mut [u32; TABLE_WORDS], g: &mut [u16; MOST_ENTRIES], f: &[u64], v: u32, w: u32)
     requires { 0 < length (part_at w) }
-    ensures { Turns t.old g.old t.new g.new nothing (λ k. use_gain (cubes_of f.now) k v w) }
+    ensures { Turns t.old g.old t.new g.new none (λ k. use_gain (cubes_of f.now) k v w) }
 {
     let left = left_at(f, w);
     if !cube_sets::same(left_at(f, v), left) {
@@ -156,8 +160,8 @@ fn code_of(c: Cube) -> u32
 
 // Removal e of a code is met with each of the earlier ones, by its chain.
 fn count_partners(
-    t: &mut [u32],
-    g: &mut [u16],
+    t: &mut [u32; TABLE_WORDS],
+    g: &mut [u16; MOST_ENTRIES],
     f: &[u64],
     ws: &[u32],
     r: &[u32; REMOVAL_WORDS],
@@ -166,7 +170,7 @@ fn count_partners(
 )
     requires { Entered (cubes_of f.now) ws.now r.now e × (e < length ws.now) × (length ws.now ≤ 16384)
         × (code ≡ code_of (left_at (cubes_of f.now) (get_or ws.now e 0))) × (0 < length (part_at (get_or ws.now e 0))) }
-    ensures { Turns t.old g.old t.new g.new nothing
+    ensures { Turns t.old g.old t.new g.new none
         (λ k. total (λ v. use_gain (cubes_of f.now) k v (get_or ws.now e 0)) (take e ws.now)) }
 {
     let w = ws[e];
@@ -193,8 +197,8 @@ fn enter(r: &mut [u32; REMOVAL_WORDS], e: usize, code: u32)
 
 // Removal e: it is met with the earlier ones, and entered.
 fn count_removal(
-    t: &mut [u32],
-    g: &mut [u16],
+    t: &mut [u32; TABLE_WORDS],
+    g: &mut [u16; MOST_ENTRIES],
     f: &[u64],
     ws: &[u32],
     r: &mut [u32; REMOVAL_WORDS],
@@ -202,7 +206,7 @@ fn count_removal(
 )
     requires { Entered (cubes_of f.now) ws.now r.old e × (e < length ws.now) × (length ws.now ≤ 16384)
         × (0 < length (part_at (get_or ws.now e 0))) }
-    ensures { Turns t.old g.old t.new g.new nothing
+    ensures { Turns t.old g.old t.new g.new none
         (λ k. total (λ v. use_gain (cubes_of f.now) k v (get_or ws.now e 0)) (take e ws.now))
         × Entered (cubes_of f.now) ws.now r.new (suc e) }
 {
@@ -214,9 +218,9 @@ fn count_removal(
 // ---- the sums
 
 // By removal.
-fn count_short(t: &mut [u32], g: &mut [u16], f: &[u64])
+fn count_short(t: &mut [u32; TABLE_WORDS], g: &mut [u16; MOST_ENTRIES], f: &[u64])
     requires { is_short (cubes_of f.now) ≡ true }
-    ensures { Turns t.old g.old t.new g.new nothing (λ k. sums_gain k (cubes_of f.now)) }
+    ensures { Turns t.old g.old t.new g.new none (λ k. sums_gain k (cubes_of f.now)) }
 {
     let mut ws = [0u32; MOST_REMOVALS];
     let mut r = [0u32; REMOVAL_WORDS];
@@ -224,16 +228,13 @@ fn count_short(t: &mut [u32], g: &mut [u16], f: &[u64])
     let mut e = 0;
     while e < n {
         count_removal(t, g, f, &ws, &mut r, e);
-        if extract_gains::is_full(t, g) {
-            return;
-        }
         e += 1;
     }
 }
 
 // By comparing each cube with those after it.
-fn count_long(t: &mut [u32], g: &mut [u16], f: &[u64])
-    ensures { Turns t.old g.old t.new g.new nothing (λ k. sums_gain k (cubes_of f.now)) }
+fn count_long(t: &mut [u32; TABLE_WORDS], g: &mut [u16; MOST_ENTRIES], f: &[u64])
+    ensures { Turns t.old g.old t.new g.new none (λ k. sums_gain k (cubes_of f.now)) }
 {
     let n = expression::number(f);
     let mut i = 0;
@@ -245,16 +246,13 @@ fn count_long(t: &mut [u32], g: &mut [u16], f: &[u64])
             expression::cube_at(f, i),
             expression::part(f, i + 1, n),
         );
-        if extract_gains::is_full(t, g) {
-            return;
-        }
         i += 1;
     }
 }
 
 // All sums of every two cubes of a node.
-pub fn count_sums(t: &mut [u32], g: &mut [u16], f: &[u64])
-    ensures { Turns t.old g.old t.new g.new nothing (λ k. sums_gain k (cubes_of f.now)) }
+pub fn count_sums(t: &mut [u32; TABLE_WORDS], g: &mut [u16; MOST_ENTRIES], f: &[u64])
+    ensures { Turns t.old g.old t.new g.new none (λ k. sums_gain k (cubes_of f.now)) }
 {
     if is_short(f) {
         count_short(t, g, f);

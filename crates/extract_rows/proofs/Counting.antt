@@ -1,21 +1,21 @@
 -- Gains that rise or fall together, one amount after the other; the amounts of a cube's pairs, and of two cubes. Assumes nothing.
-use Prim.Native.Nat.{ℕ, ◌+◌, ◌*◌, ◌-◌, ◌<◌, ◌≤◌, min}
-use mathlib.Core.Path.{◌≡◌, refl, sym, ap, ◌∙◌}
+use Prim.Native.Nat.{ℕ, ◌+◌, ◌*◌, ◌-◌, ◌<◌, ◌≤◌}
+use mathlib.Core.Path.{◌≡◌, refl, ap, ◌∙◌}
 use mathlib.Core.Logic.{inl, inr}
-use mathlib.Core.Bool.{Bool, true, false, not, cond, ◌&&◌, and-false}
+use mathlib.Core.Bool.{Bool, true, false, cond}
 use mathlib.Core.List.{List, [], ◌∷◌, map}
 use native.Mathlib.Omega.{arith}
 use lib.Dec.{eqb, ltb}
 use lib.ListN.{length, drop, get_or, drop_of_length-le}
-use borrow.Author.Tests.{lt-ltb, ltb-true, ltb-false}
-use Rattle.sets.specs.{Lists.all, Lists.keep, Lists.total, Sets.mem, Sets.meet, Sets.without, Sets.before}
-use Rattle.sets.proofs.{Truth.both, Truth.decided, Lists.total-append, Lists.total-map, Lists.total-ones, Lists.total-split, Sets.all-mem, Places.drop-next}
+use borrow.Author.Tests.{lt-ltb, le-ltb, ltb-true}
+use Rattle.sets.specs.{Lists.all, Lists.total, Sets.meet, Sets.without, Sets.before}
+use Rattle.sets.proofs.{Truth.both, Truth.decided, Lists.total-append, Lists.total-map, Sets.all-mem, Places.drop-next}
 use Rattle.cube.{specs.Cube.width, specs.Cube.lits, specs.declared.Cube.Cube}
 use Rattle.cube.proofs.Lits.{lits-asc, lits-inside}
 use Rattle.extract_laws.specs.Divisor.{Divisor, pair, small}
 use Rattle.extract_laws.specs.Extract.{pairs_in, smaller_first, sum_of}
 use Rattle.extract_laws.proofs.Parting.{parts-apart}
-use Rattle.extract_gains.specs.Gains.{Alike, Turns, only, nothing}
+use Rattle.extract_gains.specs.Gains.{Turns, only, none}
 use Rattle.extract_gains.proofs.Table.{turns-none, turns_then, turns_as}
 use Rattle.extract_keys.specs.Keys.{part_code, two_codes, key_of, cost}
 use Rattle.extract_keys.proofs.Keys.{two-key}
@@ -30,10 +30,10 @@ module _ (up : Bool) where
   counts-as e p = turns_as (λ k. ap (cond up 0) (e k)) (λ k. ap (λ x. cond up x 0) (e k)) p
 
   -- an amount put in, or taken out
-  pub counts-put : {t g u h : List ℕ} (by : ℕ → ℕ) → up ≡ true → Turns t g u h nothing by → Counts up t g u h by
+  pub counts-put : {t g u h : List ℕ} (by : ℕ → ℕ) → up ≡ true → Turns t g u h none by → Counts up t g u h by
   counts-put by e p = rw e p
 
-  pub counts-take : {t g u h : List ℕ} (by : ℕ → ℕ) → up ≡ false → Turns t g u h by nothing → Counts up t g u h by
+  pub counts-take : {t g u h : List ℕ} (by : ℕ → ℕ) → up ≡ false → Turns t g u h by none → Counts up t g u h by
   counts-take by e p = rw e p
 
   -- nothing changes
@@ -75,10 +75,6 @@ due-next {up} by d c e = record {
   sums = λ k. omega (arith, d.sums k, e k);
 }
 
--- the tables stay as long
-pub due-alike : {up : Bool} {t g u h : List ℕ} {rest whole : ℕ → ℕ} → Due up t g u h rest whole → Alike t g u h
-due-alike d = d.counts.shifts.alike
-
 -- nothing is left: the whole is counted
 pub due-done : {up : Bool} {t g u h : List ℕ} {rest whole : ℕ → ℕ} → Due up t g u h rest whole → ((k : ℕ) → rest k ≡ 0) → Counts up t g u h whole
 due-done {up} d e = counts-as up (λ k. omega (arith, d.sums k, e k)) d.counts
@@ -119,23 +115,22 @@ module _ (k : ℕ) where
 
 -- ---- one or two literals
 
--- as their number, up to 3, tells
-module _ (a : List ℕ) {n : ℕ} (e : n ≡ min 3 (length a)) where
-  pub small-told : {r : Bool} → r ≡ (ltb 0 n && ltb n 3) → small a ≡ r
+module _ (a : List ℕ) (n : ℕ) (e : n ≡ length a) where
+  -- what the tests of its length answer
+  pub small-none : n < 1 → false ≡ small a
   unfolding small
-  small-told i = elim (decided (ltb (length a) 3)) [
-    | inl t ↦ let s : n ≡ length a = omega (arith, ltb-true (length a) 3 t) in rw (← s) (sym i)
-    | inr t ↦ let s : n ≡ 3 = omega (arith, ltb-false (length a) 3 t) in rw (t, and-false (ltb 0 (length a))) (sym (rw s at i))
-  ]
+  small-none h = rw (le-ltb 0 (length a) (omega arith))
 
-  -- then it is their number
-  pub small-number : small a ≡ true → (0 < n) × (n ≡ length a)
+  pub small-some : 1 ≤ n → ltb n 3 ≡ small a
   unfolding small
-  small-number h =
+  small-some h = rw (lt-ltb 0 (length a) (omega arith), ← e)
+
+  -- what is known of a small part
+  pub small-out : small a ≡ true → (0 < n) × (n < 3)
+  unfolding small
+  small-out h =
       let q = both (ltb 0 (length a)) (ltb (length a) 3) h in
-      let l = ltb-true 0 (length a) q.0 in
-      let m = ltb-true (length a) 3 q.1 in
-      (omega arith, omega arith)
+      (omega (arith, ltb-true 0 (length a) q.0), omega (arith, ltb-true (length a) 3 q.1))
 
 -- ---- two cubes
 
@@ -146,13 +141,6 @@ cost-sum a b = elim (decided (before a b)) [ inl t ↦ rw t | inr t ↦ rw t (om
 
 inside : (a : Cube) → all (λ l. ltb l (2 * width)) (lits a) ≡ true
 inside a = all-mem (λ l. ltb l (2 * width)) (lits a) (λ z m. lt-ltb z (2 * width) (lits-inside a z m))
-
--- the literals of a cube are those of the base and of its part
-length-parts : (c d : List ℕ) → length c ≡ length (meet c d) + length (without c d)
-unfolding meet without
-length-parts c d =
-    let f : ℕ → Bool = λ l. mem l d in
-    omega (arith, total-split (λ l. 1) f c, total-ones c, total-ones (keep f c), total-ones (keep (λ l. not (f l)) c))
 
 -- two cubes c and d, and the first, or both, without their common base
 module _ (k : ℕ) (c d : List ℕ) (a : Cube) (p : lits a ≡ without c d) where
@@ -168,11 +156,9 @@ module _ (k : ℕ) (c d : List ℕ) (a : Cube) (p : lits a ≡ without c d) wher
     two-right g = rw (← p, ← q, h, g)
 
     -- both are: what the two gain is one amount, by the key of their sum
-    pub two-some : {m n key : ℕ} → small (lits b) ≡ true → m ≡ length c → n ≡ min 3 (length (lits b))
-        → key ≡ two_codes (part_code (lits a)) (part_code (lits b)) → only key (m + (n - 1)) k ≡ two_gain k c d
+    pub two-some : {base m n key : ℕ} → small (lits b) ≡ true → base ≡ length (meet c d) → m ≡ length (lits a) → n ≡ length (lits b)
+        → key ≡ two_codes (part_code (lits a)) (part_code (lits b)) → only key (base + ((m + n) - 1)) k ≡ two_gain k c d
     unfolding two_gain sum_of
-    two-some {m} {n} g i j e =
+    two-some g i j l e =
         let f = two-key (lits a) (lits b) (lits-asc a) (lits-asc b) h g (rw (p, q) (parts-apart c d)) (inside a) (inside b) in
-        let s : m + (n - 1) ≡ length (meet c d) + ((length (lits a) + length (lits b)) - 1) =
-        omega (arith, small-number (lits b) j g, rw (← p) at (length-parts c d)) in
-        rw (← p, ← q, h, g, s, e, f, cost-sum (lits a) (lits b)) (omega arith)
+        rw (← p, ← q, h, g, i, j, l, e, f, cost-sum (lits a) (lits b)) (omega arith)

@@ -1,4 +1,4 @@
--- Words for the contracts: gains that rise or fall together.
+-- Words for the contracts of the private functions: gains that rise or fall together.
 use Rattle.std.specs.Prelude.{ℕ, List}
 use mathlib.Core.{Bool.Bool, Bool.cond}
 use Rattle.sets.specs.Lists.{total}

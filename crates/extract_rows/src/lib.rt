@@ -1,17 +1,22 @@
 // A cube with each of some others: the gains of its divisors are put into the table, or taken out of it.
-ghost use Rattle.std.specs.Prelude.{◌≡◌, ◌&&◌, ◌+◌, ◌*◌, ◌<◌, ltb};
+ghost use Rattle.std.specs.Prelude.{◌≡◌, ◌+◌, ◌*◌, ◌<◌};
 ghost use Rattle.cube.specs.Cube.{width, lits};
 ghost use Rattle.expression.specs.Words.{cubes_of};
+ghost use Rattle.extract_laws.specs.Divisor.{small};
 ghost use Rattle.extract_gains.specs.Gains.{only};
 ghost use Rattle.extract_counts.specs.Counts.{pairs_gain, two_gain, row_gain};
 ghost use Rattle.extract_rows.specs.Parts.{Counts, pairs_with};
 
 use cube::{Cube, Found, Literal};
 
+const TABLE_WORDS: usize = extract_gains::TABLE_WORDS;
+
+const MOST_ENTRIES: usize = extract_gains::MOST_ENTRIES;
+
 // ---- a cube
 
 // A use is put in, or taken out.
-fn count_use(t: &mut [u32], g: &mut [u16], up: bool, key: u32, by: u16)
+fn count_use(t: &mut [u32; TABLE_WORDS], g: &mut [u16; MOST_ENTRIES], up: bool, key: u32, by: u16)
     ensures { Counts up t.old g.old t.new g.new (only key by) }
 {
     if up {
@@ -22,7 +27,13 @@ fn count_use(t: &mut [u32], g: &mut [u16], up: bool, key: u32, by: u16)
 }
 
 // The pairs of p and a literal of c.
-fn count_pairs_of(t: &mut [u32], g: &mut [u16], up: bool, p: Literal, c: Cube)
+fn count_pairs_of(
+    t: &mut [u32; TABLE_WORDS],
+    g: &mut [u16; MOST_ENTRIES],
+    up: bool,
+    p: Literal,
+    c: Cube,
+)
     requires { p.0 < 2 * width }
     ensures { Counts up t.old g.old t.new g.new (λ k. pairs_with k p.0 (lits c)) }
 {
@@ -38,7 +49,7 @@ fn count_pairs_of(t: &mut [u32], g: &mut [u16], up: bool, p: Literal, c: Cube)
 }
 
 // The pairs of literals of c.
-pub fn count_pairs(t: &mut [u32], g: &mut [u16], up: bool, c: Cube)
+pub fn count_pairs(t: &mut [u32; TABLE_WORDS], g: &mut [u16; MOST_ENTRIES], up: bool, c: Cube)
     ensures { Counts up t.old g.old t.new g.new (λ k. pairs_gain k (lits c)) }
 {
     let mut rest = c;
@@ -52,10 +63,11 @@ pub fn count_pairs(t: &mut [u32], g: &mut [u16], up: bool, c: Cube)
     }
 }
 
-// One or two.
-fn is_small(n: u32) -> bool
-    ensures { result ≡ (ltb 0 n && ltb n 3) }
+// One or two literals.
+fn is_small(a: Cube) -> bool
+    ensures { result ≡ small (lits a) }
 {
+    let n = cube_sets::count(a);
     if n < 1 {
         return false;
     }
@@ -64,25 +76,30 @@ fn is_small(n: u32) -> bool
 
 // Two cubes of one node are partners where each has one or two literals that the other lacks: a use of their sum, which gains the
 // literals of the common base, and one less than those of the two parts.
-fn count_two(t: &mut [u32], g: &mut [u16], up: bool, c: Cube, d: Cube)
+fn count_two(t: &mut [u32; TABLE_WORDS], g: &mut [u16; MOST_ENTRIES], up: bool, c: Cube, d: Cube)
     ensures { Counts up t.old g.old t.new g.new (λ k. two_gain k (lits c) (lits d)) }
 {
     let a = cube_sets::without(c, d);
-    if !is_small(cube_sets::few(a)) {
+    if !is_small(a) {
         return;
     }
     let b = cube_sets::without(d, c);
-    let more = cube_sets::few(b);
-    if !is_small(more) {
+    if !is_small(b) {
         return;
     }
-    // the base and the literals of a are those of c
-    let by = cube_sets::count(c) + (more - 1);
+    let base = cube_sets::count(cube_sets::common(c, d));
+    let by = base + (cube_sets::count(a) + cube_sets::count(b) - 1);
     count_use(t, g, up, extract_keys::sum_key(a, b), by as u16);
 }
 
 // A cube and each of some others.
-pub fn count_row(t: &mut [u32], g: &mut [u16], up: bool, c: Cube, s: &[u64])
+pub fn count_row(
+    t: &mut [u32; TABLE_WORDS],
+    g: &mut [u16; MOST_ENTRIES],
+    up: bool,
+    c: Cube,
+    s: &[u64],
+)
     ensures { Counts up t.old g.old t.new g.new
         (λ k. row_gain k (lits c) (cubes_of s.now)) }
 {
@@ -95,7 +112,14 @@ pub fn count_row(t: &mut [u32], g: &mut [u16], up: bool, c: Cube, s: &[u64])
 }
 
 // A cube that comes to a node of the cubes of a and of b, or goes from it.
-pub fn count_cube(t: &mut [u32], g: &mut [u16], up: bool, c: Cube, a: &[u64], b: &[u64])
+pub fn count_cube(
+    t: &mut [u32; TABLE_WORDS],
+    g: &mut [u16; MOST_ENTRIES],
+    up: bool,
+    c: Cube,
+    a: &[u64],
+    b: &[u64],
+)
     ensures { Counts up t.old g.old t.new g.new
         (λ k. pairs_gain k (lits c) + (row_gain k (lits c) (cubes_of a.now) + row_gain k (lits c) (cubes_of b.now))) }
 {

@@ -16,7 +16,7 @@ use cube::{Cube, Literal, Variable};
 use extract_divisor::Divisor;
 use network::Network;
 
-#[derive(Drop)]
+#[derive(Clone, Copy)]
 pub enum Outcome {
     Made,
     Numbers,
@@ -25,7 +25,7 @@ pub enum Outcome {
 }
 
 // The network after a step, the number of its new node, and its literals. Where no step is made, all zeros.
-#[derive(Drop)]
+#[derive(Clone, Copy)]
 pub struct Next {
     pub outcome: Outcome,
     pub network: Network,
@@ -34,7 +34,7 @@ pub struct Next {
 }
 
 // What becomes of a cube in a step.
-#[derive(Drop)]
+#[derive(Clone, Copy)]
 enum Remade {
     Becomes(Cube),
     Goes,

@@ -14,14 +14,14 @@ ghost use Rattle.image_read.specs.Parts.{times, widest, FieldIs, CubeIs};
 use cube::{Cube, Found, Literal};
 
 // The number that a field holds; or the image ends before its last bit.
-#[derive(Drop)]
+#[derive(Clone, Copy)]
 pub enum Field {
     Value(usize),
     Cut,
 }
 
 // A cube as read: its literals as a set, how many were written, whether they ascend, and the bit after it.
-#[derive(Drop)]
+#[derive(Clone, Copy)]
 pub struct Taken {
     pub cube: Cube,
     pub literals: usize,
@@ -29,7 +29,7 @@ pub struct Taken {
     pub at: usize,
 }
 
-#[derive(Drop)]
+#[derive(Clone, Copy)]
 pub enum Turn {
     On(Taken),
     Bad(u32),

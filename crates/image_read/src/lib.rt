@@ -28,14 +28,14 @@ const EDITION_BYTES: usize = (image_laws::EDITION_WIDTH + 7) / 8;
 const HEAD_BYTES: usize = (image_laws::HEAD_WIDTH + 7) / 8;
 
 // The numbers of inputs, outputs and divisors.
-#[derive(Drop)]
+#[derive(Clone, Copy)]
 struct Sizes {
     inputs: usize,
     outputs: usize,
     divisors: usize,
 }
 
-#[derive(Drop)]
+#[derive(Clone, Copy)]
 enum Head {
     Of(Sizes),
     Bad(u32),

@@ -10,7 +10,7 @@ use crate::fields;
 use crate::fields::{Field, Taken, Turn};
 
 // How far the image is read: the next bit, the sums of the counts as written, and whether all literals ascend so far.
-#[derive(Drop)]
+#[derive(Clone, Copy)]
 pub struct State {
     pub at: usize,
     pub cubes: usize,
@@ -18,7 +18,7 @@ pub struct State {
     pub ascending: bool,
 }
 
-#[derive(Drop)]
+#[derive(Clone, Copy)]
 pub enum Step {
     On(State),
     Bad(u32),

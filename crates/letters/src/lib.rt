@@ -8,7 +8,7 @@ ghost use Rattle.letters.specs.Laid.{counted, Laid};
 const FARTHEST: usize = sets::WORD_MOST as usize;
 
 // What writing into a lent room answers: how many bytes, or the number of the refusal.
-#[derive(Drop)]
+#[derive(Clone, Copy)]
 pub enum Wrote {
     Bytes(usize),
     Refused(u32),

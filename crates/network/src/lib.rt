@@ -24,7 +24,7 @@ pub const NODE_SLOTS: usize = MOST_OUTPUTS + MOST_VARIABLES;
 pub const WORD_SLOTS: usize = expression::WORDS * MOST_CUBES;
 
 // Counts and cubes of the outputs first, then of the divisors by number; slots past those in use mean nothing.
-#[derive(Drop)]
+#[derive(Clone, Copy)]
 pub struct Network {
     pub inputs: usize,
     pub outputs: usize,
@@ -34,21 +34,21 @@ pub struct Network {
 }
 
 // A network handed back; a refusal carries a network of zeros.
-#[derive(Drop)]
+#[derive(Clone, Copy)]
 pub struct Handed {
     pub answer: Verdict,
     pub network: Network,
 }
 
 // A number, or the number of a refusal.
-#[derive(Drop)]
+#[derive(Clone, Copy)]
 pub enum Number {
     Is(u64),
     No(u32),
 }
 
 // Numbers of divisors in the order of the listing, as many as are listed, and zeros after them.
-#[derive(Drop)]
+#[derive(Clone, Copy)]
 pub struct Listed {
     pub count: usize,
     pub order: [u32; MOST_VARIABLES],

@@ -21,7 +21,7 @@ use table::{Answer, Refusal};
 pub const ASKED: u64 = 64;
 
 // What a report tells: the counts, the steps and the reason; of a refused table the answer alone.
-#[derive(Drop)]
+#[derive(Clone, Copy)]
 struct Findings {
     answer: Answer,
     start: u64,

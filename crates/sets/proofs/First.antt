@@ -1,5 +1,5 @@
 -- The first element of an ascending list that is not below a number: it is known from the members, and they from it. Assumes nothing.
-use mathlib.Core.Path.{◌≡◌, refl, sym}
+use mathlib.Core.Path.{◌≡◌, refl, sym, ◌∙◌, ap}
 use mathlib.Core.Bool.{true, false, cond, false≢true}
 use mathlib.Core.List.{List, [], ◌∷◌}
 use mathlib.Core.Logic.{◌⊎◌, inl, inr, ⊎_elim}
@@ -69,7 +69,7 @@ some_first l (y ∷ ys) x a h = elim (decided (leb l y)) [
       let s : some y ≡ some x = rw t at h in
       let e : y ≡ x = cc in
       record {
-        is_in = rw (← e) (mem-head y ys);
+        is_in = ap (λ (z : ℕ). mem z (y ∷ ys)) (sym e) ∙ mem-head y ys;
         not_below = omega (arith, leb-true l y t);
         least = λ k p q. refuted (λ m. omega (arith, head-le y ys k a m));
       }

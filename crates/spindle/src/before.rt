@@ -6,7 +6,7 @@ ghost use Rattle.spindle.specs.Before.{most_lines, by_kind, after, Reaches};
 use table_kinds::Kind;
 
 // The numbers of inputs and outputs, 0 while missing; one more than the number of `.p`, 0 while missing; the cube lines.
-#[derive(Drop)]
+#[derive(Clone, Copy)]
 pub struct Seen {
     pub inputs: u32,
     pub outputs: u32,
@@ -14,7 +14,7 @@ pub struct Seen {
     pub cubes: u32,
 }
 
-#[derive(Drop)]
+#[derive(Clone, Copy)]
 pub struct Reached {
     pub at: usize,
     pub seen: Seen,

@@ -14,7 +14,7 @@ const NEW_PATH: usize = PATH_MAX + 4;
 // ---- reading
 
 // Whether the file was read, and how many bytes came.
-#[derive(Drop)]
+#[derive(Clone, Copy)]
 pub struct Got {
     pub ok: bool,
     pub count: usize,

@@ -26,7 +26,7 @@ const SHORT: usize = table::MOST_BYTES + 1;
 const BLIF_ROOM: usize = 131072;
 
 // What is asked: a table alone asks for its report.
-#[derive(Drop)]
+#[derive(Clone, Copy)]
 enum Command {
     Report,
     Image,
@@ -39,7 +39,7 @@ enum Command {
 }
 
 // What a file holds, by its beginning.
-#[derive(Drop)]
+#[derive(Clone, Copy)]
 enum Kind {
     Table,
     Image,
@@ -47,7 +47,7 @@ enum Kind {
 }
 
 // A network, where there is one; where there is none, that has been said.
-#[derive(Drop)]
+#[derive(Clone, Copy)]
 struct Loaded {
     ok: bool,
     network: Network,
@@ -324,46 +324,40 @@ fn on_long(c: Command, fd: i32, first: &[u8], path: &[u8], word: &[u8]) {
     long_by(c, fd, first, path, word, &mut room);
 }
 
-// How many bytes of a file came to the short room, or one more than it holds where the file could not be read.
-fn fill_short(fd: i32, path: &[u8], room: &mut [u8]) -> usize {
+fn short_into(c: Command, fd: i32, path: &[u8], word: &[u8], room: &mut [u8]) {
     let got = file::fill(fd, path, room);
-    if got.ok {
-        return got.count;
-    }
-    SHORT + 1
-}
-
-// An open file, by the name that complaints have for it; `first` is what has been read of it already, where that filled the short room.
-// Only a longer file than any table needs the longer room, which lies in a frame of its own: a function that calls itself is not made
-// one with others that need much room.
-fn on_open(c: Command, fd: i32, first: &[u8], path: &[u8], word: &[u8]) {
-    if first.len() > 0 {
-        on_long(c, fd, first, path, word);
+    let n = got.count;
+    if !got.ok {
         return;
     }
-    let mut room = [0u8; SHORT];
-    let n = fill_short(fd, path, &mut room);
-    if n > SHORT {
-        return;
-    }
-    if n < SHORT {
+    if n < room.len() {
         on_bytes(c, &room[0..n], path, word);
         return;
     }
-    on_open(c, fd, &room, path, word);
+    on_long(c, fd, room, path, word);
+}
+
+fn short_by(c: Command, fd: i32, path: &[u8], word: &[u8], room: &mut [u8; SHORT]) {
+    short_into(c, fd, path, word, room);
+}
+
+// An open file, by the name that complaints have for it. Only a longer one than any table needs the longer room.
+fn on_open(c: Command, fd: i32, path: &[u8], word: &[u8]) {
+    let mut room = [0u8; SHORT];
+    short_by(c, fd, path, word, &mut room);
 }
 
 // `-` is standard input.
 fn on_file(c: Command, path: &[u8], word: &[u8]) {
     if check::same(path, b"-") {
-        on_open(c, STDIN_FILENO, b"", b"standard input", word);
+        on_open(c, STDIN_FILENO, b"standard input", word);
         return;
     }
     let fd = file::open(path);
     if fd < 0 {
         return;
     }
-    on_open(c, fd, b"", path, word);
+    on_open(c, fd, path, word);
     libc::close(fd);
 }
 

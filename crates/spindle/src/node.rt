@@ -14,7 +14,7 @@ use std::num;
 const MOST_COLUMN: usize = 40;
 
 // The name of a node: a letter and a number.
-#[derive(Drop)]
+#[derive(Clone, Copy)]
 pub struct Name {
     pub letter: u8,
     pub number: usize,

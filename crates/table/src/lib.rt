@@ -28,21 +28,21 @@ pub const MOST_PRODUCTS: u32 = 32768;
 pub const MOST_ROWS: u64 = 1024;
 
 // The number, the line and the column of a refusal.
-#[derive(Drop)]
+#[derive(Clone, Copy)]
 pub struct Refusal {
     pub number: u32,
     pub line: u32,
     pub column: usize,
 }
 
-#[derive(Drop)]
+#[derive(Clone, Copy)]
 pub enum Answer {
     Read,
     Refused(Refusal),
 }
 
 // A refusal carries a network of zeros.
-#[derive(Drop)]
+#[derive(Clone, Copy)]
 pub struct Table {
     pub answer: Answer,
     pub network: Network,
@@ -50,7 +50,7 @@ pub struct Table {
 
 // What has been read: the numbers of inputs and outputs, 0 while missing; one more than the number of `.p`, 0 while missing; the
 // cube lines, the rows that they make, and how many of the lines make one.
-#[derive(Drop)]
+#[derive(Clone, Copy)]
 struct State {
     inputs: usize,
     outputs: usize,
@@ -61,7 +61,7 @@ struct State {
 }
 
 // A line goes on, ends the table, or is refused by a number.
-#[derive(Drop)]
+#[derive(Clone, Copy)]
 enum Turn {
     Next(State),
     Done(State),
@@ -208,7 +208,7 @@ fn whole(number: u32) -> Refusal
 }
 
 // What was read up to the line that ends the table, or the refusal.
-#[derive(Drop)]
+#[derive(Clone, Copy)]
 struct Scanned {
     answer: Answer,
     state: State,

@@ -14,7 +14,7 @@ use table_kinds::{DIGITS, Kind};
 const PARTS: usize = 5;
 
 // The sorts of bytes of which lines are made.
-#[derive(Drop)]
+#[derive(Clone, Copy)]
 enum Sort {
     Blank,
     Digit,
@@ -25,14 +25,14 @@ enum Sort {
 }
 
 // The most bytes of a part, where there is a most.
-#[derive(Drop)]
+#[derive(Clone, Copy)]
 enum Most {
     Any,
     Count(usize),
 }
 
 // A part of a line: bytes of a sort, so many at least and at most.
-#[derive(Drop)]
+#[derive(Clone, Copy)]
 struct Part {
     sort: Sort,
     least: usize,
@@ -40,7 +40,7 @@ struct Part {
 }
 
 // The parts of a good line, as many as counted.
-#[derive(Drop)]
+#[derive(Clone, Copy)]
 struct Form {
     count: usize,
     parts: [Part; PARTS],

@@ -7,7 +7,7 @@ ghost use Rattle.table_kinds.specs.Parts.{number_in, lettered, ends};
 // The most digits of a number.
 pub const DIGITS: usize = 5;
 
-#[derive(Drop)]
+#[derive(Clone, Copy)]
 pub enum Kind {
     Empty,
     Inputs(u32),
@@ -18,7 +18,7 @@ pub enum Kind {
 }
 
 // A decimal number, where one is written.
-#[derive(Drop)]
+#[derive(Clone, Copy)]
 enum Number {
     Of(u32),
     Missing,

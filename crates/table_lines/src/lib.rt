@@ -4,7 +4,7 @@ ghost use Rattle.table_lines.specs.Text.{is_blank, line_of, uncommented, trim_fr
 ghost use Rattle.table_lines.specs.Parts.{until_byte};
 
 // A part of a line: from the byte at `start` up to the one at `end`.
-#[derive(Drop)]
+#[derive(Clone, Copy)]
 pub struct Span {
     pub start: usize,
     pub end: usize,

@@ -13,14 +13,14 @@ use cube::{Cube, Variable};
 const MOST: usize = 32;
 
 // A cube line: its cube, the outputs with a 1 as a mask, and how many there are.
-#[derive(Drop)]
+#[derive(Clone, Copy)]
 pub enum Parsed {
     Line(Cube, u64, u64),
     Nothing,
 }
 
 // A setting of the inputs, as the number whose bit i is input i.
-#[derive(Drop)]
+#[derive(Clone, Copy)]
 pub enum Setting {
     Is(u64),
     Wrong,

@@ -8,8 +8,8 @@ use Rattle.extract_gains.proofs.gain_at.Tie as tie
 
 returns-2 : tie.Need-returns-2
 returns-2 c =
-    let a = c.before.args in
-    sym (get_or-eq_default a.g.now 0 {n = a.e} (omega arith))
+    let a = c.before.before.args in
+    sym (get_or-eq_default a.g.now 0 {n = a.e} (omega (arith, c.whole-gains.ensures)))
 
 pub gain-at-spec : {M : Type 1} → statement M
-gain-at-spec = tie.close (tie.spec (search rules) (search rules) (search rules) returns-2)
+gain-at-spec = tie.close (tie.spec (search rules) (search rules) (search rules) (search rules) returns-2)

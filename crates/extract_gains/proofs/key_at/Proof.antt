@@ -1,4 +1,4 @@
--- `extract_gains::key_at` meets its contract: past the last word nothing stands. Assumes nothing.
+-- `extract_gains::key_at` meets its contract: past the last entry nothing stands. Assumes nothing.
 use mathlib.Core.Path.{sym}
 use Prim.Native.Nat.{◌+◌}
 use native.Mathlib.Omega.{arith}
@@ -8,16 +8,11 @@ use Rattle.extract_gains.specs.Gains.{place_of}
 use Rattle.extract_gains.proofs.key_at.Statement.{statement}
 use Rattle.extract_gains.proofs.key_at.Tie as tie
 
-returns : tie.Need-returns
-returns c =
-    let a = c.before.args in
-    sym (get_or-eq_default a.t.now 0 {n = place_of a.e + 1} (omega arith))
-
-returns-3 : tie.Need-returns-3
-returns-3 c =
+returns-2 : tie.Need-returns-2
+returns-2 c =
     let a = c.before.before.args in
-    sym (get_or-eq_default a.t.now 0 {n = place_of a.e + 1} (omega arith))
+    sym (get_or-eq_default a.t.now 0 {n = place_of a.e + 1} (omega (arith, c.whole.ensures)))
 
 pub key-at-spec : {M : Type 1} → statement M
 key-at-spec =
-    tie.close (tie.spec returns (search rules) (search rules) (search rules) (search rules) (search rules) (search rules) (search rules) returns-3)
+    tie.close (tie.spec (search rules) (search rules) (search rules) (search rules) (search rules) (search rules) (search rules) returns-2)

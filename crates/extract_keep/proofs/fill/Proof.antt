@@ -1,31 +1,39 @@
--- `extract_keep::fill` meets its contract: where there are fewer counts, they are all of them. Assumes nothing.
-use mathlib.Core.Path.{refl, ap}
+-- `extract_keep::fill` meets its contract: a table without entries is filled, and has room. Assumes nothing.
+use mathlib.Core.Path.{◌≡◌, sym, ◌∙◌}
+use mathlib.Core.Bool.{true}
 use native.Mathlib.Omega.{arith}
 use borrow.Author.Rules.{rules}
-use Rattle.extract_counts.specs.Counts.{net_gain}
-use Rattle.extract_gains.proofs.Table.{turns_as}
-use Rattle.extract_keep.proofs.{Keeping.nodes-all, Filling.fills_of, fill.Statement.statement}
+use borrow.Author.Tests.{not-true, not-false}
+use Rattle.sets.proofs.Truth.{clash}
+use Rattle.network.{specs.Handed.Shaped, proofs.Handing.shape_of}
+use Rattle.extract_tidy.{specs.Tidy.arranged, proofs.Arranged.arranged-sized}
+use Rattle.extract_counts.proofs.Arranged.{arranged-few}
+use Rattle.extract_keep.proofs.{Filling.filled, fill.Statement.statement}
 use Rattle.extract_keep.proofs.fill.Tie as tie
 
-abbrev cleared : tie.After-slice-known4 → tie.After-clear
-cleared c = c.before.before.before.before
+abbrev start : tie.After-is-arranged → tie.Start
+start c = c.before.before.before.before
 
-abbrev start : tie.After-clear → tie.Start
-start c = let k = c.before.before.before in k.before.before.before.before
+net-kept : (c : tie.Else1) → arranged (start c.before).args.n ≡ true
+net-kept c = sym c.before.is-arranged.ensures ∙ not-false _ c.if1.false
+
+shape : (c : tie.Else1) → Shaped (start c.before).args.n
+shape c = shape_of _ (search rules) (search rules)
 
 returns : tie.Need-returns
-returns c =
-    let f = c.before.before.before.before in
-    let r = cleared f.before.before.before.before in
-    let s = start r in
-    fills_of r.clear.ensures
-    (turns_as (λ k. refl) (λ k. ap (net_gain k) (nodes-all s.args.counts.now s.args.words.now s.args.e (omega arith))) f.fill-nodes.ensures)
+returns c r a = clash a (sym c.before.is-arranged.ensures ∙ not-true _ c.if1.true)
+
+abbrev passed : tie.After-struct-known → tie.Else1
+passed c = c.before.before.before.before.before.before.before
 
 returns-2 : tie.Need-returns-2
 returns-2 c =
-    let f = c.before.before.before.before in
-    fills_of (cleared f.before.before.before.before).clear.ensures f.fill-nodes2.ensures
+    let e = passed c.before in
+    filled _ (shape e) _ _ _ _ e.before.before.clear.ensures c.fill-nodes.ensures
 
 pub fill_spec : {M : Type 1} → statement M
-fill_spec = tie.close (tie.spec (search rules) (search rules) (λ c. search rules) (λ c. search rules) returns (search rules) (λ c. search rules)
-    (λ c. search rules) returns-2)
+fill_spec =
+    tie.close
+    (tie.spec (λ c κs. search rules) (λ c κs. search rules) returns (λ c. search rules) (λ c. search rules)
+    (λ c. omega (arith, arranged-few _ (net-kept (passed c)) (shape (passed c))))
+    (λ c κs. omega (arith, (arranged-sized _ (net-kept (passed c)) (shape (passed c))).counted)) returns-2)

@@ -7,48 +7,44 @@ use lib.Seq.{take_all}
 use borrow.Author.Rules.{rules}
 use Rattle.sets.{specs.Lists.total, proofs.Places.total-next}
 use Rattle.expression.specs.Words.{cubes_of}
-use Rattle.extract_gains.{specs.Gains.Turns, specs.Gains.nothing, proofs.Table.turns-none, proofs.Table.turns_then, proofs.Table.turns_as}
+use Rattle.extract_gains.{specs.Gains.Turns, specs.Gains.none, proofs.Table.turns-none, proofs.Table.turns_then, proofs.Table.turns_as}
 use Rattle.extract_counts.{specs.Counts.pairs_gain, proofs.Turning.node-parts}
 use Rattle.extract_keep.proofs.fill_node.Statement.{statement}
 use Rattle.extract_keep.proofs.fill_node.Tie as tie
 
 abbrev invariant-loop : tie.invariant-loop
-invariant-loop t₀ g₀ f n i₀ t g i = (i ≤ n) × Turns t₀ g₀ t g nothing (λ k. total (pairs_gain k) (take i (cubes_of f)))
+invariant-loop t₀ g₀ f n i₀ t g i = (i ≤ n) × Turns t₀ g₀ t g none (λ k. total (pairs_gain k) (take i (cubes_of f)))
 
 abbrev decreases-loop : tie.decreases-loop
 decreases-loop t₀ g₀ f n i₀ t g i = n - i
-
-abbrev start : tie.At-loop invariant-loop decreases-loop → tie.Start invariant-loop decreases-loop
-start l = l.before.before.before.before.before
 
 loop-holds : tie.Need-loop-init invariant-loop decreases-loop
 loop-holds c = (omega arith, turns-none _ _)
 
 loop-again : tie.Need-loop-preserved invariant-loop decreases-loop
 loop-again c =
-    let p = c.before.before.before.before in
-    let a = p.before in
+    let a = c.before in
     let h = a.before.before.before.before in
-    let f = cubes_of (start h).args.f.now in (
+    let f = cubes_of h.before.before.before.args.f.now in (
       omega arith,
       turns_as (λ k. refl) (λ k. omega (
         arith,
         total-next (pairs_gain k) f h.loop.i [] (omega (arith, h.before.number.ensures)),
         ap (pairs_gain k) a.cube-at.ensures,
-      )) (turns_then h.loop.invariant.1 p.count-pairs.ensures),
+      )) (turns_then h.loop.invariant.1 c.count-pairs.ensures),
     )
 
 returns : tie.Need-returns invariant-loop decreases-loop
 returns c =
-    let p = c.before.before.before.before in
-    let h = p.before.before.before.before in
-    let f = cubes_of (start h).args.f.now in
+    let h = c.before.before.before.before in
+    let f = cubes_of h.before.before.before.args.f.now in
     turns_as (λ k. refl) (λ k. omega (
       arith,
       node-parts k f,
       ap (total (pairs_gain k)) (take_all h.loop.i f (omega (arith, h.before.number.ensures))),
-    )) (turns_then h.loop.invariant.1 p.count-sums.ensures)
+    )) (turns_then h.loop.invariant.1 c.count-sums.ensures)
 
 pub fill-node-spec : {M : Type 1} → statement M
-fill-node-spec = tie.close (tie.spec invariant-loop decreases-loop (search rules) loop-holds (search rules) (search rules) (λ c. search rules) (λ c. search rules)
-    loop-again (search rules) (λ c. search rules) (λ c. search rules) returns)
+fill-node-spec =
+    tie.close (tie.spec invariant-loop decreases-loop (λ c κs. search rules) loop-holds (λ c κs. search rules) (λ c κs. search rules) (λ c. search rules)
+    (λ c. search rules) loop-again (λ c κs. search rules) returns)

@@ -1,54 +1,67 @@
--- `extract_keep::renew` meets its contract. The loop's invariant: the nodes before node i are those of the second. Assumes nothing.
-use Prim.Native.Nat.{ℕ, ◌-◌, ◌≤◌}
-use mathlib.Core.List.{List}
+-- `extract_keep::renew` meets its contract: where the table has no room it is filled anew. Assumes nothing.
+use mathlib.Core.Path.{◌≡◌, sym, ◌∙◌}
+use mathlib.Core.Bool.{true}
 use native.Mathlib.Omega.{arith}
-use lib.ListN.{take}
 use borrow.Author.Rules.{rules}
-use Rattle.network.specs.Parts.{nodes_of}
-use Rattle.extract_gains.specs.Gains.{Shifts}
-use Rattle.extract_counts.specs.Counts.{net_gain}
-use Rattle.extract_keep.proofs.Keeping.{nodes-few, shift-first, shift-net, shift-all}
-use Rattle.extract_keep.proofs.renew.Statement.{statement}
+use borrow.Author.Tests.{not-true, not-false}
+use Rattle.sets.proofs.Truth.{clash}
+use Rattle.network.{specs.Handed.Shaped, proofs.Handing.shape_of}
+use Rattle.extract_tidy.{specs.Tidy.arranged, proofs.Arranged.arranged-sized}
+use Rattle.extract_counts.proofs.Arranged.{arranged-few}
+use Rattle.extract_keep.proofs.{Keeping.renewed, renew.Statement.statement}
 use Rattle.extract_keep.proofs.renew.Tie as tie
 
-abbrev invariant-loop : tie.invariant-loop
-invariant-loop t₀ g₀ words counts a other sizes b e i₀ t g i =
-    (i ≤ e) × Shifts t₀ g₀ t g (λ k. net_gain k (take i (nodes_of a counts words))) (λ k. net_gain k (take i (nodes_of b sizes other)))
+abbrev start : tie.After-is-arranged2 → tie.Start
+start c = c.before.before.before
 
-abbrev decreases-loop : tie.decreases-loop
-decreases-loop t₀ g₀ words counts a other sizes b e i₀ t g i = e - i
+abbrev passed : tie.After-struct-known → tie.Else2
+passed c = c.before.before.before.before.before.before.before.before.before
 
--- the nodes of the two
-abbrev olds : tie.Start invariant-loop decreases-loop → List (List (List ℕ))
-olds s = nodes_of s.args.a s.args.counts.now s.args.words.now
+abbrev both-passed : tie.After-struct-known2 → tie.Else2
+both-passed c = passed c.before.before.before
 
-abbrev news : tie.Start invariant-loop decreases-loop → List (List (List ℕ))
-news s = nodes_of s.args.b s.args.sizes.now s.args.other.now
+-- the two are in cube order
+old-kept : (c : tie.Else2) → arranged (start c.before).args.old ≡ true
+old-kept c = let e = c.before.before in sym e.before.is-arranged.ensures ∙ not-false _ e.if1.false
 
-abbrev start : tie.After-greater invariant-loop decreases-loop → tie.Start invariant-loop decreases-loop
-start c = let k = c.before.before.before in k.before.before.before.before
+new-kept : (c : tie.Else2) → arranged (start c.before).args.new ≡ true
+new-kept c = sym c.before.is-arranged2.ensures ∙ not-false _ c.if2.false
 
-loop-holds : tie.Need-loop-init invariant-loop decreases-loop
-loop-holds c = let s = start c in (omega arith, shift-first (olds s) (news s) _ _)
+old-shape : (c : tie.Else2) → Shaped (start c.before).args.old
+old-shape c = shape_of _ (search rules) (search rules)
 
-loop-again : tie.Need-loop-preserved invariant-loop decreases-loop
-loop-again c =
-    let r = c.before.before.before.before in
-    let n = r.before in
-    let m = n.before in
-    let h = m.before.before.before.before in
-    let s = start h.before in
-    (omega arith, shift-net (olds s) (news s) h.loop.i h.loop.invariant.1 m.node_of.ensures n.node-of2.ensures r.renew-node.ensures)
+new-shape : (c : tie.Else2) → Shaped (start c.before).args.new
+new-shape c = shape_of _ (search rules) (search rules)
 
-returns : tie.Need-returns invariant-loop decreases-loop
-returns c =
-    let h = c.before in
-    let g = h.before in
-    let s = start g in
-    shift-all (olds s) (news s) h.loop.i h.loop.invariant.1
-    (omega (arith, g.greater.ensures, nodes-few s.args.counts.now s.args.words.now s.args.a))
-    (omega (arith, g.greater.ensures, nodes-few s.args.sizes.now s.args.other.now s.args.b))
+returns : tie.Need-returns
+returns c k = c.fill.ensures
+
+returns-2 : tie.Need-returns-2
+returns-2 c k r a = clash a (sym c.before.is-arranged2.ensures ∙ not-true _ c.if2.true)
+
+renew-nodes-requires : tie.Need-renew-nodes-requires
+renew-nodes-requires c κs =
+    let e = both-passed c in (
+      (arranged-sized _ (old-kept e) (old-shape e)).counted,
+      arranged-few _ (old-kept e) (old-shape e),
+      (arranged-sized _ (new-kept e) (new-shape e)).counted,
+      arranged-few _ (new-kept e) (new-shape e),
+    )
+
+returns-3 : tie.Need-returns-3
+returns-3 c k = c.fill2.ensures
+
+returns-4 : tie.Need-returns-4
+returns-4 c k r a =
+    let m = c.before in
+    let n = m.before.before in
+    let s = start (both-passed n.before).before in
+    renewed s.args.old s.args.new _ _ _ _ k n.renew-nodes.ensures (omega (arith, m.number.ensures))
 
 pub renew-spec : {M : Type 1} → statement M
-renew-spec = tie.close (tie.spec invariant-loop decreases-loop (search rules) loop-holds (search rules) (search rules) (search rules) (λ c. search rules)
-    (λ c. search rules) loop-again (λ c. search rules) (λ c. search rules) returns)
+renew-spec =
+    tie.close
+    (tie.spec (λ c κs. search rules) (λ c κs. search rules) returns (λ c κs. search rules) returns-2 (λ c. search rules) (λ c. search rules)
+    (λ c. omega (arith, arranged-few _ (old-kept (passed c)) (old-shape (passed c)))) (λ c. search rules) (λ c. search rules)
+    (λ c. omega (arith, arranged-few _ (new-kept (both-passed c)) (new-shape (both-passed c)))) renew-nodes-requires (λ c κs. search rules)
+    (λ c κs. search rules) returns-3 returns-4)

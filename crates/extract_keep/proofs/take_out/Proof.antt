@@ -5,16 +5,15 @@ use Rattle.extract_keep.proofs.take_out.Tie as tie
 
 returns : tie.Need-returns
 returns c =
-    let d = c.before.before.before.before in
-    let q = d.before in
+    let q = c.before in
     let p = q.before in
     let a = p.before in
     let n = a.before.before.before in
-    let s = n.before.before.before.before.before in
+    let s = n.before.before.before in
     gone-shift _ _ _ _ s.args.a.now s.args.b.now s.args.i s.args.j _ s.requires n.number.ensures a.cube-at.ensures p.part.ensures.0
-    q.part2.ensures.0 d.count-cube.ensures
+    q.part2.ensures.0 c.count-cube.ensures
 
 pub take-out-spec : {M : Type 1} → statement M
 take-out-spec =
-    tie.close (tie.spec (search rules) (search rules) (search rules) (λ c. search rules) (search rules) (search rules) (λ c. search rules)
-    (λ c. search rules) returns)
+    tie.close (tie.spec (λ c κs. search rules) (λ c κs. search rules) (λ c κs. search rules) (λ c. search rules) (λ c κs. search rules)
+    (λ c κs. search rules) returns)

@@ -19,17 +19,14 @@ invariant-loop t₀ g₀ f ws r e code w at₀ t g at =
 abbrev decreases-loop : tie.decreases-loop
 decreases-loop t₀ g₀ f ws r e code w at₀ t g at = at
 
-abbrev begun : tie.After-shared-slice-known3 invariant-loop decreases-loop → tie.Start invariant-loop decreases-loop
-begun c = c.before.before.before.before.before
-
 abbrev start : tie.At-loop invariant-loop decreases-loop → tie.Start invariant-loop decreases-loop
-start h = begun h.before.before.before.before
+start h = h.before.before.before.before.before.before.before
 
 loop-holds : tie.Need-loop-init invariant-loop decreases-loop
 loop-holds c s l =
     let w = c.before.before in
     walk_first _ _ _ _ _ _ s l _ _ _ (omega arith)
-    (c.wide2.ensures ∙ ap (λ x. get_or (begun w.before).args.r.now (x % first) 0) w.wide.ensures)
+    (c.wide2.ensures ∙ ap (λ x. get_or w.before.before.before.before.args.r.now (x % first) 0) w.wide.ensures)
 
 -- in a turn of the loop the walk stands at a removal
 going : (h : tie.At-loop invariant-loop decreases-loop) → let s = start h in Walk (cubes_of s.args.f.now) s.args.ws.now s.args.r.now s.args.e
@@ -62,28 +59,21 @@ loop-again c s l =
     let i = j.before.before in
     let n = i.before.loop.invariant s l in
     elim j.if1.branch [
-      | inl (w, a, b, k, u, t, x, g, y, p, q) ↦ rw (p, q)
+      | inl (w, a, b, k, u, p, q) ↦ rw (p, q)
           (walk-met _ _ _ _ _ _ s l n i.loop-test.true (omega (arith, walk-place _ _ _ _ _ _ s l n i.loop-test.true)) c.wide3.ensures
           u.ensures)
       | inr (w, p, q) ↦ rw (p, q) (walk-passed _ _ _ _ _ _ s l n i.loop-test.true w.left c.wide3.ensures)
     ]
 
--- the tables stay as long
-same_length : tie.Need-same-length invariant-loop decreases-loop
-same_length c = (going c.before).partly.turns.shifts.alike.words
-
-same-length-2 : tie.Need-same-length-2 invariant-loop decreases-loop
-same-length-2 c = (going c.before).partly.turns.shifts.alike.room
-
 returns : tie.Need-returns invariant-loop decreases-loop
 returns c = let s = start c.before in walk_end _ _ _ _ _ _ s.pre.0 s.pre.3 (going c.before) c.loop-test.false
 
 pub count-partners-spec : {M : Type 1} → statement M
-count-partners-spec = tie.close (tie.spec invariant-loop decreases-loop (λ c. let s = c.before.before.before.before in omega (arith, s.requires.1, s.requires.2))
-    (λ c. (begun c).requires.1) (search rules) (search rules) (search rules) (search rules) loop-holds
+count-partners-spec = tie.close (tie.spec invariant-loop decreases-loop (λ c. let s = c.before.before in omega (arith, s.requires.1, s.requires.2))
+    (λ c. let s = c.before.before.before in s.requires.1) (search rules) (search rules) (search rules) (search rules) loop-holds
     (λ c. omega (arith, place c, within c)) (λ c. omega (arith, place c, within c)) (λ c. omega (arith, place c, within c))
     (λ c. let i = c.before.before.before.before in omega (arith, place i, within i))
     (λ c. let i = c.before.before.before.before.before in omega (arith, place i, within i))
     (λ c κs. let i = c.before.before.before.before.before in (start i.before).pre.4)
     (λ c. let i = c.before.before in omega (arith, place i, within i))
-    (λ c. let i = c.before.before in omega (arith, place i, within i)) (search rules) loop-less loop-again same_length same-length-2 returns)
+    (λ c. let i = c.before.before in omega (arith, place i, within i)) (search rules) loop-less loop-again returns)

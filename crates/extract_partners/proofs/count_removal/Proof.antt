@@ -8,18 +8,8 @@ use Rattle.extract_partners.specs.Table.{left_at, code_of}
 use Rattle.extract_partners.proofs.{Entering.entered-next, count_removal.Statement.statement}
 use Rattle.extract_partners.proofs.count_removal.Tie as tie
 
-abbrev begun : tie.After-shared-slice-known3 → tie.Start
-begun c = c.before.before.before.before.before
-
 abbrev start : tie.After-code-of → tie.Start
-start c = begun c.before.before
-
--- the removal is met with the earlier ones after its code is known, and entered after that
-abbrev coding : tie.After-count-partners → tie.After-code-of
-coding n = n.before.before.before.before
-
-abbrev met : tie.After-enter-arg → tie.After-count-partners
-met c = c.before.before.before.before.before
+start c = c.before.before.before.before.before
 
 -- the code is that of what the removal leaves
 coded : (c : tie.After-code-of) → let s = start c in
@@ -34,17 +24,17 @@ count-partners-requires c κs =
 
 enter-requires : tie.Need-enter-requires
 enter-requires c κs =
-    let p = (start (coding (met c))).requires in
+    let k = c.before.before.before.before.before in
+    let p = (start k).requires in
     (p.0.chained, omega (arith, p.1, p.2))
 
 returns : tie.Need-returns
 returns c =
-    let n = met c.before in
-    let k = coding n in
-    let p = (start k).pre in
+    let n = c.before.before in
+    let k = n.before.before.before.before in
+    let p = (start k).requires in
     (n.count-partners.ensures, entered-next p.0 p.1 (coded k) c.enter.ensures)
 
 pub count-removal-spec : {M : Type 1} → statement M
-count-removal-spec = tie.close (tie.spec (λ c. let p = c.before.before.before.before.requires in omega (arith, p.1, p.2))
-    (λ c. (begun c).requires.1) (search rules) (search rules) count-partners-requires enter-requires
-    (search rules) (search rules) returns)
+count-removal-spec = tie.close (tie.spec (λ c. let p = c.before.before.requires in omega (arith, p.1, p.2)) (λ c. c.before.before.before.requires.1)
+    (search rules) (search rules) count-partners-requires enter-requires returns)

@@ -15,25 +15,12 @@ use Rattle.extract_partners.proofs.Using.{use-differs, use-shares, use-met}
 use Rattle.extract_partners.proofs.count_use.Statement.{statement}
 use Rattle.extract_partners.proofs.count_use.Tie as tie
 
--- the states: the cubes left are tested, then the parts, then the literals are counted
-abbrev begun : tie.After-left-at → tie.Start
-begun c = c.before.before.before.before
-
-abbrev start : tie.After-same → tie.Start
-start c = begun c.before.before
-
-abbrev tested : tie.After-part-at2 → tie.After-same
-tested c = c.before.before.before
-
-abbrev parted : tie.After-count3 → tie.After-is-empty
-parted c = c.before.before.before.before
-
 -- the two tests
-alike : (c : tie.After-same) → let s = start c in
+alike : (c : tie.After-same) → let s = c.before.before.before.before in
     c.same.result ≡ same (left_at (cubes_of s.args.f.now) s.args.v) (left_at (cubes_of s.args.f.now) s.args.w)
 alike c = c.same.ensures ∙ ap₂ same c.before.left-at2.ensures c.before.before.left_at.ensures
 
-loose : (c : tie.After-is-empty) → let s = start (tested c.before.before) in
+loose : (c : tie.After-is-empty) → let s = c.before.before.before.before.before.before.before.before.before in
     c.is-empty.result ≡ apart (part_at s.args.v) (part_at s.args.w)
 loose c =
     let b = c.before.before in
@@ -55,24 +42,24 @@ few c = (
 
 sub_by : tie.Need-overflow-sub-by
 sub_by c =
-    let p = (parted c).before.before in
-    omega (arith, c.count3.ensures, ap length p.part-at2.ensures, (start (tested p)).requires)
+    let p = c.before.before.before.before.before.before in
+    let s = p.before.before.before.before.before.before.before in
+    omega (arith, c.count3.ensures, ap length p.part-at2.ensures, s.requires)
 
 returns-3 : tie.Need-returns-3
 returns-3 c =
-    let u = c.before.before.before.before in
-    let n = u.before.before.before.before in
-    let i = parted n in
+    let n = c.before.before.before.before in
+    let i = n.before.before.before.before in
     let p = i.before.before in
     let q = p.before.before in
     let l = q.before.before.before in
-    use-met _ _ _ _ _ (sym (alike q.before) ∙ not-false _ q.if1.left) (sym (loose i) ∙ not-false _ n.before.before.before.if2.false)
-    (u.before.sum-key.ensures ∙ ap₂ (λ x y. two_codes (part_code x) (part_code y)) p.before.part_at.ensures p.part-at2.ensures)
+    use-met _ _ _ _ _ (sym (alike q.before) ∙ not-false _ q.if1.false) (sym (loose i) ∙ not-false _ n.before.before.before.if2.false)
+    (c.before.sum-key.ensures ∙ ap₂ (λ x y. two_codes (part_code x) (part_code y)) p.before.part_at.ensures p.part-at2.ensures)
     (ap₂ (λ x y. x + (y - 1)) (n.before.before.count.ensures ∙ ap length l.left_at.ensures)
     (ap₂ ◌+◌ (n.before.count2.ensures ∙ ap length p.before.part_at.ensures) (n.count3.ensures ∙ ap length p.part-at2.ensures)))
-    u.put.ensures
+    c.put.ensures
 
 pub count-use-spec : {M : Type 1} → statement M
 count-use-spec = tie.close (tie.spec (search rules) (search rules) (search rules) returns (search rules) (search rules) (search rules) (search rules)
     returns-2 (search rules) (search rules) (search rules) (λ c. omega (arith, few c)) sub_by (λ c. omega (arith, few c)) (search rules)
-    (λ c. omega (arith, few c.before.before.before)) (search rules) (search rules) (search rules) returns-3)
+    (λ c. omega (arith, few c.before.before.before)) (search rules) returns-3)

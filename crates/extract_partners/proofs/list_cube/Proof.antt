@@ -33,17 +33,11 @@ returns c =
     let e = taken_none _ f.first-from.ensures c.enum_told.given.1 in
     listing-end (listing-as (ap (λ x. map (removal_of (start f.before).args.j) (removals x)) e) f.before.loop.invariant)
 
-abbrev got : tie.After-without invariant-loop decreases-loop → tie.After-found invariant-loop decreases-loop
-got c = c.before.before.before.before
-
-abbrev turn : tie.After-without invariant-loop decreases-loop → tie.At-loop invariant-loop decreases-loop
-turn c = (got c).before.before.before
-
 abbrev taken : tie.After-struct-known invariant-loop decreases-loop → tie.After-found invariant-loop decreases-loop
-taken c = got c.before
+taken c = c.before.before.before.before.before
 
 abbrev head : tie.After-struct-known invariant-loop decreases-loop → tie.At-loop invariant-loop decreases-loop
-head c = turn c.before
+head c = (taken c).before.before.before
 
 -- the literal found and the others
 abbrev literal : tie.After-struct-known invariant-loop decreases-loop → ℕ
@@ -104,6 +98,7 @@ loop-again c =
 pub list-cube-spec : {M : Type 1} → statement M
 list-cube-spec = tie.close (tie.spec invariant-loop decreases-loop loop-holds (search rules) (search rules) (search rules)
     (λ c. c.before.before.before.loop.invariant.stand.long) returns (search rules) (search rules) (search rules)
-    (λ c. omega (arith, (start (turn c)).pre.0)) (λ c. omega (arith, (start (turn c)).pre.0)) (λ c. omega (arith, small c))
+    (λ c. omega (arith, (start c.before.before.before.before.before.before.before).pre.0))
+    (λ c. omega (arith, (start c.before.before.before.before.before.before.before).pre.0)) (λ c. omega (arith, small c))
     (λ c. omega (arith, small c, (start (head c)).pre.0)) (λ c. omega (arith, inside c)) inside (λ c. omega (arith, inside c.before)) list-pairs-requires
     (λ c. omega (arith, ap length (others c.before.before.before.before))) loop-again)

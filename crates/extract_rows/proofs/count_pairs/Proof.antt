@@ -6,7 +6,7 @@ use borrow.Author.Rules.{rules}
 use Rattle.cube.specs.Cube.{lits}
 use Rattle.cube_order.proofs.Taking.{taken_none, taken-small, taken_next}
 use Rattle.extract_counts.specs.Counts.{pairs_gain}
-use Rattle.extract_rows.proofs.Counting.{Due, due_all, due-next, due-alike, due-done, pairs-none, pairs_next}
+use Rattle.extract_rows.proofs.Counting.{Due, due_all, due-next, due-done, pairs-none, pairs_next}
 use Rattle.extract_rows.proofs.count_pairs.Statement.{statement}
 use Rattle.extract_rows.proofs.count_pairs.Tie as tie
 
@@ -18,13 +18,6 @@ decreases-loop t₀ g₀ up rest₀ t g rest = length (lits rest)
 
 loop-holds : tie.Need-loop-init invariant-loop decreases-loop
 loop-holds c = due_all _ _ _ _
-
--- the tables stay as long
-same_length : tie.Need-same-length invariant-loop decreases-loop
-same_length c = (due-alike c.before.before.before.loop.invariant).words
-
-same-length-2 : tie.Need-same-length-2 invariant-loop decreases-loop
-same-length-2 c = (due-alike c.before.before.before.loop.invariant).room
 
 returns : tie.Need-returns invariant-loop decreases-loop
 returns c =
@@ -46,20 +39,15 @@ others w = taken_next _ (sought w).first-from.ensures (found w).found.given.1 w.
 count-pairs-of-requires : tie.Need-count-pairs-of-requires invariant-loop decreases-loop
 count-pairs-of-requires c κs = let w = c.before.before in taken-small _ (sought w).first-from.ensures (found w).found.given.1
 
--- before the pairs of a literal are counted it is taken from the others
-abbrev parted : tie.After-count-pairs-of invariant-loop decreases-loop → tie.After-without invariant-loop decreases-loop
-parted u = u.before.before.before
-
 loop-less : tie.Need-loop-smaller invariant-loop decreases-loop
-loop-less c = omega (arith, ap length (others (parted c.before.before.before.before)))
+loop-less c = omega (arith, ap length (others c.before.before.before))
 
 loop-again : tie.Need-loop-preserved invariant-loop decreases-loop
 loop-again c =
-    let u = c.before.before.before.before in
-    let w = parted u in
-    due-next _ (sought w).before.loop.inv u.count-pairs-of.ensures (λ k. pairs_next k (others w))
+    let w = c.before.before.before in
+    due-next _ (sought w).before.loop.invariant c.count-pairs-of.ensures (λ k. pairs_next k (others w))
 
 pub count-pairs-spec : {M : Type 1} → statement M
 count-pairs-spec =
-    tie.close (tie.spec invariant-loop decreases-loop loop-holds (λ c κs. search rules) (λ c. search rules) (λ c. search rules) same_length same-length-2 returns
+    tie.close (tie.spec invariant-loop decreases-loop loop-holds (λ c κs. search rules) (λ c. search rules) (λ c. search rules) returns
     (λ c κs. search rules) (λ c κs. search rules) (λ c κs. search rules) count-pairs-of-requires loop-less loop-again)

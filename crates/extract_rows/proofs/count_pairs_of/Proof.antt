@@ -8,7 +8,7 @@ use Rattle.cube.specs.Cube.{lits}
 use Rattle.cube_order.proofs.Taking.{taken_none, taken-small, taken_next}
 use Rattle.extract_keys.proofs.Keys.{pair-key-of}
 use Rattle.extract_rows.specs.Parts.{pairs_with}
-use Rattle.extract_rows.proofs.Counting.{Due, due_all, due-next, due-alike, due-done, with_none, with-next}
+use Rattle.extract_rows.proofs.Counting.{Due, due_all, due-next, due-done, with_none, with-next}
 use Rattle.extract_rows.proofs.count_pairs_of.Statement.{statement}
 use Rattle.extract_rows.proofs.count_pairs_of.Tie as tie
 
@@ -20,13 +20,6 @@ decreases-loop t₀ g₀ up p rest₀ t g rest = length (lits rest)
 
 loop-holds : tie.Need-loop-init invariant-loop decreases-loop
 loop-holds c = due_all _ _ _ _
-
--- the tables stay as long
-same_length : tie.Need-same-length invariant-loop decreases-loop
-same_length c = (due-alike c.before.before.before.loop.invariant).words
-
-same-length-2 : tie.Need-same-length-2 invariant-loop decreases-loop
-same-length-2 c = (due-alike c.before.before.before.loop.invariant).room
 
 returns : tie.Need-returns invariant-loop decreases-loop
 returns c =
@@ -52,16 +45,15 @@ others c =
     w.without.ensures
 
 loop-less : tie.Need-loop-smaller invariant-loop decreases-loop
-loop-less c = omega (arith, ap length (others c.before.before.before.before))
+loop-less c = omega (arith, ap length (others c))
 
 loop-again : tie.Need-loop-preserved invariant-loop decreases-loop
 loop-again c =
-    let u = c.before.before.before.before in
-    let f = sought u in
-    let e = pair-key-of _ _ f.before.before.before.before.pre (taken-small _ f.first-from.ensures (found u).found.given.1) in
-    due-next _ f.before.loop.inv u.count-use.ensures (λ k. with-next k _ (others u) (u.before.pair-key.ensures ∙ e))
+    let f = sought c in
+    let e = pair-key-of _ _ f.before.before.pre (taken-small _ f.first-from.ensures (found c).found.given.1) in
+    due-next _ f.before.loop.inv c.count-use.ensures (λ k. with-next k _ (others c) (c.before.pair-key.ensures ∙ e))
 
 pub count-pairs-of-spec : {M : Type 1} → statement M
 count-pairs-of-spec =
-    tie.close (tie.spec invariant-loop decreases-loop loop-holds (λ c κs. search rules) (λ c. search rules) (λ c. search rules) same_length same-length-2 returns
+    tie.close (tie.spec invariant-loop decreases-loop loop-holds (λ c κs. search rules) (λ c. search rules) (λ c. search rules) returns
     (λ c κs. search rules) (λ c κs. search rules) (λ c κs. search rules) (λ c κs. search rules) (λ c κs. search rules) loop-less loop-again)

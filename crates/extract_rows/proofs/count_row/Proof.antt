@@ -6,7 +6,7 @@ use borrow.Author.Rules.{rules}
 use Rattle.cube.specs.Cube.{lits}
 use Rattle.expression.specs.Words.{cubes_of}
 use Rattle.extract_counts.specs.Counts.{row_gain}
-use Rattle.extract_rows.proofs.Counting.{Due, due_all, due-next, due-alike, due-done, row-none, row_next}
+use Rattle.extract_rows.proofs.Counting.{Due, due_all, due-next, due-done, row-none, row_next}
 use Rattle.extract_rows.proofs.count_row.Statement.{statement}
 use Rattle.extract_rows.proofs.count_row.Tie as tie
 
@@ -22,25 +22,16 @@ loop-holds c = (omega arith, due_all _ _ _ _)
 
 loop-again : tie.Need-loop-preserved invariant-loop decreases-loop
 loop-again c =
-    let r = c.before.before.before.before in
-    let a = r.before in
+    let a = c.before in
     let h = a.before.before.before.before in (
       omega arith,
-      due-next _ h.loop.invariant.1 r.count-two.ensures (λ k. row_next k _ _ h.loop.i
+      due-next _ h.loop.invariant.1 c.count-two.ensures (λ k. row_next k _ _ h.loop.i
           (omega (arith, h.before.number.ensures)) a.cube-at.ensures),
     )
-
--- the tables stay as long
-same_length : tie.Need-same-length invariant-loop decreases-loop
-same_length c = (due-alike c.before.loop.invariant.1).words
-
-same-length-2 : tie.Need-same-length-2 invariant-loop decreases-loop
-same-length-2 c = (due-alike c.before.loop.invariant.1).room
 
 returns : tie.Need-returns invariant-loop decreases-loop
 returns c = let h = c.before in due-done h.loop.invariant.1 (λ k. row-none k _ _ h.loop.i (omega (arith, h.before.number.ensures)))
 
 pub count-row-spec : {M : Type 1} → statement M
 count-row-spec =
-    tie.close (tie.spec invariant-loop decreases-loop (search rules) loop-holds (search rules) (search rules) (search rules) (search rules) loop-again
-    same_length same-length-2 returns)
+    tie.close (tie.spec invariant-loop decreases-loop (search rules) loop-holds (search rules) (search rules) (search rules) (search rules) loop-again returns)

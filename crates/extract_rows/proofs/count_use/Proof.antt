@@ -4,10 +4,10 @@ use Rattle.extract_rows.proofs.{Counting.counts-put, Counting.counts-take, count
 use Rattle.extract_rows.proofs.count_use.Tie as tie
 
 returns : tie.Need-returns
-returns c = let p = c.before.before.before.before in counts-put _ _ p.before.before.before.if1.true p.put.ensures
+returns c = counts-put _ _ c.before.before.before.if1.true c.put.ensures
 
 returns-2 : tie.Need-returns-2
-returns-2 c = let p = c.before.before.before.before in counts-take _ _ p.before.before.before.if1.false p.take.ensures
+returns-2 c = counts-take _ _ c.before.before.before.if1.false c.take.ensures
 
 pub count-use-spec : {M : Type 1} → statement M
-count-use-spec = tie.close (tie.spec (search rules) (search rules) (search rules) (search rules) returns (search rules) (search rules) returns-2)
+count-use-spec = tie.close (tie.spec (search rules) (search rules) returns returns-2)
