@@ -1,4 +1,6 @@
 // The form of a text: one pass over its blocks.
+#![tactic(auto)]
+
 ghost use Rattle.std.specs.Prelude.{◌≡◌, false, suc, ◌+◌, ◌≤◌, min, max, length};
 ghost use Rattle.network.specs.Held.{most_cubes};
 ghost use Rattle.blif_laws.specs.Reading.{among};

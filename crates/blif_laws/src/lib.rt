@@ -1,1 +1,2 @@
 // Networks in the Berkeley Logic Interchange Format: definitions and laws, no code.
+#![tactic(auto)]

@@ -1,4 +1,6 @@
 // The lines of a block: names, and rows. Numbers are counted in a window: mark i counts the number base + i, up to 2.
+#![tactic(auto)]
+
 ghost use Rattle.std.specs.Prelude.{◌≡◌, [], ◌∷◌, min, leb, eqb, take};
 ghost use Rattle.sets.specs.Lists.{all};
 ghost use Rattle.blif_lines.specs.Marking.{Raised, Cleared};

@@ -1,4 +1,6 @@
 // The reader of BLIF texts: 14 for the form and a gap, then 15 for what is not defined once, then 10.
+#![tactic(auto)]
+
 mod build;
 mod defining;
 

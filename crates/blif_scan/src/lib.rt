@@ -1,5 +1,7 @@
 // The joined text byte by byte and word by word, a backslash right before an LF passed over together with it; and the lines before the
 // blocks: `.model`, `.inputs`, `.outputs`.
+#![tactic(auto)]
+
 ghost use Rattle.std.specs.Prelude.{[], ◌≡◌, ◌<◌, length};
 ghost use Rattle.blif_scan.specs.Scanning.{is_joint, NextIs, EndedIs, DigitIs, NumeralIs, CalledIs};
 ghost use Rattle.letters.specs.Letters.{name_text};

@@ -6,7 +6,7 @@ use mathlib.Core.List.{List, [], ◌∷◌, ◌++◌, map, map-append, append_as
 use native.Mathlib.Omega.{arith}
 use lib.ListN.{length, get_or, take, drop, drop_of_length-le, length-drop}
 use lib.Seq.{take-take, length-take-le, get_or-take, get_or-drop}
-use Rattle.sets.{specs.Lists.is_nil, proofs.Places.drop_next, proofs.Rows.drop-take}
+use Rattle.sets.{specs.Lists.is_nil, proofs.Places.drop-next, proofs.Rows.drop-take}
 use Rattle.cube.specs.{Cube.lits, declared.Cube.Cube}
 use Rattle.letters.specs.Letters.{name_text}
 use Rattle.letters_products.specs.Spelled.{spelled}

@@ -1,4 +1,6 @@
 // The writer of BLIF texts. The writers count every byte, so that the length is known before a byte is written.
+#![tactic(auto)]
+
 ghost use Rattle.std.specs.Prelude.{◌≡◌, cond, [], ◌∷◌, map, ◌<◌};
 ghost use Rattle.sets.specs.Lists.{is_nil};
 ghost use Rattle.sets.specs.Literal.{plain_of};

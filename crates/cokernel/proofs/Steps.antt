@@ -9,7 +9,7 @@ use native.Mathlib.Omega.{arith}
 use lib.Dec.{leb, ltb, eqb}
 use lib.ListN.{length, get_or, drop, drop_of_length-le, length-append}
 use borrow.Author.Tests.{leb-true, le-leb, lt-ltb, ltb-true, ltb-false, ne_eqb, not-true}
-use Rattle.sets.{specs.Lists.all, proofs.Places.drop_next, proofs.Rows.nil-of}
+use Rattle.sets.{specs.Lists.all, proofs.Places.drop-next, proofs.Rows.nil-of}
 use Rattle.sets.specs.Sets.{mem, sub, asc, insert, without, meet, same, first_from}
 use Rattle.sets.proofs.Truth.{iff, both, together, decided, clash}
 use Rattle.sets.proofs.First.{none_first, some_first, IsFirst}

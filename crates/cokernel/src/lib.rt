@@ -1,4 +1,6 @@
 // Every co-kernel of a lent expression, in cube order.
+#![tactic(auto)]
+
 ghost use Rattle.std.specs.Prelude.{◌≡◌, cond, ◌&&◌, ◌+◌, ◌-◌, ◌*◌, ◌<◌, ◌≤◌, leb, eqb};
 ghost use Rattle.sets.specs.Word.{largest};
 ghost use Rattle.sets.specs.Lists.{all};

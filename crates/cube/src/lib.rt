@@ -1,4 +1,6 @@
 // Cubes of up to 64 variables: sets of literals, as two masks by value. The contracts speak of the ascending list of a cube's literals.
+#![tactic(auto)]
+
 ghost use Rattle.std.specs.Prelude.{◌≡◌, [], ◌%◌, eqb};
 ghost use Rattle.sets.specs.Literal.{plain_of, negated_of, variable_of, polarity_of, opposite_of};
 ghost use Rattle.sets.specs.Sets.{mem};

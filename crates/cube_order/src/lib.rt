@@ -1,4 +1,6 @@
 // The literals of a cube in turn, and the order of cubes.
+#![tactic(auto)]
+
 ghost use Rattle.std.specs.Prelude.{◌≡◌};
 ghost use Rattle.sets.specs.Lists.{is_some};
 ghost use Rattle.sets.specs.Literal.{plain_of};

@@ -1,4 +1,6 @@
 // Cubes as sets: what two have together, apart and in common, how many literals, and which contains which.
+#![tactic(auto)]
+
 ghost use Rattle.std.specs.Prelude.{◌≡◌, min, length};
 ghost use Rattle.sets.specs.Lists.{is_nil};
 ghost use Rattle.sets.specs.Sets.{sub, union, without, meet, proper, same};

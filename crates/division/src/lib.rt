@@ -1,4 +1,6 @@
 // Weak division of lent expressions. The dividend is put in cube order first, so that a cube of it is found by halving.
+#![tactic(auto)]
+
 ghost use Rattle.std.specs.Prelude.{◌≡◌, true, ◌&&◌, ◌≤◌, length};
 ghost use Rattle.sets.specs.Sets.{sub, apart, union, without};
 ghost use Rattle.cube.specs.Cube.{lits};

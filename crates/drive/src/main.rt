@@ -1,5 +1,7 @@
 // Answers requests of the line protocol, a line for a line, from standard input to standard output. Safety and an end are all that
 // is promised here; what is answered is held to the second implementation.
+#![tactic(auto)]
+
 mod expressions;
 mod images;
 mod nets;

@@ -1,4 +1,6 @@
 // A request line taken apart: groups of words, and the numbers and bytes that they write.
+#![tactic(auto)]
+
 ghost use Rattle.std.specs.Prelude.{◌≡◌, ◌+◌, ◌-◌, ◌≤◌, length, drop};
 ghost use Rattle.bytes.specs.Bytes.{index_of};
 ghost use Rattle.drive_request.specs.Words.{words_of, first_word, after_word, is_part, ahead, first_group, after_group, ends_blank, groups_of};

@@ -1,4 +1,6 @@
 // Lent cubes less those that contain another.
+#![tactic(auto)]
+
 ghost use Rattle.std.specs.Prelude.{◌≡◌, not, ◌&&◌, ◌||◌, ◌-◌, length, take, drop};
 ghost use Rattle.sets.specs.Sets.{sub, same};
 ghost use Rattle.cube.specs.Cube.{lits};

@@ -1,4 +1,6 @@
 // Whether lent words are an expression, and which refusal they meet.
+#![tactic(auto)]
+
 ghost use Rattle.std.specs.Prelude.{◌≡◌, [], ◌+◌, ◌<◌, length, get_or, drop};
 ghost use Rattle.sets.specs.Lists.{all, pairwise};
 ghost use Rattle.sets.specs.Sets.{proper};

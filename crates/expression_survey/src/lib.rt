@@ -1,4 +1,6 @@
 // What is asked of lent cubes as a whole: how many literals, of which variables, in which order, and where a cube stands.
+#![tactic(auto)]
+
 ghost use Rattle.std.specs.Prelude.{◌≡◌};
 ghost use Rattle.cube.specs.Cube.{lits};
 ghost use Rattle.expression.specs.Words.{cubes_of};

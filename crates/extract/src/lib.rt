@@ -1,4 +1,6 @@
 // Runs: the best divisor again and again, until the first reason to stop.
+#![tactic(auto)]
+
 ghost use Rattle.std.specs.Prelude.{◌≡◌, pos, ◌-ℤ◌, replicate};
 ghost use Rattle.std.proofs.Math.Option.{some};
 ghost use Rattle.network.specs.Net.{nodes, literal_count};

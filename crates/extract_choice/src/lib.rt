@@ -1,4 +1,6 @@
 // The choice of the best divisor, by the table that holds the gains of all divisors.
+#![tactic(auto)]
+
 ghost use Rattle.std.specs.Prelude.{◌≡◌, true, ◌<◌, ◌≤◌, length, pos, ◌-ℤ◌};
 ghost use Rattle.std.specs.Int.Signed.{lt_z};
 ghost use Rattle.sets.specs.Lists.{total};

@@ -1,4 +1,6 @@
 // Whether a network of so many variables can take a divisor.
+#![tactic(auto)]
+
 ghost use Rattle.std.specs.Prelude.{◌≡◌};
 ghost use Rattle.cube.specs.Cube.{lits};
 ghost use Rattle.extract_laws.specs.Divisor.{pair, sum};

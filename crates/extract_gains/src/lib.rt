@@ -1,4 +1,6 @@
 // Gains by key, in a table that is lent: a key has what was put in for it, less what was taken out.
+#![tactic(auto)]
+
 ghost use Rattle.std.specs.Prelude.{◌≡◌, ◌+◌, ◌<◌, length, get_or};
 ghost use Rattle.extract_gains.specs.Gains.{entries, slots, most_gain, many, key_at, head_of, Sound, Turns, only, none};
 ghost use Rattle.extract_gains.specs.Parts.{Missing, Finds};

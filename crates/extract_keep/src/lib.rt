@@ -1,4 +1,6 @@
 // The gains of all divisors of a network, kept from step to step: a cube that goes is taken out, one that comes is put in.
+#![tactic(auto)]
+
 ghost use Rattle.std.specs.Prelude.{◌≡◌, ◌+◌, ◌<◌, ◌≤◌, [], length, get_or};
 ghost use Rattle.expression.specs.Words.{cubes_of};
 ghost use Rattle.network.specs.Parts.{nodes_of};

@@ -1,4 +1,6 @@
 // Divisors as numbers: the key by which a table holds a divisor's gain.
+#![tactic(auto)]
+
 ghost use Rattle.std.specs.Prelude.{◌≡◌, ◌+◌, ◌*◌, ◌%◌};
 ghost use Rattle.std.proofs.Math.Option.{some};
 ghost use Rattle.sets.specs.Lists.{or_else};

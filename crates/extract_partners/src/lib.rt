@@ -1,4 +1,6 @@
 // The sums of every two cubes of a node. The partners of a cube are found by what is left of it without one or two of its literals.
+#![tactic(auto)]
+
 ghost use Rattle.std.specs.Prelude.{◌≡◌, true, ◌∷◌, [], map, suc, ◌+◌, ◌*◌, ◌<◌, ◌≤◌, length, get_or, take};
 ghost use Rattle.sets.specs.Lists.{total};
 ghost use Rattle.cube.specs.Cube.{width, lits};

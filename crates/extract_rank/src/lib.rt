@@ -1,4 +1,6 @@
 // The better of two steps.
+#![tactic(auto)]
+
 ghost use Rattle.std.specs.Prelude.{◌≡◌, [], ◌∷◌};
 ghost use Rattle.sets.specs.Sets.{before, lex};
 ghost use Rattle.cube.specs.Cube.{lits};

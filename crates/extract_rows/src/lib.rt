@@ -1,4 +1,6 @@
 // A cube with each of some others: the gains of its divisors are put into the table, or taken out of it.
+#![tactic(auto)]
+
 ghost use Rattle.std.specs.Prelude.{◌≡◌, ◌+◌, ◌*◌, ◌<◌};
 ghost use Rattle.cube.specs.Cube.{width, lits};
 ghost use Rattle.expression.specs.Words.{cubes_of};

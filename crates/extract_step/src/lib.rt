@@ -1,4 +1,6 @@
 // One step: in every use the divisor is replaced by the literal of a new node that holds it.
+#![tactic(auto)]
+
 ghost use Rattle.std.specs.Prelude.{◌≡◌, true, [], map, ◌+◌, ◌≤◌, length, replicate};
 ghost use Rattle.cube.specs.Cube.{width, lits};
 ghost use Rattle.expression.specs.Words.{cubes_of, Appends};

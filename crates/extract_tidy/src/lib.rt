@@ -1,4 +1,6 @@
 // Networks with their cubes in cube order.
+#![tactic(auto)]
+
 ghost use Rattle.std.specs.Prelude.{◌≡◌, map, ◌≤◌, length, replicate};
 ghost use Rattle.sets.specs.Lists.{all};
 ghost use Rattle.expression.specs.Expression.{ordered, sort};

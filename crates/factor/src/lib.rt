@@ -1,5 +1,7 @@
 // The factored text of a lent expression. A sum writer and a product writer call each other; the literal count of the cubes falls.
 // The writers count every byte, so that the length is known before a byte is written.
+#![tactic(auto)]
+
 ghost use Rattle.std.specs.Prelude.{◌≡◌, ◌*◌, ◌<◌, ◌≤◌, length};
 ghost use Rattle.cube.specs.Cube.{width};
 ghost use Rattle.letters.specs.Laid.{Laid};

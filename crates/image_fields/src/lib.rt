@@ -1,1 +1,2 @@
 // Bit fields and bytes: definitions and laws alone.
+#![tactic(auto)]

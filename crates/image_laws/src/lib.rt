@@ -1,4 +1,6 @@
 // The widths of an image's fields in edition 1, tied to the definitions; these and the laws of images are in specs/ and proofs/.
+#![tactic(auto)]
+
 ghost use Rattle.std.specs.Prelude.{◌≡◌, [], ◌∷◌, ◌+◌};
 ghost use Rattle.image_fields.specs.Fields.{bytes_for};
 ghost use Rattle.image_laws.specs.Widths.{edition_field, edition1, head_size, most_cube_bits, most_node_bits, most_bits};

@@ -1,4 +1,6 @@
 // The reader of images: fields in turn, then what is left over, then the sums, then the order. A fault leaves at once.
+#![tactic(auto)]
+
 mod fields;
 mod nodes;
 

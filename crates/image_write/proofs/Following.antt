@@ -5,7 +5,7 @@ use mathlib.Core.Bool.{Bool}
 use mathlib.Core.List.{List, [], ◌∷◌, ◌++◌, map, append-nil}
 use native.Mathlib.Omega.{arith}
 use lib.ListN.{length, get_or, take, drop, length-take, length-drop, drop_of_length-le}
-use Rattle.sets.{specs.Masks.bit, proofs.Places.drop_next}
+use Rattle.sets.{specs.Masks.bit, proofs.Places.drop-next}
 use Rattle.expression.specs.Words.{cubes_of}
 use Rattle.image_fields.specs.Fields.{bits_of, field_bits}
 use Rattle.network_nodes.{specs.Nodes.cut, proofs.Cutting.cut-node, proofs.Cutting.cut-length}

@@ -1,5 +1,7 @@
 // Texts written into a lent room: bytes, numbers and names. Each writer counts every byte and stores those that there is room for,
 // so that a text's length is known before a byte of it is written.
+#![tactic(auto)]
+
 ghost use Rattle.std.specs.Prelude.{◌≡◌, [], ◌∷◌, ◌+◌};
 ghost use Rattle.letters.specs.Letters.{decimal, name_text};
 ghost use Rattle.letters.specs.Laid.{counted, Laid};

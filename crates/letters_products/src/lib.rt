@@ -1,4 +1,6 @@
 // Literals and cubes as texts, written into a lent room.
+#![tactic(auto)]
+
 ghost use Rattle.std.specs.Prelude.{◌≡◌, cond, [], ◌∷◌};
 ghost use Rattle.sets.specs.Sets.{first_from};
 ghost use Rattle.cube.specs.Cube.{lits};

@@ -1,4 +1,6 @@
 // Networks by value, and the limits on them.
+#![tactic(auto)]
+
 ghost use Rattle.std.specs.Prelude.{◌≡◌, [], ◌+◌, min};
 ghost use Rattle.network.specs.Handed.{AllZero, Told, refuses, Carries};
 ghost use Rattle.sets.specs.Word.{largest};

@@ -1,4 +1,6 @@
 // Networks evaluated on one setting of their inputs.
+#![tactic(auto)]
+
 ghost use Rattle.std.specs.Prelude.{◌≡◌, true, [], map, ◌<◌, ◌≤◌, length, get_or, take};
 ghost use Rattle.sets.specs.Sets.{insert};
 ghost use Rattle.sets.specs.Masks.{bit, packed};

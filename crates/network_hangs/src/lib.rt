@@ -1,4 +1,6 @@
 // Which divisors a node of a network hangs on. A set of variables is a cube of their plain literals.
+#![tactic(auto)]
+
 ghost use Rattle.std.specs.Prelude.{[], ◌∷◌, ◌+◌, ◌<◌, ◌≤◌, leb, get_or};
 ghost use Rattle.sets.specs.Lists.{keep};
 ghost use Rattle.sets.specs.Sets.{union};

@@ -3,7 +3,7 @@ use Prim.Native.Nat.{ℕ, ◌+◌, ◌<◌, ◌≤◌}
 use mathlib.Core.{Path.◌≡◌, List.List}
 use mathlib.Core.Bool.{Bool, true, false, cond, not}
 use lib.ListN.{length, get_or, drop, drop_of_length-le}
-use Rattle.sets.{specs.Lists.any, specs.Lists.all, proofs.Places.drop_next}
+use Rattle.sets.{specs.Lists.any, specs.Lists.all, proofs.Places.drop-next}
 
 module _ {A : Type 0} (l : List A) (i : ℕ) (p : A → Bool) where
   -- by every: all of them, or any

@@ -1,4 +1,6 @@
 // Known literals: whether cubes have no others, and one variable more with its value.
+#![tactic(auto)]
+
 ghost use Rattle.std.specs.Prelude.{◌≡◌, ◌<◌};
 ghost use Rattle.cube.specs.Cube.{lits, joined, width};
 ghost use Rattle.expression.specs.Words.{cubes_of};

@@ -1,4 +1,6 @@
 // The listing of a network's divisors: again and again the smallest number whose own divisors are all listed.
+#![tactic(auto)]
+
 ghost use Rattle.std.specs.Prelude.{◌≡◌, true, false, not, ◌&&◌, [], ◌<◌, ◌≤◌};
 ghost use Rattle.sets.specs.Lists.{all};
 ghost use Rattle.sets.specs.Literal.{plain_of};

@@ -1,4 +1,6 @@
 // Which output of a network hangs on which divisor: the dispatcher's map as a table of cells.
+#![tactic(auto)]
+
 ghost use Rattle.std.specs.Prelude.{◌≡◌, ◌<◌};
 ghost use Rattle.sets.specs.Literal.{plain_of};
 ghost use Rattle.sets.specs.Sets.{mem};

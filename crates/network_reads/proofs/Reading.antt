@@ -10,7 +10,7 @@ use native.Mathlib.Omega.{arith}
 use lib.Dec.{leb, eqb}
 use lib.ListN.{length, get_or, drop, drop_of_length-le}
 use borrow.Author.Tests.{eq-eqb, ne_eqb, eqb-true, eqb-false, le-leb, lt-leb}
-use Rattle.sets.{specs.Literal.plain_of, specs.Literal.negated_of, specs.Sets.mem, specs.Sets.asc, proofs.Lists.◌∈◌, proofs.Places.drop_next}
+use Rattle.sets.{specs.Literal.plain_of, specs.Literal.negated_of, specs.Sets.mem, specs.Sets.asc, proofs.Lists.◌∈◌, proofs.Places.drop-next}
 use Rattle.sets.proofs.Truth.{iff, both, either, or_left, or_right, clash, decided, compared, below, equal, beyond}
 use Rattle.sets.proofs.Sets.{mem-of, of_mem, insert-mem, union-mem, union-asc}
 use Rattle.cube.{specs.Cube.width, specs.Cube.lits, specs.declared.Cube.Cube, proofs.Lits.lits-inside}

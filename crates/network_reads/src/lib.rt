@@ -1,4 +1,6 @@
 // The variables that an expression reads, as a cube of their plain literals.
+#![tactic(auto)]
+
 ghost use Rattle.std.specs.Prelude.{cond, [], ◌∷◌, ◌<◌};
 ghost use Rattle.sets.specs.Sets.{mem};
 ghost use Rattle.cube.specs.Cube.{width, lits};

@@ -1,4 +1,6 @@
 // The rules on networks, and the literal count of a network by the rules.
+#![tactic(auto)]
+
 ghost use Rattle.std.specs.Prelude.{◌≡◌, ◌≤◌, eqb, length};
 ghost use Rattle.sets.specs.Lists.{all, total};
 ghost use Rattle.expression.specs.Expression.{expression, literals_of};

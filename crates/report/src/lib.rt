@@ -1,4 +1,6 @@
 // The report on a table text: the literal count at the start, a line for each step, the count at the end and the stop reason; or the refusal.
+#![tactic(auto)]
+
 ghost use Rattle.std.specs.Prelude.{◌≡◌, true, ◌++◌, pos, ◌≤ℤ◌};
 ghost use Rattle.std.proofs.Math.Option.{none};
 ghost use Rattle.letters.specs.Letters.{decimal};

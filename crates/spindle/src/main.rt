@@ -1,5 +1,7 @@
 // The shop's program: reports, images, BLIF texts, and the dispatcher's map. Safety and an end are all that is promised here; what a
 // table, an image or a text answers is promised by the crates that are called.
+#![tactic(auto)]
+
 mod before;
 mod fault;
 mod file;

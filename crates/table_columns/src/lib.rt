@@ -1,4 +1,6 @@
 // The place of the refusal of a line: the byte that it points to.
+#![tactic(auto)]
+
 ghost use Rattle.std.specs.Prelude.{◌≡◌, ◌≤◌, max, eqb, drop};
 ghost use Rattle.letters.specs.Meaning.{is_digit};
 ghost use Rattle.table_rows.specs.Lines.{is_place, is_mark};

@@ -10,7 +10,7 @@ use native.Mathlib.Omega.{arith}
 use lib.Dec.{eqb, leb}
 use lib.ListN.{length, get_or, drop, drop_of_length-le}
 use borrow.Author.Tests.{eq-eqb, ne_eqb, le-leb, lt-leb}
-use Rattle.sets.{specs.Lists.all, specs.Sets.same, proofs.Truth.refuted, proofs.Sets.same-eq, proofs.Places.drop_next}
+use Rattle.sets.{specs.Lists.all, specs.Sets.same, proofs.Truth.refuted, proofs.Sets.same-eq, proofs.Places.drop-next}
 use Rattle.letters.specs.Meaning.{read_back, is_digit}
 use Rattle.table_lines.{specs.Text.starts_blank, specs.Text.trim_front, proofs.Ends.front-le, proofs.Blanks.blank-shorter, proofs.Blanks.shorter-blank}
 use Rattle.table_kinds.specs.Kinds.{number_of, argument, named, kind_of}

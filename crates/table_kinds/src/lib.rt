@@ -1,4 +1,6 @@
 // The kind of a line: what is left of it says that it is empty, a number named, the end, or another.
+#![tactic(auto)]
+
 ghost use Rattle.std.specs.Prelude.{◌≡◌, ◌||◌, ◌+◌, ◌≤◌};
 ghost use Rattle.sets.specs.Sets.{same};
 ghost use Rattle.table_kinds.specs.Kinds.{number_of, argument, named, kind_of};

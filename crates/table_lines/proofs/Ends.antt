@@ -8,7 +8,7 @@ use lib.Dec.{eqb}
 use lib.ListN.{length, get_or, take, drop, length-drop, drop_of_length-le}
 use lib.Seq.{take-suc, take_all}
 use borrow.Author.Tests.{eq-eqb, ne_eqb}
-use Rattle.sets.{specs.Lists.is_nil, proofs.Places.drop_next}
+use Rattle.sets.{specs.Lists.is_nil, proofs.Places.drop-next}
 use Rattle.table_lines.specs.Text.{is_blank, line_of, uncommented, trim_front, trim_end}
 use Rattle.table_lines.specs.Parts.{until_byte}
 

@@ -1,4 +1,6 @@
 // The lines of a table text: where each ends, and what is left of it.
+#![tactic(auto)]
+
 ghost use Rattle.std.specs.Prelude.{◌≡◌, ◌+◌, length, drop};
 ghost use Rattle.table_lines.specs.Text.{is_blank, line_of, uncommented, trim_front, trim_end, content_span};
 ghost use Rattle.table_lines.specs.Parts.{until_byte};

@@ -1,4 +1,6 @@
 // The names that a table gives its inputs, in comment lines before the first cube line: `# x0 tank high`.
+#![tactic(auto)]
+
 ghost use Rattle.std.specs.Prelude.{[], ◌≡◌, ◌<◌};
 ghost use Rattle.table_names.specs.Names.{after, after_number, name_after, named, begins_cube, name_of};
 

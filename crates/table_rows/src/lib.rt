@@ -1,4 +1,6 @@
 // The cube line that a line of a table text may be: its places and its marks, the cube, the mask and the rows.
+#![tactic(auto)]
+
 ghost use Rattle.std.specs.Prelude.{◌≡◌, map, ◌<◌, ◌≤◌, eqb, length, take};
 ghost use Rattle.sets.specs.Lists.{all};
 ghost use Rattle.sets.specs.Masks.{packed};

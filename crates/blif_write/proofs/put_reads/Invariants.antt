@@ -1,0 +1,15 @@
+-- `blif_write::put_reads` meets its contract. The loop's invariant: the names of the variables from v on are due. Assumes nothing.
+use mathlib.Core.Path.{◌≡◌}
+use Prim.Native.Nat.{◌-◌, ◌≤◌}
+use lib.ListN.{length}
+use Rattle.cube.specs.Cube.{width, lits}
+use Rattle.letters.proofs.Laying.{Due}
+use Rattle.blif_write.specs.Parts.{plains_of}
+use Rattle.blif_write.proofs.Walking.{plains_from}
+use Rattle.blif_write.proofs.put_reads.Given as goal
+
+abbrev pub invariant-loop-v : goal.invariant-loop-v
+invariant-loop-v l = (l.v ≤ width) × Due l.initial.o l.initial.p (named (plains_of (lits l.set))) l.o l.p (named (plains_from (lits l.set) l.v)) × (length l.o ≡ length l.initial.o)
+
+abbrev pub decreases-loop-v : goal.decreases-loop-v
+decreases-loop-v l = width - l.v

@@ -1,0 +1,29 @@
+-- `cube_order::compare` meets its contract. Assumes nothing.
+use Rattle.sets.proofs.Ordering.{none-odd, left-before, left_after, right-before, right-after}
+use Rattle.cube.proofs.Verdict.{is-before, is_same, is-after}
+use Rattle.cube.specs.Cube.{answer}
+use mathlib.Core.Path.{sym, ◌∙◌, ap}
+use Rattle.cube_order.proofs.compare.Goals as goal
+
+pub returns-then-goes_on : goal.returns-then-goes_on
+returns-then-goes_on c =
+    is-before _ _ (left-before 64 _ _ _ _ _ (ap answer (sym c.in-At.is) ∙ c.first_at-f.ensures)
+    (sym c.has.ensures ∙ c.if-has.true) (sym c.goes_on.ensures ∙ c.if-goes_on.true))
+
+pub returns-then-has : goal.returns-then-has
+returns-then-has c =
+    is-after _ _ (left_after 64 _ _ _ _ _ (ap answer (sym c.in-At.is) ∙ c.first_at-f.ensures)
+    (sym c.has.ensures ∙ c.if-has.true) (sym c.goes_on.ensures ∙ c.if-goes_on.false))
+
+pub returns-then-goes_on-2 : goal.returns-then-goes_on-2
+returns-then-goes_on-2 c =
+    is-after _ _ (right-after 64 _ _ _ _ _ (ap answer (sym c.in-At.is) ∙ c.first_at-f.ensures)
+    (sym c.has.ensures ∙ c.if-has.false) (sym c.goes_on-in-At.ensures ∙ c.if-goes_on-2.true))
+
+pub returns-in-Nothing : goal.returns-in-Nothing
+returns-in-Nothing c = is_same _ _ (none-odd 64 _ _ _ _ (ap answer (sym c.in-Nothing.is) ∙ c.first_at-f.ensures))
+
+pub returns-else-goes_on-2 : goal.returns-else-goes_on-2
+returns-else-goes_on-2 c =
+    is-before _ _ (right-before 64 _ _ _ _ _ (ap answer (sym c.in-At.is) ∙ c.first_at-f.ensures)
+    (sym c.has.ensures ∙ c.if-has.false) (sym c.goes_on-in-At.ensures ∙ c.if-goes_on-2.false))

@@ -1,0 +1,42 @@
+-- The answers of `division::fits_all`.
+use Prim.Native.Nat.{ℕ}
+use mathlib.Core.Path.{◌≡◌, sym, ◌∙◌, ap}
+use mathlib.Core.{Bool.Bool, Bool.◌&&◌, List.List}
+use native.Mathlib.Omega.{arith}
+use lib.ListN.{get_or}
+use borrow.Author.Rules.{rules}
+use borrow.Author.Tests.{not-true, not-false}
+use Rattle.sets.specs.Sets.{apart, union}
+use Rattle.sets.proofs.Places.{all-stop, all-on, all_done}
+use Rattle.cube.specs.Cube.{lits}
+use Rattle.expression.specs.{Words.cubes_of, Expression.has}
+use Rattle.division.specs.Division.{in_quotient}
+use Rattle.division.proofs.fits_all.Goals as goal
+use Rattle.division.proofs.fits_all.Goals.{At-loop-i, Start}
+
+-- the test of one cube of d
+abbrev test : Start → List ℕ → Bool
+test c b = apart (lits c.args.c) b && has (union (lits c.args.c) b) (cubes_of c.args.f.now)
+
+abbrev cubes : At-loop-i → List (List ℕ)
+cubes l = cubes_of l.args.d.now
+
+-- what the test says of the cube at place i
+tested : (c : tie.After-fits2) → let l = c.before.before.before.before in
+    test (start l) (get_or (cubes l) l.loop.i []) ≡ c.fits2.result
+tested c = ap (test (start c.before.before.before.before)) (sym c.before.cube-at.ensures) ∙ sym c.fits2.ensures
+
+pub returns-then-not-fits : goal.returns-then-not-fits
+unfolding in_quotient
+returns-then-not-fits c =
+    sym (all-stop (cubes (goal.at.returns-then-not-fits c).At-loop-i) c.loop-i.i [] (omega arith) (test (goal.at.returns-then-not-fits c).Start) (tested (goal.at.returns-then-not-fits c).After-fits ∙ not-true _ c.if-not-fits.true)) ∙ c.loop-i.invariant.1
+
+pub loop-i-preserved : goal.loop-i-preserved
+unfolding in_quotient
+loop-i-preserved c =
+    (search rules, sym (all-on (cubes (goal.at.loop-i-preserved c).At-loop-i) c.loop-i.i [] (omega arith) (test (goal.at.loop-i-preserved c).Start) (tested (goal.at.loop-i-preserved c).After-fits ∙ not-false _ c.if-not-fits.false)) ∙ c.loop-i.invariant.1)
+
+pub returns : goal.returns
+unfolding in_quotient
+returns c =
+    sym (all_done (cubes (goal.at.returns c).At-loop-i) c.loop-i.i (omega arith) (test (goal.at.returns c).Start)) ∙ c.loop-i.invariant.1

@@ -1,0 +1,9 @@
+-- `expression::word_at` meets its contract. Assumes nothing.
+use borrow.Author.Tests.{lt-ltb, le-ltb}
+use Rattle.expression.proofs.word_at.Goals as goal
+
+pub returns-then-i-s : goal.returns-then-i-s
+returns-then-i-s c = rw (lt-ltb _ _ c.if-i-s.true)
+
+pub returns-else-i-s : goal.returns-else-i-s
+returns-else-i-s c = rw (le-ltb _ _ c.if-i-s.false)

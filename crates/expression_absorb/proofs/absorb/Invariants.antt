@@ -1,0 +1,18 @@
+-- `expression_absorb::absorb` meets its contract. The outer loop's invariant: what stands after i cubes are passed; the inner loop's: none
+-- of the first j cubes drops cube i. Assumes nothing.
+use mathlib.Core.Path.{◌≡◌}
+use mathlib.Core.Bool.{false, not, ◌&&◌, ◌||◌}
+use Prim.Native.Nat.{ℕ, ◌≤◌, ◌<◌, ◌-◌}
+use lib.Dec.{ltb}
+use lib.ListN.{get_or}
+use Rattle.sets.specs.Sets.{sub, same}
+use Rattle.cube.specs.Cube.{lits}
+use Rattle.expression.{specs.Words.cubes_of}
+use Rattle.expression_absorb.proofs.absorb.Given as goal
+
+abbrev pub invariant-loop-j : goal.invariant-loop-j
+invariant-loop-j l =
+    (l.i ≡ l.initial.i) × (l.j ≤ l.n) × ((k : ℕ) → k < l.j → (sub (get_or (cubes_of l.s) k []) (lits l.c) && (ltb k l.i || not (same (get_or (cubes_of l.s) k []) (lits l.c)))) ≡ false)
+
+abbrev pub decreases-loop-j : goal.decreases-loop-j
+decreases-loop-j l = l.n - l.j

@@ -1,0 +1,8 @@
+-- `extract_keep::put_in` meets its contract. Assumes nothing.
+use Rattle.extract_keep.proofs.{Keeping.come-shift}
+use Rattle.extract_keep.proofs.put_in.Goals as goal
+
+pub returns : goal.returns
+returns c =
+    come-shift _ _ _ _ c.args.a.now c.args.b.now c.args.i c.args.j _ c.requires c.number-n.ensures c.cube_at.ensures c.part.ensures.0
+    c.part-2.ensures.0 c.count_cube.ensures

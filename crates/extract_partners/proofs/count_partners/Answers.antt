@@ -1,0 +1,81 @@
+-- The answers of `extract_partners::count_partners`.
+use Prim.Native.Nat.{ℕ, ◌%◌, ◌<◌}
+use mathlib.Core.Path.{◌≡◌, ap, ◌∙◌}
+use mathlib.Core.Logic.{inl, inr}
+use native.Mathlib.Omega.{arith}
+use lib.ListN.{length, get_or}
+use Rattle.expression.specs.Words.{cubes_of}
+use Rattle.extract_partners.specs.Table.{first, place_of}
+use Rattle.extract_partners.proofs.Chains.{Walk, walk_first, walk_end, walk_at, walk-place, walk-below, walk-falls, walk-met, walk-passed}
+use Rattle.extract_partners.proofs.count_partners.Goals as goal
+use Rattle.extract_partners.proofs.count_partners.Goals.{At-loop-at, In-loop-at}
+
+pub loop-at-init : goal.loop-at-init
+loop-at-init c s l =
+    walk_first _ _ _ _ _ _ s l _ _ _ (omega arith)
+    (c.wide-at.ensures ∙ ap (λ x. get_or c.args.r.now (x % first) 0) c.wide.ensures)
+
+-- in a turn of the loop the walk stands at a removal
+going : (h : At-loop-at) → Walk (cubes_of h.args.f.now) h.args.ws.now h.args.r.now h.args.e
+    (get_or h.args.ws.now h.args.e 0) h.args.code h.requires.0 h.requires.3 h.args.t.now h.args.g.now h.loop-at.t h.loop-at.g h.loop-at.at
+going h = h.loop-at.invariant h.requires.0 h.requires.3
+
+entry : (c : In-loop-at) → ℕ
+entry c = (walk_at _ _ _ _ _ _ c.requires.0 c.requires.3 ((let it : Walk (cubes_of c.args.f.now) c.args.ws.now c.args.r.now c.args.e (get_or c.args.ws.now c.args.e 0) c.args.code c.requires.0 c.requires.3 c.args.t.now c.args.g.now c.loop-at.t c.loop-at.g c.loop-at.at = c.loop-at.invariant c.requires.0 c.requires.3 in it)) c.loop-at-test.true).entry
+
+place : (c : In-loop-at) → c.loop-at.at ≡ place_of (entry c)
+unfolding entry
+place c = walk-place _ _ _ _ _ _ c.requires.0 c.requires.3 ((let it : Walk (cubes_of c.args.f.now) c.args.ws.now c.args.r.now c.args.e (get_or c.args.ws.now c.args.e 0) c.args.code c.requires.0 c.requires.3 c.args.t.now c.args.g.now c.loop-at.t c.loop-at.g c.loop-at.at = c.loop-at.invariant c.requires.0 c.requires.3 in it)) c.loop-at-test.true
+
+within : (c : In-loop-at) → (entry c < length c.args.ws.now) × (entry c < 16384)
+unfolding entry
+within c =
+    let b = walk-below _ _ _ _ _ _ c.requires.0 c.requires.3 ((let it : Walk (cubes_of c.args.f.now) c.args.ws.now c.args.r.now c.args.e (get_or c.args.ws.now c.args.e 0) c.args.code c.requires.0 c.requires.3 c.args.t.now c.args.g.now c.loop-at.t c.loop-at.g c.loop-at.at = c.loop-at.invariant c.requires.0 c.requires.3 in it)) c.loop-at-test.true in
+    (omega (arith, c.requires.1), omega (arith, c.requires.1, c.requires.2))
+
+pub loop-at-smaller : goal.loop-at-smaller
+loop-at-smaller c =
+    omega (arith, c.wide-at-in-loop-at.ensures, walk-falls _ _ _ _ _ _ c.requires.0 c.requires.3 (going (goal.at.loop-at-smaller c).At-loop-at) c.loop-at-test.true)
+
+pub loop-at-preserved : goal.loop-at-preserved
+loop-at-preserved c s l =
+    let n = c.loop-at.invariant s l in
+    elim c.if-r-at.branch [
+      | inl (w, a, b, k, u, p, q) ↦ rw (p, q)
+          (walk-met _ _ _ _ _ _ s l n c.loop-at-test.true (omega (arith, walk-place _ _ _ _ _ _ s l n c.loop-at-test.true)) c.wide-at-in-loop-at.ensures
+          u.ensures)
+      | inr (w, p, q) ↦ rw (p, q) (walk-passed _ _ _ _ _ _ s l n c.loop-at-test.true w.left c.wide-at-in-loop-at.ensures)
+    ]
+
+pub returns : goal.returns
+returns c = walk_end _ _ _ _ _ _ c.requires.0 c.requires.3 (going (goal.at.returns c).At-loop-at) c.loop-at-test.false
+
+pub offset_bounds-ws-e : goal.offset_bounds-ws-e
+offset_bounds-ws-e c = omega (arith, c.requires.1, c.requires.2)
+
+pub bounds-ws-e : goal.bounds-ws-e
+bounds-ws-e c = c.requires.1
+
+pub overflow_add-at : goal.overflow_add-at
+overflow_add-at c = omega (arith, place c, within c)
+
+pub offset_bounds-r-at : goal.offset_bounds-r-at
+offset_bounds-r-at c = omega (arith, place c, within c)
+
+pub bounds-r-at : goal.bounds-r-at
+bounds-r-at c = omega (arith, place (goal.at.bounds-r-at c).In-loop-at, within (goal.at.bounds-r-at c).In-loop-at)
+
+pub offset_bounds-ws-at : goal.offset_bounds-ws-at
+offset_bounds-ws-at c = omega (arith, place (goal.at.offset_bounds-ws-at c).In-loop-at, within (goal.at.offset_bounds-ws-at c).In-loop-at)
+
+pub bounds-ws-at : goal.bounds-ws-at
+bounds-ws-at c = omega (arith, place (goal.at.bounds-ws-at c).In-loop-at, within (goal.at.bounds-ws-at c).In-loop-at)
+
+pub count_use-requires : goal.count_use-requires
+count_use-requires c = c.requires.4
+
+pub offset_bounds-r-at-in-loop-at : goal.offset_bounds-r-at-in-loop-at
+offset_bounds-r-at-in-loop-at c = omega (arith, place (goal.at.offset_bounds-r-at-in-loop-at c).In-loop-at, within (goal.at.offset_bounds-r-at-in-loop-at c).In-loop-at)
+
+pub bounds-r-at-in-loop-at : goal.bounds-r-at-in-loop-at
+bounds-r-at-in-loop-at c = omega (arith, place (goal.at.bounds-r-at-in-loop-at c).In-loop-at, within (goal.at.bounds-r-at-in-loop-at c).In-loop-at)

@@ -1,0 +1,40 @@
+-- The answers of `table::collect`.
+use mathlib.Core.Path.{◌≡◌, refl, sym, ◌∙◌, subst}
+use mathlib.Core.Logic.{inl, inr}
+use Prim.Native.Nat.{ℕ}
+use native.Mathlib.Omega.{arith}
+use Rattle.expression.{specs.Words.Appends, proofs.Words.spare-length}
+use Rattle.table.specs.Parts.{pick}
+use Rattle.table.proofs.Picking.{pick-none, pick-skip, pick_put, pick-room}
+use borrow.Author.Rules.{rules}
+use Rattle.table.proofs.collect.Goals as goal
+
+pub loop-i-init : goal.loop-i-init
+loop-i-init c = (omega arith, pick-none _ c.requires.source _ _, refl)
+
+pub overflow_add-to : goal.overflow_add-to
+overflow_add-to c =
+    let r = pick-room _ c.requires.source c.loop-i.i (omega arith) c.loop-i.invariant.1 (sym c.is_marked.ensures ∙ c.if-is_marked.true) c.requires.fits in
+    record { fits = omega (arith, spare-length c.args.out.now) }
+
+pub loop-i-preserved : goal.loop-i-preserved
+loop-i-preserved c =
+    elim c.if-is_marked.branch [
+      | inl (w, p, q, r, o, k, e, n) ↦ rw (e, n) (
+        omega arith,
+        pick_put _ c.requires.source c.loop-i.i (omega arith) c.loop-i.invariant.1 (sym c.is_marked.ensures ∙ w.taken) c.requires.fits q.ensures
+            r.ensures,
+        search rules,
+      )
+      | inr (w, e, n) ↦ rw (e, n) (
+        omega arith,
+        pick-skip _ c.requires.source c.loop-i.i (omega arith) c.loop-i.invariant.1 (sym c.is_marked.ensures ∙ w.left),
+        c.loop-i.invariant.2,
+      )
+    ]
+
+pub returns : goal.returns
+returns c =
+    let a = c.args in
+    let e : c.loop-i.i ≡ a.kept = omega arith in
+    subst (λ (k : ℕ). Appends a.out.now c.loop-i.out a.at (pick a.j a.words.now a.marks.now k) c.loop-i.to) e c.loop-i.invariant.1

@@ -1,0 +1,27 @@
+-- The answers of `table_columns::one_place`.
+use Prim.Native.Nat.{◌+◌}
+use mathlib.Core.Path.{◌≡◌, sym, ◌∙◌}
+use mathlib.Core.Logic.{inl, inr}
+use native.Mathlib.Omega.{arith}
+use lib.ListN.{drop}
+use Rattle.table_columns.specs.Columns.{one_place}
+use Rattle.table_columns.proofs.Counting.{one-stop, one-passed, one_on, one-done}
+use Rattle.table_columns.proofs.one_place.Goals as goal
+
+pub returns-then-left-eq0 : goal.returns-then-left-eq0
+returns-then-left-eq0 c =
+    sym (one-stop c.args.o.now c.loop-i.i c.loop-i.left c.loop-i-test.true c.if-o-i-eq49.true c.if-left-eq0.true) ∙ c.loop-i.invariant.1
+
+pub loop-i-preserved : goal.loop-i-preserved
+loop-i-preserved c =
+    let o = c.args.o.now in
+    let i = c.loop-i.i in
+    let e : (i + 1) + one_place c.if-o-i-eq49.left (drop (i + 1) o) ≡ i + one_place c.loop-i.left (drop i o) = elim c.if-o-i-eq49.branch [
+      | inl (t, z, q) ↦ rw q (sym (one-passed o i c.loop-i.left c.loop-i-test.true t.taken z.left))
+      | inr (t, q) ↦ rw q (sym (one_on o i c.loop-i.left c.loop-i-test.true t.left))
+    ] in
+    (omega arith, e ∙ c.loop-i.invariant.1)
+
+pub returns : goal.returns
+returns c =
+    sym (one-done c.args.o.now c.loop-i.i c.loop-i.left c.loop-i-test.false) ∙ c.loop-i.invariant.1
