@@ -1,15 +1,17 @@
 -- The answers of `blif_form::walk`.
-use Prim.Native.Nat.{ℕ}
+use Prim.Native.Nat.{ℕ, ◌-◌}
 use mathlib.Core.Path.{◌≡◌, refl, ◌∙◌, subst}
 use mathlib.Core.{Logic.inl, Logic.inr, List.List}
 use mathlib.Core.Bool.{Bool, true, false}
 use native.Mathlib.Omega.{arith}
+use borrow.Author.Rules.{rules}
 use borrow.Author.Tests.{not-true, not-false}
+use lib.ListN.{length}
 use Rattle.letters_products.specs.Spelled.{spelled}
 use Rattle.blif_scan.specs.{Scanning.EndedIs, declared.Ended.Ended}
 use Rattle.blif_form.specs.Surveying.{BlockBy}
 use Rattle.blif_scan.specs.declared.Ended.TheVariants as Ended
-use Rattle.blif_form.proofs.Surveying.{passed_none, passed-more, passed-few, walked, walked-not}
+use Rattle.blif_form.proofs.Surveying.{Passed, passed_none, passed-more, passed-few, walked, walked-not}
 use Rattle.blif_form.proofs.walk.Goals as goal
 use Rattle.blif_form.proofs.walk.Goals.{After-keyword-e, After-read_block-b, At-loop-q}
 

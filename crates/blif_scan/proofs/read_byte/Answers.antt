@@ -1,12 +1,13 @@
 -- The answers of `blif_scan::read_byte`.
-use Prim.Native.Nat.{ℕ, ◌+◌, ◌<◌}
+use Prim.Native.Nat.{ℕ, ◌+◌, ◌-◌, ◌<◌, ◌≤◌}
 use mathlib.Core.Path.{◌≡◌, refl, sym, ◌∙◌}
 use mathlib.Core.{Bool.true, List.List}
 use native.Mathlib.Omega.{arith}
 use lib.ListN.{length}
+use borrow.Author.Rules.{rules}
 use borrow.Author.Tests.{not-true, not-false}
 use Rattle.blif_laws.proofs.Breaking.{joined-done}
-use Rattle.blif_scan.specs.Scanning.{is_joint}
+use Rattle.blif_scan.specs.Scanning.{left, is_joint}
 use Rattle.blif_scan.proofs.Scanning.{joint-inside, left-joint, left-byte}
 use Rattle.blif_scan.proofs.read_byte.Goals as goal
 use Rattle.blif_scan.proofs.read_byte.Goals.{Else-not-is_joint}

@@ -1,9 +1,9 @@
 -- The answers of `division::fits_all`.
-use Prim.Native.Nat.{ℕ}
+use Prim.Native.Nat.{ℕ, ◌≤◌, ◌-◌}
 use mathlib.Core.Path.{◌≡◌, sym, ◌∙◌, ap}
-use mathlib.Core.{Bool.Bool, Bool.◌&&◌, List.List}
+use mathlib.Core.{Bool.Bool, Bool.◌&&◌, List.List, List.[]}
 use native.Mathlib.Omega.{arith}
-use lib.ListN.{get_or}
+use lib.ListN.{length, drop, get_or}
 use borrow.Author.Rules.{rules}
 use borrow.Author.Tests.{not-true, not-false}
 use Rattle.sets.specs.Sets.{apart, union}

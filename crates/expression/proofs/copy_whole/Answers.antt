@@ -1,9 +1,10 @@
 -- The answers of `expression::copy_whole`.
-use Prim.Native.Nat.{◌-◌, min}
+use Prim.Native.Nat.{◌-◌, ◌≤◌, min}
 use mathlib.Core.Path.{◌≡◌, refl, sym, ◌∙◌, ap, ap₂}
 use native.Mathlib.Omega.{arith}
 use lib.ListN.{length, take}
-use Rattle.expression.specs.Words.{cubes_of}
+use borrow.Author.Rules.{rules}
+use Rattle.expression.specs.Words.{cubes_of, Placed}
 use Rattle.expression.proofs.{Words.cubes-few}
 use Rattle.expression.proofs.Placing.{placed-none, placed-as, copied_next, copied_all}
 use Rattle.expression.proofs.copy_whole.Goals as goal

@@ -1,10 +1,11 @@
 -- `expression::words_of` meets its contract: two words make a cube. Assumes nothing.
-use Prim.Native.Nat.{min}
+use Prim.Native.Nat.{◌*◌, min}
 use mathlib.Core.Path.{◌≡◌, ◌∙◌, ap}
 use native.Mathlib.Omega.{arith}
 use lib.ListN.{length}
 use Rattle.expression.specs.Words.{cubes_of}
 use Rattle.expression.proofs.{Words.cubes-length}
+use borrow.Author.Rules.{rules}
 use Rattle.expression.proofs.words_of.Goals as goal
 
 pub overflow_mul-result : goal.overflow_mul-result

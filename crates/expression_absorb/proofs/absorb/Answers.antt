@@ -1,11 +1,14 @@
 -- The answers of `expression_absorb::absorb`.
 use mathlib.Core.Path.{◌≡◌, refl, sym, ◌∙◌}
-use mathlib.Core.Bool.{false}
-use Prim.Native.Nat.{◌-◌}
+use mathlib.Core.Bool.{false, not, ◌&&◌, ◌||◌}
+use mathlib.Core.List.{[]}
+use Prim.Native.Nat.{ℕ, ◌≤◌, ◌<◌, ◌-◌}
 use native.Mathlib.Omega.{arith}
 use borrow.Author.Rules.{rules}
 use borrow.Author.Count.{below_more}
+use lib.Dec.{ltb}
 use lib.ListN.{length, get_or}
+use Rattle.sets.specs.Sets.{sub, same}
 use Rattle.cube.specs.Cube.{lits}
 use Rattle.expression.{specs.Words.cubes_of, specs.Words.spare_of, proofs.Words.cubes-asc}
 use Rattle.expression_absorb.proofs.Compacting.{Stands, stands-first, stands-number, stands-end, turn-dropped, turn-kept}

@@ -2,6 +2,7 @@
 use mathlib.Core.Path.{◌∙◌, ap}
 use lib.ListN.{length}
 use Rattle.expression.{specs.Expression.absorbed, proofs.Words.part_of, proofs.Words.placed_by, proofs.Absorbing.absorbed-length}
+use borrow.Author.Rules.{rules}
 use Rattle.expression_absorb.proofs.absorb_part.Goals as goal
 
 pub returns : goal.returns

@@ -1,11 +1,11 @@
 -- The answers of `expression_accept::is_loose_from`.
 use mathlib.Core.Path.{◌≡◌, sym, ◌∙◌, ap}
-use Prim.Native.Nat.{ℕ, ◌+◌}
+use Prim.Native.Nat.{ℕ, ◌≤◌, ◌-◌, ◌+◌}
 use native.Mathlib.Omega.{arith}
 use borrow.Author.Rules.{rules}
 use borrow.Author.Tests.{not-true, not-false}
-use mathlib.Core.List.{List}
-use lib.ListN.{drop, get_or}
+use mathlib.Core.List.{List, []}
+use lib.ListN.{length, drop, get_or}
 use Rattle.sets.specs.Lists.{all}
 use Rattle.cube.specs.Cube.{lits}
 use Rattle.expression.{specs.Words.cubes_of, specs.Expression.loose, proofs.Words.cubes-few}

@@ -1,13 +1,13 @@
 -- The answers of `expression_survey::reaches`.
 use mathlib.Core.Path.{◌≡◌, sym, ◌∙◌, ap}
-use Prim.Native.Nat.{ℕ}
+use Prim.Native.Nat.{ℕ, ◌≤◌, ◌-◌}
 use native.Mathlib.Omega.{arith}
 use borrow.Author.Rules.{rules}
 use borrow.Author.Tests.{not-true, not-false}
-use mathlib.Core.List.{List}
-use lib.ListN.{get_or}
+use mathlib.Core.List.{List, []}
+use lib.ListN.{length, drop, get_or}
 use Rattle.sets.specs.Sets.{reads_below}
-use Rattle.expression.specs.{Words.cubes_of}
+use Rattle.expression.specs.{Words.cubes_of, Expression.reach}
 use Rattle.sets.proofs.Places.{all-stop, all-on, all_done}
 use Rattle.expression_survey.proofs.reaches.Goals as goal
 use Rattle.expression_survey.proofs.reaches.Goals.{After-is_below, At-loop-i}

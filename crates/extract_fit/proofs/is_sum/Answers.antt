@@ -7,6 +7,7 @@ use Rattle.cube.{specs.Cube.lits, proofs.Lits.lits-asc, proofs.Verdict.Told, pro
 use Rattle.extract_laws.specs.Divisor.{sum}
 use Rattle.extract_fit.specs.{Fitness.fitting, Parts.fit_part}
 use Rattle.extract_fit.proofs.{Fitting.sum_fits}
+use borrow.Author.Rules.{rules}
 use Rattle.extract_fit.proofs.is_sum.Goals as goal
 use Rattle.extract_fit.proofs.is_sum.Goals.{After-compare-o, After-is_empty, Else-not-is_part, Else-not-is_part-2, Start}
 

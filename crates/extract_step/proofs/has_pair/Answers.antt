@@ -2,6 +2,7 @@
 use mathlib.Core.{Path.sym, Path.◌∙◌, Bool.and-true}
 use borrow.Author.Tests.{not-true, not-false}
 use Rattle.sets.specs.Sets.{sub}
+use borrow.Author.Rules.{rules}
 use Rattle.extract_step.proofs.has_pair.Goals as goal
 
 pub returns-then-not-has : goal.returns-then-not-has

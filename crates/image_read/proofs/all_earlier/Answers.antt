@@ -1,5 +1,5 @@
 -- The answers of `image_read::all_earlier`.
-use Prim.Native.Nat.{ℕ, ◌+◌}
+use Prim.Native.Nat.{ℕ, ◌+◌, ◌-◌, ◌≤◌}
 use mathlib.Core.Path.{◌≡◌, sym, ap, ◌∙◌}
 use mathlib.Core.{Bool.Bool, Bool.◌&&◌, List.List}
 use native.Mathlib.Omega.{arith}

@@ -1,14 +1,16 @@
 -- The answers of `table_kinds::decimal_of`.
 use mathlib.Core.Path.{◌≡◌, refl, sym, ◌∙◌, ap}
 use mathlib.Core.{Logic.inl, Logic.inr, Option.some}
-use Prim.Native.Nat.{◌-◌, ◌<◌, ◌≤◌}
+use Prim.Native.Nat.{◌-◌, ◌^◌, ◌<◌, ◌≤◌}
 use native.Mathlib.Omega.{arith}
 use borrow.Author.Tests.{ltb-true, ltb-false}
-use lib.ListN.{length, get_or}
+use lib.ListN.{length, get_or, drop}
+use Rattle.sets.specs.Lists.{all}
 use Rattle.sets.proofs.Places.{all-stop, all-on, all_done}
-use Rattle.letters.specs.Meaning.{is_digit}
+use Rattle.letters.specs.Meaning.{read_back, is_digit}
 use Rattle.table_kinds.proofs.Reading.{value-short, value-long, value-stray, value_read, read-on, read_done, digit_low, digit-high, digit-in}
 use Rattle.table_kinds.proofs.{Reading.digits_lt, Reading.digits-few}
+use borrow.Author.Rules.{rules}
 use Rattle.table_kinds.proofs.decimal_of.Goals as goal
 
 pub returns-then-t-eq0 : goal.returns-then-t-eq0

@@ -5,6 +5,7 @@ use borrow.Author.Tests.{not-true, not-false}
 use mathlib.Core.Bool.{true}
 use Rattle.table_rows.specs.Parts.{has_marks, entered}
 use Rattle.table_rows.proofs.{Cubing.marks-length}
+use borrow.Author.Rules.{rules}
 use Rattle.table_rows.proofs.marked.Goals as goal
 use Rattle.table_rows.proofs.marked.Goals.{Else-not-has_marks}
 

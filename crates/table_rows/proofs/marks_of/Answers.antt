@@ -1,14 +1,16 @@
 -- The answers of `table_rows::marks_of`.
 use mathlib.Core.Path.{◌≡◌, sym, ◌∙◌, ap}
-use Prim.Native.Nat.{◌-◌}
+use Prim.Native.Nat.{◌-◌, ◌≤◌}
 use native.Mathlib.Omega.{arith}
 use mathlib.Core.List.{map}
 use lib.Dec.{eqb}
-use lib.ListN.{drop, get_or}
+use lib.ListN.{length, drop, get_or}
 use lib.Seq.{drop-length}
 use borrow.Author.Tests.{eq-eqb, ne_eqb}
 use Rattle.sets.specs.Masks.{packed}
+use Rattle.table_rows.specs.Lines.{most_places}
 use Rattle.table_rows.proofs.{Cubing.marks-next, Cubing.marks-lt}
+use borrow.Author.Rules.{rules}
 use Rattle.table_rows.proofs.marks_of.Goals as goal
 
 pub loop-i-init : goal.loop-i-init

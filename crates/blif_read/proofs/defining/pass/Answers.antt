@@ -2,9 +2,10 @@
 use Prim.Native.Nat.{ℕ}
 use mathlib.Core.{Path.◌≡◌, Path.ap, Bool.Bool, Bool.true, Bool.false}
 use mathlib.Core.Logic.{◌⊎◌, inl, inr}
-use mathlib.Core.List.{◌∷◌}
+use mathlib.Core.List.{[], ◌∷◌}
 use native.Mathlib.Omega.{arith}
 use denote.Enum.Declared.{tag_of}
+use borrow.Author.Rules.{rules}
 use borrow.Author.Tests.{not-true, not-false}
 use Rattle.letters_products.specs.Spelled.{spelled}
 use Rattle.blif_scan.{specs.Scanning.EndedIs, specs.declared.Ended.Ended, specs.declared.Ended.TheVariants.Space, proofs.Ended.the_type}
