@@ -21,3 +21,10 @@ invariant-loop-j l =
 
 abbrev pub decreases-loop-j : goal.decreases-loop-j
 decreases-loop-j l = l.n - l.j
+
+abbrev pub invariant-next : goal.invariant-next
+invariant-next l =
+    (l.n ≡ length (cubes_of l.initial.s)) × Stands (cubes_of l.initial.s) (cubes_of l.s) l.i l.kept × (spare_of l.s ≡ spare_of l.initial.s) × (length l.s ≡ length l.initial.s)
+
+abbrev pub decreases-next : goal.decreases-next
+decreases-next l = l.n - l.i
