@@ -46,16 +46,16 @@ returns-in_default c =
 
 pub returns-then-not-b : goal.returns-then-not-b
 returns-then-not-b c =
-    walked-not c.loop-q.invariant.0 _ (begins (goal.at.returns-then-not-b c).After-read_block-b).0 (block (goal.at.returns-then-not-b c).After-read_block-b false (not-true _ c.if-not-b.true))
+    walked-not c.loop-q.invariant.0 _ (begins (goal.at.returns-then-not-b c).After-read_block-b).0 (block (goal.at.returns-then-not-b c).After-read_block-b false (c.if-not-b.true))
 
 pub loop-q-smaller : goal.loop-q-smaller
 loop-q-smaller c =
-    omega (arith, (block (goal.at.loop-q-smaller c).After-read_block-b true (not-false _ c.if-not-b.false)).forth, (begins (goal.at.loop-q-smaller c).After-read_block-b).1)
+    omega (arith, (block (goal.at.loop-q-smaller c).After-read_block-b true (c.if-not-b.false)).forth, (begins (goal.at.loop-q-smaller c).After-read_block-b).1)
 
 pub loop-q-preserved : goal.loop-q-preserved
 loop-q-preserved c =
     (
-      passed-more c.loop-q.invariant.0 _ (begins (goal.at.loop-q-preserved c).After-read_block-b).0 c.read_block-b.result (block (goal.at.loop-q-preserved c).After-read_block-b true (not-false _ c.if-not-b.false)) _ _
+      passed-more c.loop-q.invariant.0 _ (begins (goal.at.loop-q-preserved c).After-read_block-b).0 c.read_block-b.result (block (goal.at.loop-q-preserved c).After-read_block-b true (c.if-not-b.false)) _ _
           c.more_rows-rows.ensures c.larger-top.ensures,
       c.read_block-b.ensures.1 ∙ c.loop-q.invariant.1,
     )

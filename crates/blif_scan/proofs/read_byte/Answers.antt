@@ -18,7 +18,7 @@ loop-p-init c = (omega arith, refl)
 pub returns-then-not-is_joint : goal.returns-then-not-is_joint
 returns-then-not-is_joint c =
     (
-      c.loop-p.invariant.1 ∙ left-byte _ _ c.loop-p-test.true (sym c.is_joint.ensures ∙ not-true _ c.if-not-is_joint.true),
+      c.loop-p.invariant.1 ∙ left-byte _ _ c.loop-p-test.true (sym c.is_joint.ensures ∙ c.if-not-is_joint.true),
       record { on = omega arith; within = omega arith },
     )
 
@@ -27,7 +27,7 @@ module _ (c : Else-not-is_joint) where
   text = c.args.s.now
 
   joint : is_joint text c.loop-p.p ≡ true
-  joint = sym c.is_joint.ensures ∙ not-false _ c.if-not-is_joint.false
+  joint = sym c.is_joint.ensures ∙ c.if-not-is_joint.false
 
   inside : c.loop-p.p + 1 < length text
   inside = joint-inside text c.loop-p.p joint

@@ -18,13 +18,13 @@ loop-i-init c =
 pub loop-i-preserved-then-not-is_spared : goal.loop-i-preserved-then-not-is_spared
 loop-i-preserved-then-not-is_spared c =
     walk-skip c.loop-i.invariant (omega arith) c.cube_at-e.ensures
-    (λ l. rw (sym c.is_spared.ensures ∙ not-true _ c.if-not-is_spared.true))
+    (λ l. rw (sym c.is_spared.ensures ∙ c.if-not-is_spared.true))
 
 pub loop-i-preserved : goal.loop-i-preserved
 loop-i-preserved c =
     walk_put c.loop-i.invariant (omega arith) c.cube_at-e.ensures
     c.put_cube.ensures c.put_cube.auto.s
-    (λ l. rw (sym c.is_spared.ensures ∙ not-false _ c.if-not-is_spared.false))
+    (λ l. rw (sym c.is_spared.ensures ∙ c.if-not-is_spared.false))
 
 pub shape_of-to : goal.shape_of-to
 shape_of-to c = c.loop-i.invariant.same

@@ -14,7 +14,7 @@ use Rattle.expression_accept.proofs.all_loose.Goals as goal
 pub returns-then-not-is_loose_from : goal.returns-then-not-is_loose_from
 returns-then-not-is_loose_from c =
     sym (pairwise-stop (cubes_of c.args.s.now) c.loop-i.i [] (omega arith) loose
-    (sym c.is_loose_from.ensures ∙ not-true _ c.if-not-is_loose_from.true))
+    (sym c.is_loose_from.ensures ∙ c.if-not-is_loose_from.true))
     ∙ c.loop-i.invariant.1
 
 pub loop-i-preserved : goal.loop-i-preserved
@@ -22,7 +22,7 @@ loop-i-preserved c =
     (
       search rules,
       sym (pairwise-on (cubes_of c.args.s.now) c.loop-i.i [] (omega arith) loose
-          (sym c.is_loose_from.ensures ∙ not-false _ c.if-not-is_loose_from.false))
+          (sym c.is_loose_from.ensures ∙ c.if-not-is_loose_from.false))
           ∙ c.loop-i.invariant.1,
     )
 

@@ -36,13 +36,13 @@ overflow_add-j c = omega (arith, cubes-few c.args.s.now)
 
 pub returns-then-not-is_loose : goal.returns-then-not-is_loose
 returns-then-not-is_loose c =
-    sym (all-stop (cubes_of (lent (goal.at.returns-then-not-is_loose c).At-loop-j)) c.loop-j.j [] (omega arith) (loose (first (goal.at.returns-then-not-is_loose c).At-loop-j)) (tested (goal.at.returns-then-not-is_loose c).After-is_loose ∙ not-true _ c.if-not-is_loose.true)) ∙ whole (goal.at.returns-then-not-is_loose c).At-loop-j
+    sym (all-stop (cubes_of (lent (goal.at.returns-then-not-is_loose c).At-loop-j)) c.loop-j.j [] (omega arith) (loose (first (goal.at.returns-then-not-is_loose c).At-loop-j)) (tested (goal.at.returns-then-not-is_loose c).After-is_loose ∙ c.if-not-is_loose.true)) ∙ whole (goal.at.returns-then-not-is_loose c).At-loop-j
 
 pub loop-j-preserved : goal.loop-j-preserved
 loop-j-preserved c =
     (
       search rules,
-      sym (all-on (cubes_of (lent (goal.at.loop-j-preserved c).At-loop-j)) c.loop-j.j [] (omega arith) (loose (first (goal.at.loop-j-preserved c).At-loop-j)) (tested (goal.at.loop-j-preserved c).After-is_loose ∙ not-false _ c.if-not-is_loose.false))
+      sym (all-on (cubes_of (lent (goal.at.loop-j-preserved c).At-loop-j)) c.loop-j.j [] (omega arith) (loose (first (goal.at.loop-j-preserved c).At-loop-j)) (tested (goal.at.loop-j-preserved c).After-is_loose ∙ c.if-not-is_loose.false))
           ∙ c.loop-j.invariant.1,
     )
 

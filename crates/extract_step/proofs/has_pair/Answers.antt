@@ -7,8 +7,8 @@ use Rattle.extract_step.proofs.has_pair.Goals as goal
 
 pub returns-then-not-has : goal.returns-then-not-has
 unfolding sub
-returns-then-not-has c = rw (sym c.has.ensures ∙ not-true _ c.if-not-has.true)
+returns-then-not-has c = rw (sym c.has.ensures ∙ c.if-not-has.true)
 
 pub returns : goal.returns
 unfolding sub
-returns c = rw (sym c.has.ensures ∙ not-false _ c.if-not-has.false, and-true) c.has-2.ensures
+returns c = rw (sym c.has.ensures ∙ c.if-not-has.false, and-true) c.has-2.ensures

@@ -29,4 +29,4 @@ returns-then-not-is_ordered c =
 pub returns-else-not-is_ordered : goal.returns-else-not-is_ordered
 returns-else-not-is_ordered c =
     appends-as (become-rewrite _ _ _) (appends-ordered c.write_node-to.ensures (inside (goal.at.returns-else-not-is_ordered c).After-write_node-to)
-    (ap ordered (sym c.part.ensures.0) ∙ sym c.is_ordered.ensures ∙ not-false _ c.if-not-is_ordered.false))
+    (ap ordered (sym c.part.ensures.0) ∙ sym c.is_ordered.ensures ∙ c.if-not-is_ordered.false))

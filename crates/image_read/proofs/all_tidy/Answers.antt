@@ -26,11 +26,11 @@ tested c = ap tidy (sym c.node.ensures.0) ∙ sym c.is_tidy.ensures
 
 pub returns-then-not-is_tidy : goal.returns-then-not-is_tidy
 returns-then-not-is_tidy c =
-    sym (all-stop (held (goal.at.returns-then-not-is_tidy c).At-loop-i) c.loop-i.i [] (omega (arith, many (goal.at.returns-then-not-is_tidy c).At-loop-i)) tidy (tested (goal.at.returns-then-not-is_tidy c).After-is_tidy ∙ not-true _ c.if-not-is_tidy.true)) ∙ c.loop-i.invariant.1
+    sym (all-stop (held (goal.at.returns-then-not-is_tidy c).At-loop-i) c.loop-i.i [] (omega (arith, many (goal.at.returns-then-not-is_tidy c).At-loop-i)) tidy (tested (goal.at.returns-then-not-is_tidy c).After-is_tidy ∙ c.if-not-is_tidy.true)) ∙ c.loop-i.invariant.1
 
 pub loop-i-preserved : goal.loop-i-preserved
 loop-i-preserved c =
-    (search rules, sym (all-on (held (goal.at.loop-i-preserved c).At-loop-i) c.loop-i.i [] (omega (arith, many (goal.at.loop-i-preserved c).At-loop-i)) tidy (tested (goal.at.loop-i-preserved c).After-is_tidy ∙ not-false _ c.if-not-is_tidy.false)) ∙ c.loop-i.invariant.1)
+    (search rules, sym (all-on (held (goal.at.loop-i-preserved c).At-loop-i) c.loop-i.i [] (omega (arith, many (goal.at.loop-i-preserved c).At-loop-i)) tidy (tested (goal.at.loop-i-preserved c).After-is_tidy ∙ c.if-not-is_tidy.false)) ∙ c.loop-i.invariant.1)
 
 pub returns : goal.returns
 returns c = sym (all_done (held (goal.at.returns c).At-loop-i) c.loop-i.i (omega (arith, many (goal.at.returns c).At-loop-i)) tidy) ∙ c.loop-i.invariant.1

@@ -10,10 +10,10 @@ use Rattle.network_rules.proofs.{Ruling.leb-capped}
 use Rattle.network_rules.proofs.is_lawful.Goals as goal
 
 pub returns-then-not-all_expressions : goal.returns-then-not-all_expressions
-returns-then-not-all_expressions c = rw (sym c.all_expressions.ensures ∙ not-true _ c.if-not-all_expressions.true)
+returns-then-not-all_expressions c = rw (sym c.all_expressions.ensures ∙ c.if-not-all_expressions.true)
 
 pub returns : goal.returns
 returns c =
     let a = c.args in
-    rw (sym c.all_expressions.ensures ∙ not-false _ c.if-not-all_expressions.false)
+    rw (sym c.all_expressions.ensures ∙ c.if-not-all_expressions.false)
     (ap (λ t. leb t most_literals) c.count.ensures ∙ leb-capped (total literals_of (nodes_of a.e a.counts.now a.words.now)))

@@ -11,8 +11,8 @@ returns-then-n-gt-MOST c = let a = c.args in
 
 pub overflow_add-result : goal.overflow_add-result
 overflow_add-result c = let a = c.args in
-    record { fits = omega (arith, ltb-false 32 a.m c.if-m-gt-MOST.false) }
+    record { fits = omega (arith, c.if-m-gt-MOST.false) }
 
 pub returns : goal.returns
 returns c = let a = c.args in
-    roomy-room a.k a.n a.m c.if-n-gt-MOST.false (ltb-false 32 a.m c.if-m-gt-MOST.false)
+    roomy-room a.k a.n a.m c.if-n-gt-MOST.false (c.if-m-gt-MOST.false)

@@ -24,7 +24,7 @@ is_defined-requires c = omega (arith, c.span-k.ensures)
 pub returns-then-not-is_defined : goal.returns-then-not-is_defined
 returns-then-not-is_defined c = λ m bs f b k.
     sym (windows-stop _ c.loop-base.base c.span-k.result _ (omega (arith, c.span-k.ensures))
-    (sym (c.is_defined.ensures m bs f b k) ∙ not-true _ c.if-not-is_defined.true))
+    (sym (c.is_defined.ensures m bs f b k) ∙ c.if-not-is_defined.true))
 
 pub overflow_add-base : goal.overflow_add-base
 overflow_add-base c = omega (arith, c.span-k.ensures)
@@ -35,7 +35,7 @@ loop-base-smaller c = omega (arith, c.span-k.ensures)
 pub loop-base-preserved : goal.loop-base-preserved
 loop-base-preserved c = λ m bs f b k.
     windows-on _ c.loop-base.base c.span-k.result (c.loop-base.invariant m bs f b k)
-    (sym (c.is_defined.ensures m bs f b k) ∙ not-false _ c.if-not-is_defined.false)
+    (sym (c.is_defined.ensures m bs f b k) ∙ c.if-not-is_defined.false)
 
 pub returns : goal.returns
 returns c = λ m bs f b k. sym (windows-done _ c.loop-base.base _ (omega arith) (c.loop-base.invariant m bs f b k))

@@ -39,7 +39,7 @@ overflow_cast-l c = omega (arith, field_below edition1.literal (literal c) (bits
 pub returns-then-not-is_allowed : goal.returns-then-not-is_allowed
 returns-then-not-is_allowed c =
     gather-bad c.loop-i.invariant.2 c.loop-i-test.true (literal (goal.at.returns-then-not-is_allowed c).In-Value) (read (goal.at.returns-then-not-is_allowed c).In-Value)
-    (sym c.is_allowed.ensures ∙ not-true _ c.if-not-is_allowed.true)
+    (sym c.is_allowed.ensures ∙ c.if-not-is_allowed.true)
 
 pub loop-i-preserved : goal.loop-i-preserved
 loop-i-preserved c =
@@ -47,7 +47,7 @@ loop-i-preserved c =
       omega (arith, more),
       omega (arith, c.loop-i.invariant.1),
       gather-next c.loop-i.invariant.2 more (literal (goal.at.loop-i-preserved c).In-Value) (read (goal.at.loop-i-preserved c).In-Value) c.requires.1
-          (sym c.is_allowed.ensures ∙ not-false _ c.if-not-is_allowed.false) _ c.with-seen.ensures _
+          (sym c.is_allowed.ensures ∙ c.if-not-is_allowed.false) _ c.with-seen.ensures _
           (c.both-ascending.ensures ∙ ap (c.loop-i.ascending &&◌) c.is_below.ensures),
     )
 
