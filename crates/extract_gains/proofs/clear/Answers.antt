@@ -1,13 +1,12 @@
 -- The answers of `extract_gains::clear`.
 use mathlib.Core.{Path.◌≡◌, Path.◌∙◌, List.List}
-use Prim.Native.Nat.{ℕ, ◌+◌, ◌-◌, ◌<◌, ◌≤◌}
+use Prim.Native.Nat.{ℕ, ◌+◌, ◌<◌}
 use native.Mathlib.Omega.{arith}
 use lib.ListN as list
 use lib.ListN.{length, get_or, length-set}
 use lib.Seq.{get_or-set_same, get_or-set_other}
 use borrow.Author.Rules.{rules}
 use Rattle.sets.proofs.Truth.{Stand, below, equal, beyond, compared}
-use Rattle.extract_gains.specs.Gains.{first, slots}
 use Rattle.extract_gains.proofs.{Changing.sound_empty}
 use Rattle.extract_gains.proofs.clear.Goals as goal
 

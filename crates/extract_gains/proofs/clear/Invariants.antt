@@ -1,14 +1,8 @@
 -- `extract_gains::clear` meets its contract. The loop's invariant: the words passed are 0. Assumes nothing.
-use mathlib.Core.{Path.◌≡◌, Path.◌∙◌, List.List}
-use Prim.Native.Nat.{ℕ, ◌+◌, ◌-◌, ◌<◌, ◌≤◌}
-use native.Mathlib.Omega.{arith}
-use lib.ListN as list
-use lib.ListN.{length, get_or, length-set}
-use lib.Seq.{get_or-set_same, get_or-set_other}
-use borrow.Author.Rules.{rules}
-use Rattle.sets.proofs.Truth.{Stand, below, equal, beyond, compared}
+use mathlib.Core.{Path.◌≡◌}
+use Prim.Native.Nat.{ℕ, ◌-◌, ◌<◌, ◌≤◌}
+use lib.ListN.{length, get_or}
 use Rattle.extract_gains.specs.Gains.{first, slots}
-use Rattle.extract_gains.proofs.{Changing.sound_empty}
 use Rattle.extract_gains.proofs.clear.Given as goal
 
 abbrev pub invariant-loop-i : goal.invariant-loop-i

@@ -1,7 +1,6 @@
 -- `extract_gains::enter` meets its contract: a full table stays as it is, and another has one entry more. Assumes nothing.
 use Prim.Native.Nat.{◌<◌}
 use native.Mathlib.Omega.{arith}
-use borrow.Author.Rules.{rules}
 use Rattle.extract_gains.specs.Gains.{first}
 use Rattle.extract_gains.proofs.{Chains.head-to, Changing.turns-full, Entering.turns-enter}
 use Rattle.extract_gains.proofs.enter.Goals as goal

@@ -4,9 +4,8 @@ use native.Mathlib.Omega.{arith}
 use mathlib.Core.List.{List}
 use Prim.Native.Nat.{ℕ}
 use lib.ListN.{get_or}
-use borrow.Author.Rules.{rules}
 use Rattle.extract_gains.specs.{Gains.head_of, Parts.Chained}
-use Rattle.extract_gains.proofs.Chains.{head-to, Reached, Entered, reached-head, reached-entry, reached-end}
+use Rattle.extract_gains.proofs.Chains.{head-to, Entered, reached-head, reached-entry, reached-end}
 use Rattle.extract_gains.proofs.Chains.{link-before, reached-link, entry-within, entry_found}
 use Rattle.extract_gains.proofs.find.Goals as goal
 use Rattle.extract_gains.proofs.find.Goals.{In-loop-at}

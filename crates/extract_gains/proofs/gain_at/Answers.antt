@@ -2,7 +2,6 @@
 use mathlib.Core.Path.{sym}
 use native.Mathlib.Omega.{arith}
 use lib.ListN.{get_or-eq_default}
-use borrow.Author.Rules.{rules}
 use Rattle.extract_gains.proofs.gain_at.Goals as goal
 
 pub returns-else-e-lt-MOST_ENTRIES : goal.returns-else-e-lt-MOST_ENTRIES

@@ -1,6 +1,5 @@
 -- `extract_gains::put` meets its contract: nothing changes, an entry's gain rises, a new entry comes, or the table is full. Assumes nothing.
 use native.Mathlib.Omega.{arith}
-use borrow.Author.Rules.{rules}
 use Rattle.extract_gains.specs.{Parts.Finds, declared.Entry.TheVariants.At}
 use Rattle.extract_gains.proofs.Changing.{sound-chains, turns-still, turns-raise, turns-past}
 use Rattle.extract_gains.proofs.put.Goals as goal

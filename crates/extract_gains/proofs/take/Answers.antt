@@ -1,6 +1,5 @@
 -- `extract_gains::take` meets its contract: nothing changes, an entry's gain falls, or the table is full. Assumes nothing.
 use native.Mathlib.Omega.{arith}
-use borrow.Author.Rules.{rules}
 use Rattle.extract_gains.specs.{Parts.Finds, declared.Entry.TheVariants.At}
 use Rattle.extract_gains.proofs.Changing.{turns-still, turns_lower, turns-short}
 use Rattle.extract_gains.proofs.take.Goals as goal
