@@ -1,8 +1,6 @@
 -- `expression_accept::accept` meets its contract: each refusal by what the tests before it say. Assumes nothing.
 use mathlib.Core.Path.{sym, ◌∙◌}
-use borrow.Author.Tests.{not-true, not-false}
 use Rattle.expression_accept.proofs.Accepting.{refused-many, refused-spare, refused-else}
-use borrow.Author.Rules.{rules}
 use Rattle.expression_accept.proofs.accept.Goals as goal
 
 pub returns-then-s-gt-WORDS : goal.returns-then-s-gt-WORDS

@@ -1,14 +1,9 @@
 -- `expression_accept::all_loose` meets its contract. The loop's invariant: the test of the cubes from i on is the test of all. Assumes nothing.
-use mathlib.Core.Path.{◌≡◌, sym, ◌∙◌}
-use mathlib.Core.List.{[]}
+use mathlib.Core.Path.{◌≡◌}
 use Prim.Native.Nat.{◌≤◌, ◌-◌}
-use native.Mathlib.Omega.{arith}
-use borrow.Author.Rules.{rules}
-use borrow.Author.Tests.{not-true, not-false}
 use lib.ListN.{length, drop}
 use Rattle.sets.specs.Lists.{pairwise}
 use Rattle.expression.specs.{Words.cubes_of, Expression.loose}
-use Rattle.sets.proofs.Places.{pairwise-stop, pairwise-on, pairwise-done}
 use Rattle.expression_accept.proofs.all_loose.Given as goal
 
 abbrev pub invariant-loop-i : goal.invariant-loop-i

@@ -1,12 +1,11 @@
 -- The answers of `expression_accept::all_proper`.
 use mathlib.Core.Path.{◌≡◌, sym, ◌∙◌, ap}
-use Prim.Native.Nat.{ℕ, ◌≤◌, ◌-◌}
+use Prim.Native.Nat.{ℕ}
 use native.Mathlib.Omega.{arith}
 use borrow.Author.Rules.{rules}
-use borrow.Author.Tests.{not-true, not-false}
 use mathlib.Core.List.{List, []}
-use lib.ListN.{length, drop, get_or}
-use Rattle.sets.specs.{Lists.all, Sets.proper}
+use lib.ListN.{get_or}
+use Rattle.sets.specs.{Sets.proper}
 use Rattle.expression.specs.Words.{cubes_of}
 use Rattle.sets.proofs.Places.{all-stop, all-on, all_done}
 use Rattle.expression_accept.proofs.all_proper.Goals as goal

@@ -1,7 +1,5 @@
 -- `expression_accept::is_expression` meets its contract: what words hold is ascending. Assumes nothing.
 use mathlib.Core.Path.{sym, ◌∙◌}
-use borrow.Author.Rules.{rules}
-use borrow.Author.Tests.{not-true, not-false}
 use Rattle.expression_accept.proofs.{Accepting.cubes-proper}
 use Rattle.expression_accept.proofs.is_expression.Goals as goal
 

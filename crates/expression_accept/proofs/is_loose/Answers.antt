@@ -1,7 +1,6 @@
 -- `expression_accept::is_loose` meets its contract. Assumes nothing.
 use mathlib.Core.Path.{sym, ◌∙◌}
 use Rattle.expression.specs.Expression.{loose}
-use borrow.Author.Rules.{rules}
 use Rattle.expression_accept.proofs.is_loose.Goals as goal
 
 pub returns-then-contains : goal.returns-then-contains

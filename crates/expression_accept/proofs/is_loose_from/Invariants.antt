@@ -1,16 +1,11 @@
 -- `expression_accept::is_loose_from` meets its contract. The loop's invariant: the test of the cubes from j on is the test of those after
 -- cube i. Assumes nothing.
-use mathlib.Core.Path.{◌≡◌, sym, ◌∙◌, ap}
-use Prim.Native.Nat.{ℕ, ◌≤◌, ◌-◌, ◌+◌}
-use native.Mathlib.Omega.{arith}
-use borrow.Author.Rules.{rules}
-use borrow.Author.Tests.{not-true, not-false}
-use mathlib.Core.List.{List, []}
-use lib.ListN.{length, drop, get_or}
+use mathlib.Core.Path.{◌≡◌}
+use Prim.Native.Nat.{◌≤◌, ◌-◌, ◌+◌}
+use lib.ListN.{length, drop}
 use Rattle.sets.specs.Lists.{all}
 use Rattle.cube.specs.Cube.{lits}
-use Rattle.expression.{specs.Words.cubes_of, specs.Expression.loose, proofs.Words.cubes-few}
-use Rattle.sets.proofs.Places.{all-stop, all-on, all_done}
+use Rattle.expression.{specs.Words.cubes_of, specs.Expression.loose}
 use Rattle.expression_accept.proofs.is_loose_from.Given as goal
 
 abbrev pub invariant-loop-j : goal.invariant-loop-j
