@@ -1,15 +1,12 @@
 -- The answers of `table_rows::all_of`.
-use Prim.Native.Nat.{ℕ, ◌-◌, ◌<◌, ◌≤◌}
+use Prim.Native.Nat.{ℕ, ◌<◌, ◌≤◌}
 use mathlib.Core.Path.{◌≡◌, refl, sym, ◌∙◌, ap}
 use mathlib.Core.List.{List}
 use native.Mathlib.Omega.{arith}
-use borrow.Author.Tests.{not-true, not-false}
-use lib.ListN.{length, get_or, take, drop}
+use lib.ListN.{length, get_or, take}
 use lib.Seq.{length-take-le, get_or-take}
-use Rattle.sets.specs.Lists.{all}
 use Rattle.sets.proofs.Places.{all-stop, all-on, all_done}
 use Rattle.table_rows.specs.Parts.{is_sign}
-use borrow.Author.Rules.{rules}
 use Rattle.table_rows.proofs.all_of.Goals as goal
 
 pub loop-i-init : goal.loop-i-init

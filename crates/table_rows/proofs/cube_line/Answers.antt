@@ -3,7 +3,6 @@ use Prim.Native.Nat.{◌≤◌}
 use mathlib.Core.Path.{◌≡◌, sym, ◌∙◌, ap}
 use mathlib.Core.Bool.{true}
 use lib.ListN.{length, take}
-use borrow.Author.Tests.{not-true, not-false}
 use Rattle.sets.specs.Lists.{all}
 use Rattle.table_lines.{specs.Text.trim_front, proofs.Ends.rest-whole}
 use Rattle.table_rows.specs.{Lines.most_places, Lines.is_place, Parts.roomy, Parts.marked_line}

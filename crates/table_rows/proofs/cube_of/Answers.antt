@@ -1,12 +1,9 @@
 -- The answers of `table_rows::cube_of`.
 use mathlib.Core.Path.{◌≡◌, refl, sym, ◌∙◌, ap, ap₂}
-use Prim.Native.Nat.{◌-◌, ◌≤◌}
 use native.Mathlib.Omega.{arith}
-use lib.ListN.{length, take, get_or}
-use Rattle.cube.specs.Cube.{lits}
-use Rattle.table_rows.specs.{Lines.most_places, Lines.cube_from, Parts.placed}
+use lib.ListN.{take, get_or}
+use Rattle.table_rows.specs.{Lines.cube_from, Parts.placed}
 use Rattle.table_rows.proofs.{Cubing.from_next}
-use borrow.Author.Rules.{rules}
 use Rattle.table_rows.proofs.cube_of.Goals as goal
 
 pub loop-i-init : goal.loop-i-init

@@ -1,12 +1,9 @@
 -- `table_rows::cube_of` meets its contract. The loop's invariant: the cube has the literals of the places before i. Assumes nothing.
-use mathlib.Core.Path.{◌≡◌, refl, sym, ◌∙◌, ap, ap₂}
+use mathlib.Core.Path.{◌≡◌}
 use Prim.Native.Nat.{◌-◌, ◌≤◌}
-use native.Mathlib.Omega.{arith}
-use lib.ListN.{length, take, get_or}
+use lib.ListN.{length, take}
 use Rattle.cube.specs.Cube.{lits}
-use Rattle.table_rows.specs.{Lines.most_places, Lines.cube_from, Parts.placed}
-use Rattle.table_rows.proofs.{Cubing.from_next}
-use borrow.Author.Rules.{rules}
+use Rattle.table_rows.specs.{Lines.most_places, Lines.cube_from}
 use Rattle.table_rows.proofs.cube_of.Given as goal
 
 abbrev pub invariant-loop-i : goal.invariant-loop-i

@@ -2,7 +2,6 @@
 use mathlib.Core.Path.{◌∙◌}
 use lib.ListN.{take}
 use Rattle.table_rows.proofs.Cubing.{all-marks, marks-other, marks-read}
-use borrow.Author.Rules.{rules}
 use Rattle.table_rows.proofs.has_marks.Goals as goal
 
 pub returns-then-o-m : goal.returns-then-o-m

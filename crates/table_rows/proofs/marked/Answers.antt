@@ -1,11 +1,9 @@
 -- `table_rows::marked` meets its contract: the marks are tested, and then the cube and the mask are made. Assumes nothing.
 use mathlib.Core.Path.{◌≡◌, sym, ◌∙◌, ap₂}
 use native.Mathlib.Omega.{arith}
-use borrow.Author.Tests.{not-true, not-false}
 use mathlib.Core.Bool.{true}
 use Rattle.table_rows.specs.Parts.{has_marks, entered}
 use Rattle.table_rows.proofs.{Cubing.marks-length}
-use borrow.Author.Rules.{rules}
 use Rattle.table_rows.proofs.marked.Goals as goal
 use Rattle.table_rows.proofs.marked.Goals.{Else-not-has_marks}
 

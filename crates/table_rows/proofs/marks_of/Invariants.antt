@@ -1,16 +1,11 @@
 -- `table_rows::marks_of` meets its contract. The loop's invariant: the mask is that of the marks from i on. Assumes nothing.
-use mathlib.Core.Path.{◌≡◌, sym, ◌∙◌, ap}
-use Prim.Native.Nat.{◌-◌, ◌≤◌}
-use native.Mathlib.Omega.{arith}
+use mathlib.Core.Path.{◌≡◌}
+use Prim.Native.Nat.{◌≤◌}
 use mathlib.Core.List.{map}
 use lib.Dec.{eqb}
-use lib.ListN.{length, drop, get_or}
-use lib.Seq.{drop-length}
-use borrow.Author.Tests.{eq-eqb, ne_eqb}
+use lib.ListN.{length, drop}
 use Rattle.sets.specs.Masks.{packed}
 use Rattle.table_rows.specs.Lines.{most_places}
-use Rattle.table_rows.proofs.{Cubing.marks-next, Cubing.marks-lt}
-use borrow.Author.Rules.{rules}
 use Rattle.table_rows.proofs.marks_of.Given as goal
 
 abbrev pub invariant-loop-i : goal.invariant-loop-i

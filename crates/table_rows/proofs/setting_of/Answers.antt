@@ -3,7 +3,6 @@ use mathlib.Core.Path.{sym, ◌∙◌, ap}
 use native.Mathlib.Omega.{arith}
 use Rattle.table_rows.specs.declared.Setting.TheVariants.{Is}
 use Rattle.table_rows.proofs.Settings.{setting-many, setting-wrong, marks-many, setting-is}
-use borrow.Author.Rules.{rules}
 use Rattle.table_rows.proofs.setting_of.Goals as goal
 
 pub returns-then-inputs-gt-MOST : goal.returns-then-inputs-gt-MOST

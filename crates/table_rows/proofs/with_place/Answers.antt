@@ -2,7 +2,6 @@
 use mathlib.Core.Path.{◌∙◌}
 use Rattle.cube.specs.Cube.{lits}
 use Rattle.table_rows.proofs.Cubing.{placed-plain, placed-negated, placed-either}
-use borrow.Author.Rules.{rules}
 use Rattle.table_rows.proofs.with_place.Goals as goal
 
 pub returns-then-b-eq49 : goal.returns-then-b-eq49
