@@ -1,6 +1,5 @@
 -- The answers of `table_lines::trim_front`.
 use mathlib.Core.Path.{◌≡◌, sym, ◌∙◌}
-use mathlib.Core.Logic.{inl, inr}
 use native.Mathlib.Omega.{arith}
 use lib.ListN.{drop}
 use Rattle.table_lines.specs.Text.{trim_front}
