@@ -1,11 +1,10 @@
 -- The answers of `expression::clear`.
-use Prim.Native.Nat.{◌-◌, ◌≤◌, min}
+use Prim.Native.Nat.{◌-◌, min}
 use mathlib.Core.Path.{◌≡◌, refl, ◌∙◌, ap, subst}
 use mathlib.Core.List.{[]}
 use native.Mathlib.Omega.{arith}
 use lib.ListN.{length, replicate}
-use borrow.Author.Rules.{rules}
-use Rattle.expression.specs.Words.{cubes_of, Put, Placed}
+use Rattle.expression.specs.Words.{cubes_of, Put}
 use Rattle.expression.proofs.Placing.{placed-none, placed-as, cleared-next}
 use Rattle.expression.proofs.clear.Goals as goal
 use Rattle.expression.proofs.clear.Goals.{At-loop-i}

@@ -1,12 +1,9 @@
 -- `expression::clear` meets its contract. The loop's invariant: the places from a up to i hold the empty cube. Assumes nothing.
-use Prim.Native.Nat.{◌-◌, ◌≤◌, min}
-use mathlib.Core.Path.{◌≡◌, refl, ◌∙◌, ap, subst}
+use Prim.Native.Nat.{◌-◌, ◌≤◌}
+use mathlib.Core.Path.{◌≡◌}
 use mathlib.Core.List.{[]}
-use native.Mathlib.Omega.{arith}
 use lib.ListN.{length, replicate}
-use borrow.Author.Rules.{rules}
-use Rattle.expression.specs.Words.{cubes_of, Put, Placed}
-use Rattle.expression.proofs.Placing.{placed-none, placed-as, cleared-next}
+use Rattle.expression.specs.Words.{Placed}
 use Rattle.expression.proofs.clear.Given as goal
 
 abbrev pub invariant-loop-i : goal.invariant-loop-i

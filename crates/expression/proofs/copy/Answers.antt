@@ -1,6 +1,5 @@
 -- `expression::copy` meets its contract: a part is copied whole. Assumes nothing.
 use mathlib.Core.Path.{ap}
-use borrow.Author.Rules.{rules}
 use Rattle.expression.specs.Words.{fitting}
 use Rattle.expression.proofs.{Placing.placed-as}
 use Rattle.expression.proofs.copy.Goals as goal

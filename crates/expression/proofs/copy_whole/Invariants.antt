@@ -1,12 +1,8 @@
 -- `expression::copy_whole` meets its contract. The loop's invariant: the cubes passed stand from place `at` on. Assumes nothing.
-use Prim.Native.Nat.{◌-◌, ◌≤◌, min}
-use mathlib.Core.Path.{◌≡◌, refl, sym, ◌∙◌, ap, ap₂}
-use native.Mathlib.Omega.{arith}
+use Prim.Native.Nat.{◌-◌, ◌≤◌}
+use mathlib.Core.Path.{◌≡◌}
 use lib.ListN.{length, take}
-use borrow.Author.Rules.{rules}
 use Rattle.expression.specs.Words.{cubes_of, Placed}
-use Rattle.expression.proofs.{Words.cubes-few}
-use Rattle.expression.proofs.Placing.{placed-none, placed-as, copied_next, copied_all}
 use Rattle.expression.proofs.copy_whole.Given as goal
 
 abbrev pub invariant-loop-i : goal.invariant-loop-i

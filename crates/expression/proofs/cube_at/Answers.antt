@@ -5,7 +5,6 @@ use mathlib.Core.{Bool.cond, List.List, List.[], Logic.inl, Logic.inr}
 use native.Mathlib.Omega.{arith}
 use lib.Dec.{ltb}
 use lib.ListN.{length, get_or}
-use borrow.Author.Rules.{rules}
 use borrow.Author.Tests.{ltb-true, ltb-false}
 use Rattle.sets.{specs.Masks.literals, proofs.Truth.decided, proofs.Literals.literals-none}
 use Rattle.cube.specs.Cube.{width}

@@ -1,6 +1,5 @@
 -- `expression::part` meets its contract: the words from the first cube's to the last one's. Assumes nothing.
 use Rattle.expression.proofs.{Words.part_of}
-use borrow.Author.Rules.{rules}
 use Rattle.expression.proofs.part.Goals as goal
 
 pub returns : goal.returns

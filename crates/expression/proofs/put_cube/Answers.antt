@@ -2,7 +2,6 @@
 use native.Mathlib.Omega.{arith}
 use lib.ListN.{length-set}
 use Rattle.expression.proofs.Words.{cubes-set, spare-set, put-past}
-use borrow.Author.Rules.{rules}
 use Rattle.expression.proofs.put_cube.Goals as goal
 
 pub bounds-s-i-then-i-s : goal.bounds-s-i-then-i-s

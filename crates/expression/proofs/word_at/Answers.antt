@@ -1,5 +1,4 @@
 -- `expression::word_at` meets its contract. Assumes nothing.
-use borrow.Author.Rules.{rules}
 use borrow.Author.Tests.{lt-ltb, le-ltb}
 use Rattle.expression.proofs.word_at.Goals as goal
 

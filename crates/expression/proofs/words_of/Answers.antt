@@ -5,7 +5,6 @@ use native.Mathlib.Omega.{arith}
 use lib.ListN.{length}
 use Rattle.expression.specs.Words.{cubes_of}
 use Rattle.expression.proofs.{Words.cubes-length}
-use borrow.Author.Rules.{rules}
 use Rattle.expression.proofs.words_of.Goals as goal
 
 pub overflow_mul-result : goal.overflow_mul-result
