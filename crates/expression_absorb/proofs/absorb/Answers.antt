@@ -1,16 +1,12 @@
 -- The answers of `expression_absorb::absorb`.
 use mathlib.Core.Path.{◌≡◌, refl, sym, ◌∙◌}
-use mathlib.Core.Bool.{false, not, ◌&&◌, ◌||◌}
 use mathlib.Core.List.{[]}
-use Prim.Native.Nat.{ℕ, ◌≤◌, ◌<◌, ◌-◌}
 use native.Mathlib.Omega.{arith}
 use borrow.Author.Rules.{rules}
 use borrow.Author.Count.{below_more}
-use lib.Dec.{ltb}
-use lib.ListN.{length, get_or}
-use Rattle.sets.specs.Sets.{sub, same}
+use lib.ListN.{get_or}
 use Rattle.cube.specs.Cube.{lits}
-use Rattle.expression.{specs.Words.cubes_of, specs.Words.spare_of, proofs.Words.cubes-asc}
+use Rattle.expression.{specs.Words.cubes_of, proofs.Words.cubes-asc}
 use Rattle.expression_absorb.proofs.Compacting.{Stands, stands-first, stands-number, stands-end, turn-dropped, turn-kept}
 use Rattle.expression_absorb.proofs.absorb.Goals as goal
 use Rattle.expression_absorb.proofs.absorb.Goals.{At-loop-j}
@@ -29,22 +25,20 @@ pub loop-j-init : goal.loop-j-init
 loop-j-init c = (refl, search rules, λ k h. absurd (omega arith))
 
 pub next-preserved-then-absorbs : goal.next-preserved-then-absorbs
-next-preserved-then-absorbs c =
-    (
-      c.next.invariant.0,
-      turn-dropped (scanned (goal.at.next-preserved-then-absorbs c).At-loop-j) (omega arith) _ (present (goal.at.next-preserved-then-absorbs c).At-loop-j) c.loop-j.j _ (omega arith) c.cube_at.ensures
-          (sym c.absorbs.ensures ∙ c.if-absorbs.true),
-      c.next.invariant.2,
-      c.next.invariant.3,
-    )
+next-preserved-then-absorbs c = (
+  c.next.invariant.0,
+  turn-dropped (scanned (goal.at.next-preserved-then-absorbs c).At-loop-j) (omega arith) _ (present (goal.at.next-preserved-then-absorbs c).At-loop-j) c.loop-j.j _ (omega arith) c.cube_at.ensures
+      (sym c.absorbs.ensures ∙ c.if-absorbs.true),
+  c.next.invariant.2,
+  c.next.invariant.3,
+)
 
 pub loop-j-preserved : goal.loop-j-preserved
-loop-j-preserved c =
-    (
-      c.loop-j.invariant.0,
-      search rules,
-      below_more _ _ c.loop-j.invariant.2 (rw (← c.cube_at.ensures) (sym c.absorbs.ensures ∙ c.if-absorbs.false)),
-    )
+loop-j-preserved c = (
+  c.loop-j.invariant.0,
+  search rules,
+  below_more _ _ c.loop-j.invariant.2 (rw (← c.cube_at.ensures) (sym c.absorbs.ensures ∙ c.if-absorbs.false)),
+)
 
 pub next-preserved : goal.next-preserved
 next-preserved c =
@@ -61,4 +55,4 @@ shape_of-s c = c.next.invariant.3
 pub returns : goal.returns
 returns c =
     let h = c.next.invariant in
-    (stands-number h.1 (omega arith), record { cubes = stands-end h.1 (omega arith); spare = h.2 })
+    record { number = stands-number h.1 (omega arith); cubes = record { cubes = stands-end h.1 (omega arith); spare = h.2 } }

@@ -1,18 +1,15 @@
 -- `expression_absorb::absorb` meets its contract. The outer loop's invariant: what stands after i cubes are passed; the inner loop's: none
 -- of the first j cubes drops cube i. Assumes nothing.
-use mathlib.Core.Path.{◌≡◌, refl, sym, ◌∙◌}
+use mathlib.Core.Path.{◌≡◌}
 use mathlib.Core.Bool.{false, not, ◌&&◌, ◌||◌}
 use mathlib.Core.List.{[]}
 use Prim.Native.Nat.{ℕ, ◌≤◌, ◌<◌, ◌-◌}
-use native.Mathlib.Omega.{arith}
-use borrow.Author.Rules.{rules}
-use borrow.Author.Count.{below_more}
 use lib.Dec.{ltb}
 use lib.ListN.{length, get_or}
 use Rattle.sets.specs.Sets.{sub, same}
 use Rattle.cube.specs.Cube.{lits}
-use Rattle.expression.{specs.Words.cubes_of, specs.Words.spare_of, proofs.Words.cubes-asc}
-use Rattle.expression_absorb.proofs.Compacting.{Stands, stands-first, stands-number, stands-end, turn-dropped, turn-kept}
+use Rattle.expression.{specs.Words.cubes_of, specs.Words.spare_of}
+use Rattle.expression_absorb.proofs.Compacting.{Stands}
 use Rattle.expression_absorb.proofs.absorb.Given as goal
 
 abbrev pub invariant-loop-j : goal.invariant-loop-j

@@ -1,7 +1,5 @@
 -- `expression_absorb::absorbs` meets its contract. Assumes nothing.
 use mathlib.Core.Path.{sym, ◌∙◌}
-use borrow.Author.Tests.{not-true, not-false}
-use borrow.Author.Rules.{rules}
 use Rattle.expression_absorb.proofs.absorbs.Goals as goal
 
 pub returns-then-not-contains : goal.returns-then-not-contains
