@@ -23,4 +23,4 @@ overflow_add-result c = omega (arith, size-le (c.args.key / 65536), size-le (c.a
 
 pub returns : goal.returns
 unfolding cost_at
-returns c = rw (ne_eqb _ _ c.if-x-y.false) (ap₂ ◌+◌ c.type_size.ensures c.size_of-2.ensures)
+returns c = rw (ne_eqb _ _ c.if-x-y.false) (ap₂ ◌+◌ c.size_of.ensures c.size_of-2.ensures)
