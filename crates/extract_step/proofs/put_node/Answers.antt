@@ -20,7 +20,7 @@ appends-ordered {f = f} p h o = appends-as (sym (ordered-sort f (ap ordered (sym
 
 -- ---- what holds there
 inside : (w : After-write_node-to) → w.args.at ≤ length (cubes_of w.args.out.now)
-inside w = omega (arith, w.requires.1)
+inside w = omega (arith, w.requires.fact_2)
 
 pub returns-then-not-is_ordered : goal.returns-then-not-is_ordered
 returns-then-not-is_ordered c =
