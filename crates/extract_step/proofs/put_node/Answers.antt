@@ -4,8 +4,6 @@ use mathlib.Core.Path.{◌≡◌, sym, ap, ◌∙◌}
 use mathlib.Core.{Bool.true, List.List}
 use native.Mathlib.Omega.{arith}
 use lib.ListN.{length, take, drop}
-use borrow.Author.Rules.{rules}
-use borrow.Author.Tests.{not-false}
 use Rattle.expression.specs.{Words.cubes_of, Words.Appends, Expression.ordered, Expression.sort}
 use Rattle.expression.proofs.Sorting.{ordered-sort}
 use Rattle.expression.proofs.Placing.{placed-span, appends-as, appends-sort}
