@@ -13,7 +13,7 @@ use Rattle.blif_write.proofs.Walking.{plains_from, plains_all, plains-none, read
 use Rattle.blif_write.proofs.put_reads.Given as goal
 
 abbrev pub invariant-loop-v : goal.invariant-loop-v
-invariant-loop-v l = (l.v ≤ width) × Due l.initial.o l.initial.p (named (plains_of (lits l.set))) l.o l.p (named (plains_from (lits l.set) l.v)) × (length l.o ≡ length l.initial.o)
+invariant-loop-v l = (l.v ≤ width) × Due l.initial.o l.initial.p (led (map (name_text 120) (plains_of (lits l.set)))) l.o l.p (led (map (name_text 120) (plains_from (lits l.set) l.v))) × (length l.o ≡ length l.initial.o)
 
 abbrev pub decreases-loop-v : goal.decreases-loop-v
 decreases-loop-v l = width - l.v
