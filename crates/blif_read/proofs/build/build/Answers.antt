@@ -11,12 +11,12 @@ use Rattle.blif_laws.specs.{Text.Block, Reading.net_in}
 use Rattle.blif_read.specs.Defining.{model_by}
 use Rattle.blif_read.proofs.Building.{Whole, built-next, built-all}
 use Rattle.blif_read.proofs.build.build.Goals as goal
-use Rattle.blif_read.proofs.build.build.Goals.{After-out-in-loop-i-1}
+use Rattle.blif_read.proofs.build.build.Goals.{After-put_named-size}
 
 pub loop-i-init : goal.loop-i-init
 loop-i-init c = (omega arith, length-replicate {A = ℕ} word_slots 0, omega arith, λ bs w. laid_none)
 
-room : (c : After-out-in-loop-i-1) → c.loop-i.at + c.put_named-size.result ≤ cube_slots
+room : (c : After-put_named-size) → c.loop-i.at + c.put_named-size.result ≤ cube_slots
 room c = omega (arith, c.put_named-size.ensures.1, room-cubes c.loop-i.out cube_slots c.loop-i.invariant.1)
 
 pub loop-i-preserved : goal.loop-i-preserved
@@ -24,7 +24,7 @@ loop-i-preserved c =
     (
       omega arith,
       search rules,
-      room c,
+      room (goal.at.loop-i-preserved c).After-put_named-size,
       λ bs w. built-next c.requires w (omega arith) c.name_at.ensures (room-cubes c.loop-i.out cube_slots c.loop-i.invariant.1)
           (c.loop-i.invariant.3 bs w) c.put_named-size.ensures.0,
     )
@@ -47,7 +47,7 @@ pub bounds-sizes-i : goal.bounds-sizes-i
 bounds-sizes-i c = omega (arith, c.requires.outputs, c.requires.variables)
 
 pub overflow_add-at : goal.overflow_add-at
-overflow_add-at c = omega (arith, room c)
+overflow_add-at c = omega (arith, room (goal.at.overflow_add-at c).After-put_named-size)
 
 pub overflow_add-i : goal.overflow_add-i
 overflow_add-i c = omega (arith, c.requires.outputs, c.requires.variables)

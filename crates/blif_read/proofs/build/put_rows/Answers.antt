@@ -50,10 +50,10 @@ returns c =
 
 -- the places of the words are few enough to be counted
 fits : (h : At-loop-i) → h.args.at + h.loop-i.i ≤ largest
-fits h = omega (arith, h.loop-i.invariant.0, h.fits.at, cubes-few h.args.words.now)
+fits h = omega (arith, h.loop-i.invariant.0, h.ranges.at, cubes-few h.args.words.now)
 
 pub overflow_add-at : goal.overflow_add-at
-overflow_add-at c = omega (arith, fits c)
+overflow_add-at c = omega (arith, fits (goal.at.overflow_add-at c).At-loop-i)
 
 pub overflow_add-at-in-loop-i : goal.overflow_add-at-in-loop-i
 overflow_add-at-in-loop-i c = omega (arith, fits (goal.at.overflow_add-at-in-loop-i c).At-loop-i)

@@ -26,17 +26,17 @@ shape_of-marks-then-not-b c = c.loop-spare.invariant.0
 
 pub returns-then-not-b : goal.returns-then-not-b
 returns-then-not-b c = λ m bs f b k.
-    tally-done f (c.loop-spare.invariant.2 m bs f b k) (c.pass-b.ensures.none (c.if-not-b.true))
+    tally-done f (c.loop-spare.invariant.2 m bs f b k) (c.pass-b.ensures.none (not-true _ c.if-not-b.true))
 
 pub loop-spare-smaller : goal.loop-spare-smaller
 loop-spare-smaller c =
-    let q = (c.pass-b.ensures.one (c.if-not-b.false)).forth in
+    let q = (c.pass-b.ensures.one (not-false _ c.if-not-b.false)).forth in
     omega (arith, q.on, q.within)
 
 pub loop-spare-preserved : goal.loop-spare-preserved
 loop-spare-preserved c =
     let o = c.args.outputs in
-    let q = c.pass-b.ensures.one (c.if-not-b.false) in (
+    let q = c.pass-b.ensures.one (not-false _ c.if-not-b.false) in (
       c.mark_name.ensures.size ∙ c.loop-spare.invariant.0,
       q.size ∙ c.loop-spare.invariant.1,
       λ m bs f b k. tally-next f (c.loop-spare.invariant.2 m bs f b k) q
