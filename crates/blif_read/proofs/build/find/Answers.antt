@@ -1,16 +1,11 @@
 -- The answers of `blif_read::build::find`.
-use Prim.Native.Nat.{ℕ, ◌-◌, ◌≤◌}
-use mathlib.Core.Path.{◌≡◌, refl, sym, ap, ◌∙◌}
-use mathlib.Core.List.{List}
+use mathlib.Core.Path.{refl, sym, ap, ◌∙◌}
 use native.Mathlib.Omega.{arith}
-use borrow.Author.Rules.{rules}
 use borrow.Author.Tests.{not-true, not-false}
-use lib.ListN.{length}
-use Rattle.sets.{specs.Word.largest, proofs.Truth.clash}
-use Rattle.blif_laws.{specs.Text.Block, specs.Reading.same_name, proofs.Standing.same-name, proofs.Standing.name-self}
-use Rattle.blif_scan.specs.Scanning.{left, label_of}
-use Rattle.blif_form.specs.Surveying.{BlocksOf, SmallBlocks}
-use Rattle.blif_read.proofs.Finding.{Left, left-first, left-next, left-none, found_here}
+use Rattle.sets.{proofs.Truth.clash}
+use Rattle.blif_laws.{specs.Reading.same_name, proofs.Standing.same-name, proofs.Standing.name-self}
+use Rattle.blif_scan.specs.Scanning.{label_of}
+use Rattle.blif_read.proofs.Finding.{left-first, left-next, left-none, found_here}
 use Rattle.blif_read.proofs.build.find.Goals as goal
 
 pub loop-name-init : goal.loop-name-init

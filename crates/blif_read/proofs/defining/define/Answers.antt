@@ -1,18 +1,11 @@
 -- The answers of `blif_read::defining::define`.
-use Prim.Native.Nat.{ℕ, ◌-◌, ◌≤◌}
-use mathlib.Core.Path.{◌≡◌, refl, sym, ◌∙◌, subst}
-use mathlib.Core.List.{List}
+use mathlib.Core.Path.{refl, sym, ◌∙◌, subst}
 use native.Mathlib.Omega.{arith}
-use borrow.Author.Rules.{rules}
 use borrow.Author.Tests.{not-true, not-false}
-use lib.ListN.{length}
-use Rattle.sets.specs.Word.{largest}
-use Rattle.blif_laws.specs.Text.{Name, Block}
-use Rattle.blif_scan.specs.Scanning.{left}
+use Rattle.blif_laws.specs.Text.{Name}
 use Rattle.blif_lines.specs.Marking.{Raised}
 use Rattle.blif_read.specs.Defining.{number_if}
-use Rattle.blif_form.specs.Surveying.{BlocksOf, SmallBlocks}
-use Rattle.blif_read.proofs.Counting.{Tallied, tally-first, tally-next, tally-done}
+use Rattle.blif_read.proofs.Counting.{tally-first, tally-next, tally-done}
 use Rattle.blif_read.proofs.defining.define.Goals as goal
 
 pub loop-spare-init : goal.loop-spare-init

@@ -2,7 +2,6 @@
 use Prim.Native.Nat.{ℕ}
 use mathlib.Core.{Path.◌≡◌, Bool.Bool, Bool.true, Bool.false}
 use mathlib.Core.List.{[], ◌∷◌}
-use borrow.Author.Rules.{rules}
 use borrow.Author.Tests.{not-true, not-false}
 use Rattle.letters_products.specs.Spelled.{spelled}
 use Rattle.blif_scan.{specs.Scanning.EndedIs, specs.declared.Ended.TheVariants.Space}

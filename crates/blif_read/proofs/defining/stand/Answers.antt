@@ -1,16 +1,9 @@
 -- The answers of `blif_read::defining::stand`.
-use Prim.Native.Nat.{ℕ, ◌-◌, ◌≤◌}
-use mathlib.Core.Path.{◌≡◌, refl, ◌∙◌}
-use mathlib.Core.List.{List}
+use mathlib.Core.Path.{refl, ◌∙◌}
 use native.Mathlib.Omega.{arith}
-use borrow.Author.Rules.{rules}
 use borrow.Author.Tests.{not-true, not-false}
-use lib.ListN.{length}
-use Rattle.sets.specs.Word.{largest}
-use Rattle.blif_laws.specs.{Text.Block, Reading.named_in}
-use Rattle.blif_scan.specs.Scanning.{left}
-use Rattle.blif_form.specs.Surveying.{BlocksOf, SmallBlocks}
-use Rattle.blif_read.proofs.Counting.{Tallied, tally-first, tally-next, tally-done}
+use Rattle.blif_laws.specs.{Reading.named_in}
+use Rattle.blif_read.proofs.Counting.{tally-first, tally-next, tally-done}
 use Rattle.blif_read.proofs.defining.stand.Goals as goal
 
 pub loop-b-init : goal.loop-b-init
