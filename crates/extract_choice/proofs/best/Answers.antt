@@ -27,10 +27,10 @@ read : (c : After-scan-s) → let s = c.scan-s.result in to_z w32 (of_z w32 s.we
 read c = to_z-of_z {w = w32} {z = c.scan-s.result.weight} (search rules)
 
 above : (c : Else-s-le0) → lt_z (pos 0) c.scan-s.result.weight ≡ true
-above c = above_most c.scan-s.result.weight false (ap (λ z. le_z z (pos 0)) (sym ((let it : let s = c.scan-s.result in to_z w32 (of_z w32 s.weight) ≡ s.weight = to_z-of_z {w = w32} {z = c.scan-s.result.weight} (search rules) in it))) ∙ c.if-s-le0.false)
+above c = above_most c.scan-s.result.weight false (ap (λ z. le_z z (pos 0)) (sym (to_z-of_z {w = w32} {z = c.scan-s.result.weight} (search rules))) ∙ c.if-s-le0.false)
 
 low : (c : Then-s-le0) → lt_z (pos 0) c.scan-s.result.weight ≡ false
-low c = above_most c.scan-s.result.weight true (ap (λ z. le_z z (pos 0)) (sym ((let it : let s = c.scan-s.result in to_z w32 (of_z w32 s.weight) ≡ s.weight = to_z-of_z {w = w32} {z = c.scan-s.result.weight} (search rules) in it))) ∙ c.if-s-le0.true)
+low c = above_most c.scan-s.result.weight true (ap (λ z. le_z z (pos 0)) (sym (to_z-of_z {w = w32} {z = c.scan-s.result.weight} (search rules))) ∙ c.if-s-le0.true)
 
 pub returns-then-not-is_arranged : goal.returns-then-not-is_arranged
 returns-then-not-is_arranged c k = chosen-not _ _ (sym c.is_arranged.ensures ∙ c.if-not-is_arranged.true) c.no_step.ensures

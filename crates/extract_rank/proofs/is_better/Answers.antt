@@ -20,7 +20,7 @@ read-x s = to_z-of_z {w = w32} {z = s.args.x} (search rules)
 
 -- what the tests say
 above : (c : Then-w-gt0) → lt_z (pos 0) c.args.w ≡ true
-above c = ap (lt_z (pos 0)) (sym ((let it : to_z w32 (of_z w32 c.args.w) ≡ c.args.w = to_z-of_z {w = w32} {z = c.args.w} (search rules) in it))) ∙ c.if-w-gt0.true
+above c = ap (lt_z (pos 0)) (sym (to_z-of_z {w = w32} {z = c.args.w} (search rules))) ∙ c.if-w-gt0.true
 
 compared : (s : Start) → lt_z s.args.x s.args.w ≡ lt_z (to_z w32 (of_z w32 s.args.x)) (to_z w32 (of_z w32 s.args.w))
 compared s = ap₂ lt_z (sym (read-x s)) (sym (read-w s))
