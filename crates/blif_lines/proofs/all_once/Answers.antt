@@ -9,11 +9,11 @@ use Rattle.blif_lines.proofs.all_once.Goals as goal
 pub returns-then-marks-i-ne1 : goal.returns-then-marks-i-ne1
 returns-then-marks-i-ne1 c =
     test-stop (λ x. eqb x 1) c.args.marks.now c.args.k c.least-n.ensures c.loop-i.invariant (omega arith)
-    (ne_eqb _ 1 c.if-marks-i-ne1.true)
+    (ne_eqb _ 1 (omega arith))
 
 pub loop-i-preserved : goal.loop-i-preserved
 loop-i-preserved c =
-    test_on (λ x. eqb x 1) c.args.marks.now c.args.k c.least-n.ensures c.loop-i.invariant (omega arith) (eq-eqb _ 1 c.if-marks-i-ne1.false)
+    test_on (λ x. eqb x 1) c.args.marks.now c.args.k c.least-n.ensures c.loop-i.invariant (omega arith) (eq-eqb _ 1 (omega arith))
 
 pub returns : goal.returns
 returns c =

@@ -47,12 +47,12 @@ returns-in_default c =
 
 pub returns-then-lead-eq0 : goal.returns-then-lead-eq0
 returns-then-lead-eq0 c =
-    numeral-zero (text (goal.at.returns-then-lead-eq0 c).In-Is) c.args.at (lead (goal.at.returns-then-lead-eq0 c).In-Is) (after (goal.at.returns-then-lead-eq0 c).In-Is) (first (goal.at.returns-then-lead-eq0 c).In-Is) c.if-lead-eq0.true c.end_of_word-e.result c.end_of_word-e.ensures
+    numeral-zero (text (goal.at.returns-then-lead-eq0 c).In-Is) c.args.at (lead (goal.at.returns-then-lead-eq0 c).In-Is) (after (goal.at.returns-then-lead-eq0 c).In-Is) (first (goal.at.returns-then-lead-eq0 c).In-Is) (omega arith) c.end_of_word-e.result c.end_of_word-e.ensures
 
 pub loop-d-init : goal.loop-d-init
 loop-d-init c =
     let d = first (goal.at.loop-d-init c).In-Is in (
-      omega (arith, c.if-lead-eq0.false),
+      omega arith,
       omega (arith, d.2),
       d.1.on,
       d.0 ∙ ap (◌++ left (text (goal.at.loop-d-init c).In-Is) (after (goal.at.loop-d-init c).In-Is)) (sym (decimal-one (lead (goal.at.loop-d-init c).In-Is) d.2)),
