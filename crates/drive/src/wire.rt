@@ -5,9 +5,6 @@ ghost use Rattle.drive.specs.Wire.{found_of, refused_of, wrote_of};
 use letters::Wrote;
 use std::io::Stdout;
 
-// The most digits of a number.
-const MOST_DIGITS: usize = 16;
-
 // Bytes to standard output. Where they cannot be written nothing is said of it.
 fn write(to: Stdout, bytes: &[u8]) {
     let _ = to.write_all(bytes);
@@ -45,31 +42,11 @@ pub fn put_text(to: Stdout, out: &mut [u8], n: usize, s: &[u8]) -> usize {
     at
 }
 
-// A hex digit.
-fn hex_digit(d: u8) -> u8 {
-    if d < 10 {
-        return b'0' + d;
-    }
-    if d < 16 {
-        return b'a' + (d - 10);
-    }
-    b'?'
-}
-
-// The number in hex, of so many digits at least, and 16 at most.
+// The number in hex, of so many digits at least.
 pub fn put_hex(to: Stdout, out: &mut [u8], n: usize, x: u64, digits: usize) -> usize {
-    let mut room = [0u8; MOST_DIGITS];
-    let mut left = x;
-    let mut at = MOST_DIGITS;
-    while at > 0 {
-        if left == 0 && MOST_DIGITS - at >= digits {
-            return put_text(to, out, n, &room[at..]);
-        }
-        at -= 1;
-        room[at] = hex_digit((left % 16) as u8);
-        left = left / 16;
-    }
-    put_text(to, out, n, &room)
+    let mut room = [0u8; 16];
+    let k = io::hex(x, digits, &mut room);
+    put_text(to, out, n, &room[..k])
 }
 
 // A blank and the number.
