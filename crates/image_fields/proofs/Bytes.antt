@@ -146,6 +146,10 @@ short-value : (l : List Bool) → length l ≤ 8 → value_of (take 8 (l ++ repl
 short-value l h =
     ap value_of (head-bits l ∙ ap (◌++ replicate (8 - length l) false) (take_all 8 l h)) ∙ value-zeros l (8 - length l)
 
+one_more : (v p : ℕ) (b : Bool) → (2 * v + cond b 1 0) * p ≡ v * (p * 2) + cond b p 0
+one_more v p true = omega arith
+one_more v p false = omega arith
+
 last_bit : (l : List Bool) (b : Bool) → length l < 8
     → value_of (take 8 ((l ++ (b ∷ [])) ++ replicate 8 false)) ≡ value_of (take 8 (l ++ replicate 8 false)) + cond b (2 ^ (7 - length l)) 0
 last_bit l b h =
@@ -153,7 +157,7 @@ last_bit l b h =
     let r : 8 - length (l ++ (b ∷ [])) ≡ 7 - length l = omega arith in
     let t : 8 - length l ≡ suc (7 - length l) = omega arith in
     short-value (l ++ (b ∷ [])) (omega arith) ∙ ap₂ (λ v k. v * 2 ^ k) (value-append l b) r
-    ∙ rw (ap (λ k. 2 ^ k) t ∙ pow-suc 2 (7 - length l)) (elim b [ true ↦ omega arith | false ↦ omega arith ])
+    ∙ rw (ap (λ k. 2 ^ k) t ∙ pow-suc 2 (7 - length l)) (one_more (value_of l) (2 ^ (7 - length l)) b)
     ∙ ap (◌+ cond b (2 ^ (7 - length l)) 0) (sym (short-value l (omega arith)))
 
 -- in room for more bits, zero before

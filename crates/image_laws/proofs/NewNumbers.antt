@@ -60,7 +60,8 @@ unfolding index_of from
 index-from k zero i h = absurd (omega arith)
 index-from k (suc m) zero h = rw (eq-eqb (k + 0) k (omega arith))
 index-from k (suc m) (suc i) h =
-    let e : k + suc i ≡ suc k + i = omega arith in rw (ne_eqb (k + suc i) k (λ p. omega arith), e) (ap suc (index-from (suc k) m i (omega arith)))
+    let e : k + suc i ≡ suc k + i = omega arith in
+    rw (ne_eqb (k + suc i) k (λ p. omega arith)) (ap (λ z. suc (index_of z (from (suc k) m))) e ∙ ap suc (index-from (suc k) m i (omega arith)))
 
 module _ (n : ℕ) (l : List ℕ) where
   -- ---- variables

@@ -80,7 +80,7 @@ unfolding numbered cubes_at
 numbered-at v [] i = refl
 numbered-at v (f ∷ fs) zero = rw (eq-eqb (v + 0) v (omega arith))
 numbered-at v (f ∷ fs) (suc i) =
-    let e : v + suc i ≡ suc v + i = omega arith in rw (ne_eqb (v + suc i) v (λ p. omega arith), e) (numbered-at (suc v) fs i)
+    let e : v + suc i ≡ suc v + i = omega arith in rw (ne_eqb (v + suc i) v (λ p. omega arith)) (ap (λ (u : ℕ). cubes_at u (numbered (suc v) fs)) e ∙ numbered-at (suc v) fs i)
 
 found_at : (l : List Node) → ((e g : Node) → e ∈ l → g ∈ l → e.number ≡ g.number → e ≡ g) → {e : Node} → e ∈ l → cubes_at e.number l ≡ e.cubes
 unfolding cubes_at

@@ -1,9 +1,11 @@
 -- The answers of `blif_form::all_used`.
-use Prim.Native.Nat.{ℕ, ◌+◌, ◌<◌, ◌≤◌}
+use Prim.Native.Nat.{ℕ, ◌+◌, ◌-◌, ◌<◌, ◌≤◌}
 use mathlib.Core.Path.{◌≡◌, refl, ◌∙◌, subst}
 use mathlib.Core.Bool.{Bool, true, false}
 use native.Mathlib.Omega.{arith}
+use borrow.Author.Rules.{rules}
 use borrow.Author.Tests.{not-true, not-false}
+use lib.ListN.{length}
 use Rattle.blif_form.specs.Surveying.{UsedFrom}
 use Rattle.blif_form.proofs.Columns.{used-none, used-more, used-less, used_all}
 use Rattle.blif_form.proofs.all_used.Goals as goal
@@ -31,7 +33,7 @@ loop-base-init c = let a = c.args in (omega arith, refl, used-none a.s.now a.at 
 pub returns-then-not-is_used : goal.returns-then-not-is_used
 returns-then-not-is_used c =
     let a = c.args in (
-      used-less a.s.now a.at a.r c.loop-base.base (number (goal.at.returns-then-not-is_used c).After-is_used) (within (goal.at.returns-then-not-is_used c).After-is_used) (tested (goal.at.returns-then-not-is_used c).After-is_used false (not-true _ c.if-not-is_used.true)),
+      used-less a.s.now a.at a.r c.loop-base.base (number (goal.at.returns-then-not-is_used c).After-is_used) (within (goal.at.returns-then-not-is_used c).After-is_used) (tested (goal.at.returns-then-not-is_used c).After-is_used false (c.if-not-is_used.true)),
       c.is_used.ensures.1 ∙ c.loop-base.invariant.1,
     )
 
@@ -40,7 +42,7 @@ loop-base-preserved c =
     let a = c.args in (
       within (goal.at.loop-base-preserved c).After-is_used,
       c.is_used.ensures.1 ∙ c.loop-base.invariant.1,
-      used-more a.s.now a.at a.r c.loop-base.base (number (goal.at.loop-base-preserved c).After-is_used) c.loop-base.invariant.2 (tested (goal.at.loop-base-preserved c).After-is_used true (not-false _ c.if-not-is_used.false)),
+      used-more a.s.now a.at a.r c.loop-base.base (number (goal.at.loop-base-preserved c).After-is_used) c.loop-base.invariant.2 (tested (goal.at.loop-base-preserved c).After-is_used true (c.if-not-is_used.false)),
     )
 
 pub returns : goal.returns

@@ -4,6 +4,7 @@ use Prim.Native.Nat.{ℕ}
 use mathlib.Core.Path.{◌≡◌, ◌∙◌, subst}
 use mathlib.Core.Bool.{Bool, true, false}
 use mathlib.Core.List.{List}
+use borrow.Author.Rules.{rules}
 use borrow.Author.Tests.{not-true, not-false}
 use lib.ListN.{length}
 use Rattle.blif_lines.specs.Lining.{RowsBy}
@@ -27,8 +28,8 @@ kept r = r.read_rows-rows.auto.marks ∙ r.clear.ensures.size
 pub returns-then-not-rows : goal.returns-then-not-rows
 returns-then-not-rows c =
     let a = c.args in
-    (window-none a.base a.k (rows (goal.at.returns-then-not-rows c).After-read_rows-rows false (not-true _ c.if-not-rows.true)), kept (goal.at.returns-then-not-rows c).After-read_rows-rows)
+    (window-none a.base a.k (rows (goal.at.returns-then-not-rows c).After-read_rows-rows false (c.if-not-rows.true)), kept (goal.at.returns-then-not-rows c).After-read_rows-rows)
 
 pub returns : goal.returns
 returns c =
-    (λ ws more h. c.all_met.ensures ∙ window-used c.requires c.clear.ensures (rows (goal.at.returns c).After-read_rows-rows true (not-false _ c.if-not-rows.false)) ws more h, kept (goal.at.returns c).After-read_rows-rows)
+    (λ ws more h. c.all_met.ensures ∙ window-used c.requires c.clear.ensures (rows (goal.at.returns c).After-read_rows-rows true (c.if-not-rows.false)) ws more h, kept (goal.at.returns c).After-read_rows-rows)

@@ -3,8 +3,9 @@
 use Prim.Native.Nat.{ℕ, ◌≤◌}
 use mathlib.Core.Path.{◌≡◌, sym, ◌∙◌, subst}
 use mathlib.Core.Bool.{Bool, true, false}
-use mathlib.Core.List.{List, ◌++◌}
+use mathlib.Core.List.{List, [], ◌++◌}
 use native.Mathlib.Omega.{arith}
+use borrow.Author.Rules.{rules}
 use borrow.Author.Tests.{not-true, not-false}
 use lib.ListN.{length, length-append}
 use Rattle.sets.specs.Word.{largest}
@@ -56,31 +57,31 @@ none {s} {at} {m} r e h = subst (λ x. BlockBy x s at m r) (sym e) h
 pub returns-then-not-d : goal.returns-then-not-d
 returns-then-not-d c =
     let few : c.args.m ≤ largest = omega (arith, c.ranges.m) in
-    (none c.no_block.result c.no_block.ensures (nameless few (names (goal.at.returns-then-not-d c).After-read_names-d false (not-true _ c.if-not-d.true))), after-names (goal.at.returns-then-not-d c).After-read_names-d)
+    (none c.no_block.result c.no_block.ensures (nameless few (names (goal.at.returns-then-not-d c).After-read_names-d false (c.if-not-d.true))), after-names (goal.at.returns-then-not-d c).After-read_names-d)
 
 -- names are there
 there : (c : After-is_among) → c.read_names-d.result.is ≡ true
-there c = not-false _ c.if-not-d.false
+there c = c.if-not-d.false
 
 pub returns-then-not-is_among : goal.returns-then-not-is_among
 returns-then-not-is_among c =
-    (none c.no_block-then-not-is_among.result c.no_block-then-not-is_among.ensures (outside (names (goal.at.returns-then-not-is_among c).After-read_names-d true (there (goal.at.returns-then-not-is_among c).After-is_among)) (name (goal.at.returns-then-not-is_among c).After-is_among false (not-true _ c.if-not-is_among.true))), after-names (goal.at.returns-then-not-is_among c).After-read_names-d)
+    (none c.no_block-then-not-is_among.result c.no_block-then-not-is_among.ensures (outside (names (goal.at.returns-then-not-is_among c).After-read_names-d true (there (goal.at.returns-then-not-is_among c).After-is_among)) (name (goal.at.returns-then-not-is_among c).After-is_among false (c.if-not-is_among.true))), after-names (goal.at.returns-then-not-is_among c).After-read_names-d)
 
 pub returns-then-not-rows : goal.returns-then-not-rows
 returns-then-not-rows c =
-    (none c.no_block-then-not-rows.result c.no_block-then-not-rows.ensures (rowless (names (goal.at.returns-then-not-rows c).After-read_names-d true (there (goal.at.returns-then-not-rows c).After-is_among)) (rows (goal.at.returns-then-not-rows c).After-read_rows-rows false (not-true _ c.if-not-rows.true))), after-rows (goal.at.returns-then-not-rows c).After-read_rows-rows)
+    (none c.no_block-then-not-rows.result c.no_block-then-not-rows.ensures (rowless (names (goal.at.returns-then-not-rows c).After-read_names-d true (there (goal.at.returns-then-not-rows c).After-is_among)) (rows (goal.at.returns-then-not-rows c).After-read_rows-rows false (c.if-not-rows.true))), after-rows (goal.at.returns-then-not-rows c).After-read_rows-rows)
 
 pub returns-then-not-all_used : goal.returns-then-not-all_used
 returns-then-not-all_used c =
     (
-      none c.no_block-then-not-all_used.result c.no_block-then-not-all_used.ensures (unused (names (goal.at.returns-then-not-all_used c).After-read_names-d true (there (goal.at.returns-then-not-all_used c).After-is_among)) (columns (goal.at.returns-then-not-all_used c).After-all_used false (not-true _ c.if-not-all_used.true))),
+      none c.no_block-then-not-all_used.result c.no_block-then-not-all_used.ensures (unused (names (goal.at.returns-then-not-all_used c).After-read_names-d true (there (goal.at.returns-then-not-all_used c).After-is_among)) (columns (goal.at.returns-then-not-all_used c).After-all_used false (c.if-not-all_used.true))),
       c.all_used.ensures.1 ∙ after-rows (goal.at.returns-then-not-all_used c).After-read_rows-rows,
     )
 
 pub returns : goal.returns
 returns c =
     let top : c.read_names-d.result.top ≤ largest = omega (arith, c.struct_known-1.given) in (
-      block-found _ (names (goal.at.returns c).After-read_names-d true (there (goal.at.returns c).After-is_among)) (rows (goal.at.returns c).After-read_rows-rows true (not-false _ c.if-not-rows.false))
-          (name (goal.at.returns c).After-is_among true (not-false _ c.if-not-is_among.left)) (columns (goal.at.returns c).After-all_used true (not-false _ c.if-not-all_used.false)) top,
+      block-found _ (names (goal.at.returns c).After-read_names-d true (there (goal.at.returns c).After-is_among)) (rows (goal.at.returns c).After-read_rows-rows true (c.if-not-rows.false))
+          (name (goal.at.returns c).After-is_among true (not-false _ c.if-not-is_among.left)) (columns (goal.at.returns c).After-all_used true (c.if-not-all_used.false)) top,
       c.all_used.ensures.1 ∙ after-rows (goal.at.returns c).After-read_rows-rows,
     )

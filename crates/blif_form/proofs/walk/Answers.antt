@@ -1,15 +1,17 @@
 -- The answers of `blif_form::walk`.
-use Prim.Native.Nat.{ℕ}
+use Prim.Native.Nat.{ℕ, ◌-◌}
 use mathlib.Core.Path.{◌≡◌, refl, ◌∙◌, subst}
 use mathlib.Core.{Logic.inl, Logic.inr, List.List}
 use mathlib.Core.Bool.{Bool, true, false}
 use native.Mathlib.Omega.{arith}
+use borrow.Author.Rules.{rules}
 use borrow.Author.Tests.{not-true, not-false}
+use lib.ListN.{length}
 use Rattle.letters_products.specs.Spelled.{spelled}
 use Rattle.blif_scan.specs.{Scanning.EndedIs, declared.Ended.Ended}
 use Rattle.blif_form.specs.Surveying.{BlockBy}
 use Rattle.blif_scan.specs.declared.Ended.TheVariants as Ended
-use Rattle.blif_form.proofs.Surveying.{passed_none, passed-more, passed-few, walked, walked-not}
+use Rattle.blif_form.proofs.Surveying.{Passed, passed_none, passed-more, passed-few, walked, walked-not}
 use Rattle.blif_form.proofs.walk.Goals as goal
 use Rattle.blif_form.proofs.walk.Goals.{After-keyword-e, After-read_block-b, At-loop-q}
 
@@ -44,16 +46,16 @@ returns-in_default c =
 
 pub returns-then-not-b : goal.returns-then-not-b
 returns-then-not-b c =
-    walked-not c.loop-q.invariant.0 _ (begins (goal.at.returns-then-not-b c).After-read_block-b).0 (block (goal.at.returns-then-not-b c).After-read_block-b false (not-true _ c.if-not-b.true))
+    walked-not c.loop-q.invariant.0 _ (begins (goal.at.returns-then-not-b c).After-read_block-b).0 (block (goal.at.returns-then-not-b c).After-read_block-b false (c.if-not-b.true))
 
 pub loop-q-smaller : goal.loop-q-smaller
 loop-q-smaller c =
-    omega (arith, (block (goal.at.loop-q-smaller c).After-read_block-b true (not-false _ c.if-not-b.false)).forth, (begins (goal.at.loop-q-smaller c).After-read_block-b).1)
+    omega (arith, (block (goal.at.loop-q-smaller c).After-read_block-b true (c.if-not-b.false)).forth, (begins (goal.at.loop-q-smaller c).After-read_block-b).1)
 
 pub loop-q-preserved : goal.loop-q-preserved
 loop-q-preserved c =
     (
-      passed-more c.loop-q.invariant.0 _ (begins (goal.at.loop-q-preserved c).After-read_block-b).0 c.read_block-b.result (block (goal.at.loop-q-preserved c).After-read_block-b true (not-false _ c.if-not-b.false)) _ _
+      passed-more c.loop-q.invariant.0 _ (begins (goal.at.loop-q-preserved c).After-read_block-b).0 c.read_block-b.result (block (goal.at.loop-q-preserved c).After-read_block-b true (c.if-not-b.false)) _ _
           c.more_rows-rows.ensures c.larger-top.ensures,
       c.read_block-b.ensures.1 ∙ c.loop-q.invariant.1,
     )

@@ -4,6 +4,7 @@ use mathlib.Core.Path.{◌≡◌, ap}
 use mathlib.Core.Logic.{◌⊎◌, inl, inr}
 use native.Mathlib.Omega.{arith}
 use denote.Enum.Declared.{tag_of}
+use borrow.Author.Rules.{rules}
 use Rattle.blif_scan.{specs.declared.Ended.Ended, specs.declared.Ended.TheVariants.Line, proofs.Ended.the_type}
 use Rattle.blif_lines.proofs.Rowing.{end-spaceless, end-got, end-other}
 use Rattle.blif_lines.proofs.end_row.Goals as goal

@@ -1,23 +1,26 @@
 -- The answers of `blif_lines::read_rows`.
+use Prim.Native.Nat.{◌-◌}
 use mathlib.Core.Path.{sym, ◌∙◌}
 use native.Mathlib.Omega.{arith}
+use lib.ListN.{length}
+use borrow.Author.Rules.{rules}
 use borrow.Author.Tests.{not-true, not-false}
 use Rattle.blif_lines.specs.Lining.{RowGot, RowNot}
-use Rattle.blif_lines.proofs.Rowing.{rowing-none, rowing-next, rowing-got, rowing-no}
+use Rattle.blif_lines.proofs.Rowing.{Rowing, rowing-none, rowing-next, rowing-got, rowing-no}
 use Rattle.blif_lines.proofs.read_rows.Goals as goal
-use Rattle.blif_lines.proofs.read_rows.Goals.{In-At-2, In_default}
+use Rattle.blif_lines.proofs.read_rows.Goals.{In-At, In-default}
 
 pub loop-marks-init : goal.loop-marks-init
 loop-marks-init c = rowing-none _ _ _ _ _
 
 -- a row comes
-row_here : (k : In-At-2) →
+row_here : (k : In-At) →
     let a = k.args in
     RowGot a.s.now k.loop-marks.p a.r a.base k.loop-marks.marks k.read_row-a.new.marks k.in-At.q
 row_here k = rw k.in-At.is at k.read_row-a.ensures
 
 -- or none does
-none : (c : In_default) →
+none : (c : In-default) →
     let a = c.args in
     RowNot a.s.now c.loop-marks.p a.r c.loop-marks.marks c.read_row-a.new.marks
 none c = rw c.in_default.is at c.read_row-a.ensures
@@ -31,13 +34,13 @@ returns-in_default c =
 
 pub overflow_add-count : goal.overflow_add-count
 overflow_add-count c =
-    record { fits = omega (arith, (row_here (goal.at.overflow_add-count c).In-At-2).forth, c.loop-marks.invariant.room) }
+    record { fits = omega (arith, (row_here (goal.at.overflow_add-count c).In-At).forth, c.loop-marks.invariant.room) }
 
 pub loop-marks-smaller : goal.loop-marks-smaller
-loop-marks-smaller c = omega (arith, (row_here (goal.at.loop-marks-smaller c).In-At-2).forth.on, (row_here (goal.at.loop-marks-smaller c).In-At-2).forth.within)
+loop-marks-smaller c = omega (arith, (row_here (goal.at.loop-marks-smaller c).In-At).forth.on, (row_here (goal.at.loop-marks-smaller c).In-At).forth.within)
 
 pub loop-marks-preserved : goal.loop-marks-preserved
-loop-marks-preserved c = rowing-next c.loop-marks.invariant _ (row_here (goal.at.loop-marks-preserved c).In-At-2)
+loop-marks-preserved c = rowing-next c.loop-marks.invariant _ (row_here (goal.at.loop-marks-preserved c).In-At)
 
 pub shape_of-marks : goal.shape_of-marks
 shape_of-marks c = c.loop-marks.invariant.marks.size

@@ -1,7 +1,8 @@
 -- The answers of `blif_lines::read_signs`.
-use Prim.Native.Nat.{ℕ}
+use Prim.Native.Nat.{ℕ, ◌≤◌, ◌-◌}
 use mathlib.Core.Path.{subst}
 use native.Mathlib.Omega.{arith}
+use borrow.Author.Rules.{rules}
 use Rattle.blif_lines.specs.Lining.{SignsGot}
 use Rattle.blif_lines.proofs.Rowing.{signs-none, signs-next, signs-stop}
 use Rattle.blif_lines.proofs.read_signs.Goals as goal

@@ -10,39 +10,39 @@ use Rattle.blif_read.proofs.read.Goals as goal
 use Rattle.blif_read.proofs.read.Goals.{Else-not-is_few, Else-not-is_gapless, Else-not-is_once, Else-not-v}
 
 got : (e : Else-not-v) → SurveyGot e.args.text.now e.take_survey-v.result
-got e = survey-got _ _ e.take_survey-v.ensures (not-false _ e.if-not-v.false)
+got e = survey-got _ _ e.take_survey-v.ensures (e.if-not-v.false)
 
 small : (e : Else-not-v) → e.take_survey-v.result.outputs ≤ largest
 small e = search rules
 
 gapless : (e : Else-not-is_gapless) → e.is_gapless.result ≡ true
-gapless e = not-false _ e.if-not-is_gapless.false
+gapless e = e.if-not-is_gapless.false
 
 once : (e : Else-not-is_once) → e.is_once.result ≡ true
-once e = not-false _ e.if-not-is_once.false
+once e = e.if-not-is_once.false
 
 few : (e : Else-not-is_few) → e.is_few.result ≡ true
-few e = not-false _ e.if-not-is_few.false
+few e = e.if-not-is_few.false
 
 pub returns-then-not-v : goal.returns-then-not-v
 returns-then-not-v c =
-    formless-told (survey-not _ c.take_survey-v.result c.take_survey-v.ensures (not-true _ c.if-not-v.true)) c.refuse.ensures
+    formless-told (survey-not _ c.take_survey-v.result c.take_survey-v.ensures (c.if-not-v.true)) c.refuse.ensures
 
 pub returns-then-not-is_gapless : goal.returns-then-not-is_gapless
 returns-then-not-is_gapless c =
-    gap-told (got (goal.at.returns-then-not-is_gapless c).Else-not-v) (small (goal.at.returns-then-not-is_gapless c).Else-not-v) _ c.is_gapless.ensures (not-true _ c.if-not-is_gapless.true) c.refuse-then-not-is_gapless.ensures
+    gap-told (got (goal.at.returns-then-not-is_gapless c).Else-not-v) (small (goal.at.returns-then-not-is_gapless c).Else-not-v) _ c.is_gapless.ensures (c.if-not-is_gapless.true) c.refuse-then-not-is_gapless.ensures
 
 pub returns-then-not-is_once : goal.returns-then-not-is_once
 returns-then-not-is_once c =
     once-told (got (goal.at.returns-then-not-is_once c).Else-not-v) (small (goal.at.returns-then-not-is_once c).Else-not-v) _ c.is_gapless.ensures (gapless (goal.at.returns-then-not-is_once c).Else-not-is_gapless) _ c.is_once.ensures
-    (not-true _ c.if-not-is_once.true)
+    (c.if-not-is_once.true)
     c.refuse-then-not-is_once.ensures
 
 pub returns-then-not-is_few : goal.returns-then-not-is_few
 returns-then-not-is_few c =
     many-told (got (goal.at.returns-then-not-is_few c).Else-not-v) (small (goal.at.returns-then-not-is_few c).Else-not-v) _ c.is_gapless.ensures (gapless (goal.at.returns-then-not-is_few c).Else-not-is_gapless) _ c.is_once.ensures (once (goal.at.returns-then-not-is_few c).Else-not-is_once) _
     c.is_few.ensures
-    (not-true _ c.if-not-is_few.true) c.refuse-then-not-is_few.ensures
+    (c.if-not-is_few.true) c.refuse-then-not-is_few.ensures
 
 pub overflow_sub-v : goal.overflow_sub-v
 overflow_sub-v c =

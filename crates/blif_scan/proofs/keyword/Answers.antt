@@ -1,10 +1,11 @@
 -- The answers of `blif_scan::keyword`.
-use Prim.Native.Nat.{ℕ, ◌<◌}
-use mathlib.Core.Path.{refl, ◌∙◌, ap}
-use mathlib.Core.List.{List}
+use Prim.Native.Nat.{ℕ, ◌-◌, ◌<◌, ◌≤◌}
+use mathlib.Core.Path.{◌≡◌, refl, ◌∙◌, ap}
+use mathlib.Core.List.{List, ◌++◌}
 use native.Mathlib.Omega.{arith}
-use lib.ListN.{length}
+use lib.ListN.{length, take}
 use lib.Seq.{take_all}
+use borrow.Author.Rules.{rules}
 use Rattle.blif_scan.specs.Scanning.{left, NextIs}
 use Rattle.blif_scan.specs.declared.Next.TheVariants as Next
 use Rattle.blif_scan.proofs.Scanning.{word_cut, word-other, word_next, ended-past}

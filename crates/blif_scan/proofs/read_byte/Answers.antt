@@ -1,12 +1,13 @@
 -- The answers of `blif_scan::read_byte`.
-use Prim.Native.Nat.{ℕ, ◌+◌, ◌<◌}
+use Prim.Native.Nat.{ℕ, ◌+◌, ◌-◌, ◌<◌, ◌≤◌}
 use mathlib.Core.Path.{◌≡◌, refl, sym, ◌∙◌}
 use mathlib.Core.{Bool.true, List.List}
 use native.Mathlib.Omega.{arith}
 use lib.ListN.{length}
+use borrow.Author.Rules.{rules}
 use borrow.Author.Tests.{not-true, not-false}
 use Rattle.blif_laws.proofs.Breaking.{joined-done}
-use Rattle.blif_scan.specs.Scanning.{is_joint}
+use Rattle.blif_scan.specs.Scanning.{left, is_joint}
 use Rattle.blif_scan.proofs.Scanning.{joint-inside, left-joint, left-byte}
 use Rattle.blif_scan.proofs.read_byte.Goals as goal
 use Rattle.blif_scan.proofs.read_byte.Goals.{Else-not-is_joint}
@@ -17,7 +18,7 @@ loop-p-init c = (omega arith, refl)
 pub returns-then-not-is_joint : goal.returns-then-not-is_joint
 returns-then-not-is_joint c =
     (
-      c.loop-p.invariant.1 ∙ left-byte _ _ c.loop-p-test.true (sym c.is_joint.ensures ∙ not-true _ c.if-not-is_joint.true),
+      c.loop-p.invariant.1 ∙ left-byte _ _ c.loop-p-test.true (sym c.is_joint.ensures ∙ c.if-not-is_joint.true),
       record { on = omega arith; within = omega arith },
     )
 
@@ -26,7 +27,7 @@ module _ (c : Else-not-is_joint) where
   text = c.args.s.now
 
   joint : is_joint text c.loop-p.p ≡ true
-  joint = sym c.is_joint.ensures ∙ not-false _ c.if-not-is_joint.false
+  joint = sym c.is_joint.ensures ∙ c.if-not-is_joint.false
 
   inside : c.loop-p.p + 1 < length text
   inside = joint-inside text c.loop-p.p joint

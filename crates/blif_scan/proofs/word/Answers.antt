@@ -1,11 +1,13 @@
 -- The answers of `blif_scan::word`.
-use Prim.Native.Nat.{ℕ}
+use Prim.Native.Nat.{ℕ, ◌-◌}
 use mathlib.Core.{Path.sym, Path.◌∙◌, List.List}
 use native.Mathlib.Omega.{arith}
+use lib.ListN.{length}
+use borrow.Author.Rules.{rules}
 use borrow.Author.Tests.{not-true, not-false}
 use Rattle.blif_scan.specs.Scanning.{NextIs}
 use Rattle.blif_scan.specs.declared.Next.TheVariants as Next
-use Rattle.blif_scan.proofs.Heading.{pass-none, pass-next, word-ends, word-is, word-empty, word-odd}
+use Rattle.blif_scan.proofs.Heading.{Passed, pass-none, pass-next, word-ends, word-is, word-empty, word-odd}
 use Rattle.blif_scan.proofs.word.Goals as goal
 use Rattle.blif_scan.proofs.word.Goals.{At-loop-b, In-Byte}
 
@@ -38,7 +40,7 @@ returns-then-b-eq10 c =
 pub returns-then-not-is_plain : goal.returns-then-not-is_plain
 returns-then-not-is_plain c =
     word-odd (text (goal.at.returns-then-not-is_plain c).At-loop-b) (start (goal.at.returns-then-not-is_plain c).At-loop-b) c.loop-b.p c.loop-b.invariant _ _ (byte-here (goal.at.returns-then-not-is_plain c).In-Byte) c.if-b-eq10.false
-    (sym c.is_plain.ensures ∙ not-true c.is_plain.result c.if-not-is_plain.true)
+    (sym c.is_plain.ensures ∙ c.if-not-is_plain.true)
 
 pub loop-b-smaller : goal.loop-b-smaller
 loop-b-smaller c = let n = byte-here (goal.at.loop-b-smaller c).In-Byte in omega (arith, n.1.on, n.1.within)
@@ -46,4 +48,4 @@ loop-b-smaller c = let n = byte-here (goal.at.loop-b-smaller c).In-Byte in omega
 pub loop-b-preserved : goal.loop-b-preserved
 loop-b-preserved c =
     pass-next (text (goal.at.loop-b-preserved c).At-loop-b) (start (goal.at.loop-b-preserved c).At-loop-b) c.loop-b.p c.loop-b.invariant _ _ (byte-here (goal.at.loop-b-preserved c).In-Byte)
-    (sym c.is_plain.ensures ∙ not-false c.is_plain.result c.if-not-is_plain.false)
+    (sym c.is_plain.ensures ∙ c.if-not-is_plain.false)

@@ -1,6 +1,7 @@
 -- `blif_write::put_model` meets its contract: the head, the blocks of the divisors, those of the outputs, `.end`. Assumes nothing.
 use Prim.Native.Nat.{◌≤◌}
 use native.Mathlib.Omega.{arith}
+use borrow.Author.Rules.{rules}
 use lib.ListN.{length}
 use Rattle.sets.specs.Word.{largest}
 use Rattle.letters_products.specs.Spelled.{spelled}

@@ -1,11 +1,15 @@
 -- `blif_write::put_reads` meets its contract. The loop's invariant: the names of the variables from v on are due. Assumes nothing.
-use mathlib.Core.Path.{◌≡◌}
-use Prim.Native.Nat.{◌-◌, ◌≤◌}
+use mathlib.Core.Path.{◌≡◌, refl, ◌∙◌, ap}
+use mathlib.Core.List.{List, map}
+use Prim.Native.Nat.{ℕ, ◌-◌, ◌≤◌}
+use native.Mathlib.Omega.{arith}
+use borrow.Author.Rules.{rules}
 use lib.ListN.{length}
 use Rattle.cube.specs.Cube.{width, lits}
-use Rattle.letters.proofs.Laying.{Due}
-use Rattle.blif_write.specs.Parts.{plains_of}
-use Rattle.blif_write.proofs.Walking.{plains_from}
+use Rattle.letters.specs.Letters.{name_text}
+use Rattle.letters.proofs.Laying.{Due, due_all, due-as, due-next, due-done}
+use Rattle.blif_write.specs.Parts.{led, plains_of}
+use Rattle.blif_write.proofs.Walking.{plains_from, plains_all, plains-none, read_next}
 use Rattle.blif_write.proofs.put_reads.Given as goal
 
 abbrev pub invariant-loop-v : goal.invariant-loop-v

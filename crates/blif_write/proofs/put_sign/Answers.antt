@@ -1,6 +1,8 @@
 -- `blif_write::put_sign` meets its contract: the sign is written where the set has the variable. Assumes nothing.
 use mathlib.Core.Path.{refl, sym, ◌∙◌, ap}
+use mathlib.Core.List.{[], ◌∷◌}
 use native.Mathlib.Omega.{arith}
+use borrow.Author.Rules.{rules}
 use Rattle.letters.proofs.Laying.{due_all, due-done, laid_as}
 use Rattle.blif_write.proofs.put_sign.Goals as goal
 

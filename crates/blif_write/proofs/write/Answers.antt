@@ -1,6 +1,6 @@
 -- `blif_write::write` meets its contract: the network is renumbered, its text counted with no room, and then written or refused. Assumes nothing.
 use mathlib.Core.Path.{◌≡◌, ap, subst}
-use mathlib.Core.List.{◌++◌}
+use mathlib.Core.List.{[], ◌++◌}
 use Prim.Native.Nat.{◌<◌, ◌≤◌}
 use native.Mathlib.Omega.{arith}
 use borrow.Author.Rules.{rules}

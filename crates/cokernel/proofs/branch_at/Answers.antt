@@ -1,4 +1,5 @@
 -- `cokernel::branch_at` meets its contract. Assumes nothing.
+use borrow.Author.Rules.{rules}
 use mathlib.Core.Path.{◌∙◌}
 use Rattle.cube.proofs.Lits.{lits-asc}
 use Rattle.cokernel.proofs.{Exactly.held-words, Steps.joined-inside, Steps.branch-found}

@@ -1,5 +1,6 @@
 -- `cokernel::list_all` meets its contract. Assumes nothing.
 use native.Mathlib.Omega.{arith}
+use borrow.Author.Rules.{rules}
 use Rattle.cokernel.proofs.{Telling.walks-first, Telling.whole-walked}
 use Rattle.cokernel.proofs.list_all.Goals as goal
 

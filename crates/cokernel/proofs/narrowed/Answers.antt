@@ -1,4 +1,5 @@
 -- `cokernel::narrowed` meets its contract. Assumes nothing.
+use borrow.Author.Rules.{rules}
 use borrow.Author.Tests.{ne_eqb}
 use Rattle.cokernel.proofs.narrowed.Goals as goal
 

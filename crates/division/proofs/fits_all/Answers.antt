@@ -1,9 +1,9 @@
 -- The answers of `division::fits_all`.
-use Prim.Native.Nat.{ℕ}
+use Prim.Native.Nat.{ℕ, ◌≤◌, ◌-◌}
 use mathlib.Core.Path.{◌≡◌, sym, ◌∙◌, ap}
-use mathlib.Core.{Bool.Bool, Bool.◌&&◌, List.List}
+use mathlib.Core.{Bool.Bool, Bool.◌&&◌, List.List, List.[]}
 use native.Mathlib.Omega.{arith}
-use lib.ListN.{get_or}
+use lib.ListN.{length, drop, get_or}
 use borrow.Author.Rules.{rules}
 use borrow.Author.Tests.{not-true, not-false}
 use Rattle.sets.specs.Sets.{apart, union}
@@ -29,12 +29,12 @@ tested c = ap (test (start c.before.before.before.before)) (sym c.before.cube-at
 pub returns-then-not-fits : goal.returns-then-not-fits
 unfolding in_quotient
 returns-then-not-fits c =
-    sym (all-stop (cubes (goal.at.returns-then-not-fits c).At-loop-i) c.loop-i.i [] (omega arith) (test (goal.at.returns-then-not-fits c).Start) (tested (goal.at.returns-then-not-fits c).After-fits ∙ not-true _ c.if-not-fits.true)) ∙ c.loop-i.invariant.1
+    sym (all-stop (cubes (goal.at.returns-then-not-fits c).At-loop-i) c.loop-i.i [] (omega arith) (test (goal.at.returns-then-not-fits c).Start) (tested (goal.at.returns-then-not-fits c).After-fits ∙ c.if-not-fits.true)) ∙ c.loop-i.invariant.1
 
 pub loop-i-preserved : goal.loop-i-preserved
 unfolding in_quotient
 loop-i-preserved c =
-    (search rules, sym (all-on (cubes (goal.at.loop-i-preserved c).At-loop-i) c.loop-i.i [] (omega arith) (test (goal.at.loop-i-preserved c).Start) (tested (goal.at.loop-i-preserved c).After-fits ∙ not-false _ c.if-not-fits.false)) ∙ c.loop-i.invariant.1)
+    (search rules, sym (all-on (cubes (goal.at.loop-i-preserved c).At-loop-i) c.loop-i.i [] (omega arith) (test (goal.at.loop-i-preserved c).Start) (tested (goal.at.loop-i-preserved c).After-fits ∙ c.if-not-fits.false)) ∙ c.loop-i.invariant.1)
 
 pub returns : goal.returns
 unfolding in_quotient

@@ -1,5 +1,6 @@
 -- `division::holds` meets its contract: in cube order the search finds a cube exactly where it is one of them. Assumes nothing.
 use mathlib.Core.Path.{◌≡◌, sym, ◌∙◌, ap}
+use borrow.Author.Rules.{rules}
 use borrow.Author.Tests.{not-true, not-false}
 use Rattle.sets.specs.Lists.{is_some}
 use Rattle.cube.specs.Cube.{lits}
@@ -9,7 +10,7 @@ use Rattle.division.proofs.holds.Goals as goal
 use Rattle.division.proofs.holds.Goals.{After-find-p}
 
 pub returns-then-not-passed : goal.returns-then-not-passed
-returns-then-not-passed c = rw (not-true c.args.passed c.if-not-passed.true)
+returns-then-not-passed c = rw (c.if-not-passed.true)
 
 -- what the search found is what is told
 found : (c : After-find-p) → is_some (place_of c.find-p.result) ≡ has (lits c.args.c)
@@ -17,9 +18,9 @@ found : (c : After-find-p) → is_some (place_of c.find-p.result) ≡ has (lits 
 found c = ap is_some c.find-p.ensures ∙ find-has _ _ c.requires
 
 pub returns-in-At : goal.returns-in-At
-returns-in-At c = rw (not-false c.args.passed c.if-not-passed.false)
+returns-in-At c = rw (c.if-not-passed.false)
     (sym (ap (λ r. is_some (place_of r)) c.in-At.is) ∙ found (goal.at.returns-in-At c).After-find-p)
 
 pub returns-in-Nothing : goal.returns-in-Nothing
-returns-in-Nothing c = rw (not-false c.args.passed c.if-not-passed.false)
+returns-in-Nothing c = rw (c.if-not-passed.false)
     (sym (ap (λ r. is_some (place_of r)) c.in-Nothing.is) ∙ found (goal.at.returns-in-Nothing c).After-find-p)

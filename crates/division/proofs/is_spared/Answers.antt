@@ -1,10 +1,10 @@
 -- The answers of `division::is_spared`.
-use Prim.Native.Nat.{ℕ}
+use Prim.Native.Nat.{ℕ, ◌≤◌, ◌-◌}
 use mathlib.Core.Path.{◌≡◌, sym, ◌∙◌, ap}
 use mathlib.Core.Bool.{Bool, not, ◌&&◌}
-use mathlib.Core.List.{List}
+use mathlib.Core.List.{List, []}
 use native.Mathlib.Omega.{arith}
-use lib.ListN.{get_or}
+use lib.ListN.{length, drop, get_or}
 use borrow.Author.Rules.{rules}
 use Rattle.sets.specs.Sets.{sub, without}
 use Rattle.sets.proofs.Places.{all-stop, all-on, all_done}

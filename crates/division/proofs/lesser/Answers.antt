@@ -1,4 +1,5 @@
 -- `division::lesser` meets its contract: by the cases of both. Assumes nothing.
+use borrow.Author.Rules.{rules}
 use Rattle.division.proofs.Refusing.{lesser-one, lesser-second, lesser-first}
 use Rattle.division.proofs.lesser.Goals as goal
 

@@ -1,11 +1,13 @@
 -- The answers of `division::list_quotient`.
+use Prim.Native.Nat.{◌-◌}
 use mathlib.Core.Path.{◌≡◌, refl, sym, ◌∙◌}
 use native.Mathlib.Omega.{arith}
+use borrow.Author.Rules.{rules}
 use borrow.Author.Tests.{not-true, not-false}
 use Rattle.sets.specs.Sets.{sub}
 use Rattle.cube.specs.Cube.{lits}
 use Rattle.expression.specs.Words.{cubes_of}
-use Rattle.division.proofs.Listing.{walk_first, walk-skip, walk_put, walk_end}
+use Rattle.division.proofs.Listing.{Walk, walk_first, walk-skip, walk_put, walk_end}
 use Rattle.division.proofs.{Making.given, Making.given-length}
 use Rattle.division.proofs.list_quotient.Goals as goal
 use Rattle.division.proofs.list_quotient.Goals.{After-contains}
@@ -25,15 +27,15 @@ loop-i-init c =
 pub loop-i-preserved-then-not-contains : goal.loop-i-preserved-then-not-contains
 loop-i-preserved-then-not-contains c =
     walk-skip c.loop-i.invariant (omega arith) c.cube_at-e.ensures
-    (λ l. rw (lacking (goal.at.loop-i-preserved-then-not-contains c).After-contains ∙ not-true _ c.if-not-contains.true))
+    (λ l. rw (lacking (goal.at.loop-i-preserved-then-not-contains c).After-contains ∙ c.if-not-contains.true))
 
 pub loop-i-preserved-then-not-fits_all : goal.loop-i-preserved-then-not-fits_all
 loop-i-preserved-then-not-fits_all c =
     walk-skip c.loop-i.invariant (omega arith) c.cube_at-e.ensures
     (λ l. rw (
-      lacking (goal.at.loop-i-preserved-then-not-fits_all c).After-contains ∙ not-false _ c.if-not-contains.false,
+      lacking (goal.at.loop-i-preserved-then-not-fits_all c).After-contains ∙ c.if-not-contains.false,
       ← c.without-c.ensures,
-      sym c.fits_all.ensures ∙ not-true _ c.if-not-fits_all.true,
+      sym c.fits_all.ensures ∙ c.if-not-fits_all.true,
     ))
 
 pub loop-i-preserved : goal.loop-i-preserved
@@ -41,9 +43,9 @@ loop-i-preserved c =
     walk_put c.loop-i.invariant (omega arith) c.cube_at-e.ensures
     c.put_cube.ensures c.put_cube.auto.s
     (λ l. rw (
-      lacking (goal.at.loop-i-preserved c).After-contains ∙ not-false _ c.if-not-contains.false,
+      lacking (goal.at.loop-i-preserved c).After-contains ∙ c.if-not-contains.false,
       ← c.without-c.ensures,
-      sym c.fits_all.ensures ∙ not-false _ c.if-not-fits_all.false,
+      sym c.fits_all.ensures ∙ c.if-not-fits_all.false,
     ))
 
 pub shape_of-to : goal.shape_of-to

@@ -1,6 +1,7 @@
 -- The answers of `expression::clear`.
 use Prim.Native.Nat.{◌-◌, min}
 use mathlib.Core.Path.{◌≡◌, refl, ◌∙◌, ap, subst}
+use mathlib.Core.List.{[]}
 use native.Mathlib.Omega.{arith}
 use lib.ListN.{length, replicate}
 use Rattle.expression.specs.Words.{cubes_of, Put}

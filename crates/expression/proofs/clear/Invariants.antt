@@ -1,6 +1,7 @@
 -- `expression::clear` meets its contract. The loop's invariant: the places from a up to i hold the empty cube. Assumes nothing.
 use Prim.Native.Nat.{◌-◌, ◌≤◌}
 use mathlib.Core.Path.{◌≡◌}
+use mathlib.Core.List.{[]}
 use lib.ListN.{length, replicate}
 use Rattle.expression.specs.Words.{Placed}
 use Rattle.expression.proofs.clear.Given as goal

@@ -30,13 +30,12 @@ overflow_add-at c =
     record { fits = omega (arith, number (goal.at.overflow_add-at c).At-loop-i, room (goal.at.overflow_add-at c).At-loop-i, cubes-few c.args.to.now, c.if-room-at.false) }
 
 pub loop-i-preserved : goal.loop-i-preserved
-loop-i-preserved c =
-    (
-      omega arith,
-      c.put_cube.auto.s ∙ c.loop-i.invariant.1,
-      copied_next (cubes_of c.args.s.now) (omega (arith, number (goal.at.loop-i-preserved c).At-loop-i)) (omega (arith, number (goal.at.loop-i-preserved c).At-loop-i)) c.loop-i.invariant.2 c.cube_at.ensures
-          c.put_cube.ensures,
-    )
+loop-i-preserved c = (
+  omega arith,
+  c.put_cube.auto.s ∙ c.loop-i.invariant.1,
+  copied_next (cubes_of c.args.s.now) (omega (arith, number (goal.at.loop-i-preserved c).At-loop-i)) (omega (arith, number (goal.at.loop-i-preserved c).At-loop-i)) c.loop-i.invariant.2 c.cube_at.ensures
+      c.put_cube.ensures,
+)
 
 pub returns : goal.returns
 returns c =

@@ -1,7 +1,7 @@
 -- `expression::cube_at` meets its contract: the words of a cube are its masks. Assumes nothing.
 use Prim.Native.Nat.{ℕ, ◌+◌, ◌*◌, ◌/◌}
 use mathlib.Core.Path.{◌≡◌, sym, ◌∙◌, ap₂}
-use mathlib.Core.{Bool.cond, List.List, Logic.inl, Logic.inr}
+use mathlib.Core.{Bool.cond, List.List, List.[], Logic.inl, Logic.inr}
 use native.Mathlib.Omega.{arith}
 use lib.Dec.{ltb}
 use lib.ListN.{length, get_or}

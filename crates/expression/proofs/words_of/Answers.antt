@@ -1,5 +1,5 @@
 -- `expression::words_of` meets its contract: two words make a cube. Assumes nothing.
-use Prim.Native.Nat.{min}
+use Prim.Native.Nat.{◌*◌, min}
 use mathlib.Core.Path.{◌≡◌, ◌∙◌, ap}
 use native.Mathlib.Omega.{arith}
 use lib.ListN.{length}

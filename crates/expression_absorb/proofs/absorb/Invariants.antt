@@ -2,12 +2,14 @@
 -- of the first j cubes drops cube i. Assumes nothing.
 use mathlib.Core.Path.{◌≡◌}
 use mathlib.Core.Bool.{false, not, ◌&&◌, ◌||◌}
+use mathlib.Core.List.{[]}
 use Prim.Native.Nat.{ℕ, ◌≤◌, ◌<◌, ◌-◌}
 use lib.Dec.{ltb}
-use lib.ListN.{get_or}
+use lib.ListN.{length, get_or}
 use Rattle.sets.specs.Sets.{sub, same}
 use Rattle.cube.specs.Cube.{lits}
-use Rattle.expression.{specs.Words.cubes_of}
+use Rattle.expression.{specs.Words.cubes_of, specs.Words.spare_of}
+use Rattle.expression_absorb.proofs.Compacting.{Stands}
 use Rattle.expression_absorb.proofs.absorb.Given as goal
 
 abbrev pub invariant-loop-j : goal.invariant-loop-j
@@ -16,3 +18,10 @@ invariant-loop-j l =
 
 abbrev pub decreases-loop-j : goal.decreases-loop-j
 decreases-loop-j l = l.n - l.j
+
+abbrev pub invariant-next : goal.invariant-next
+invariant-next l =
+    (l.n ≡ length (cubes_of l.initial.s)) × Stands (cubes_of l.initial.s) (cubes_of l.s) l.i l.kept × (spare_of l.s ≡ spare_of l.initial.s) × (length l.s ≡ length l.initial.s)
+
+abbrev pub decreases-next : goal.decreases-next
+decreases-next l = l.n - l.i

@@ -8,4 +8,7 @@ pub returns : goal.returns
 returns c =
     let w = c.words_of-p.ensures in
     let r = c.absorb.ensures in
-    (r.0 ∙ ap (λ f. length (absorbed f)) (part_of _ _ _ _ _ w).0, placed_by _ _ _ _ _ w absorbed absorbed-length _ r.1)
+    record {
+      number = r.number ∙ ap (λ f. length (absorbed f)) (part_of _ _ _ _ _ w).0;
+      cubes = placed_by _ _ _ _ _ w absorbed absorbed-length _ r.cubes;
+    }

@@ -1,6 +1,5 @@
 -- `expression_accept::accept` meets its contract: each refusal by what the tests before it say. Assumes nothing.
 use mathlib.Core.Path.{sym, ◌∙◌}
-use borrow.Author.Tests.{not-true, not-false}
 use Rattle.expression_accept.proofs.Accepting.{refused-many, refused-spare, refused-else}
 use Rattle.expression_accept.proofs.accept.Goals as goal
 
@@ -12,14 +11,14 @@ returns-then-s-ne0 c = sym (refused-spare _ c.if-s-gt-WORDS.false c.if-s-ne0.tru
 
 pub returns-then-not-all_proper : goal.returns-then-not-all_proper
 returns-then-not-all_proper c =
-    sym (refused-else _ c.if-s-gt-WORDS.false c.if-s-ne0.false ∙ rw (sym c.all_proper.ensures ∙ not-true _ c.if-not-all_proper.true))
+    sym (refused-else _ c.if-s-gt-WORDS.false c.if-s-ne0.false ∙ rw (sym c.all_proper.ensures ∙ c.if-not-all_proper.true))
 
 pub returns-then-not-all_loose : goal.returns-then-not-all_loose
 returns-then-not-all_loose c =
     sym (refused-else _ c.if-s-gt-WORDS.false c.if-s-ne0.false
-    ∙ rw (sym c.all_proper.ensures ∙ not-false _ c.if-not-all_proper.false, sym c.all_loose.ensures ∙ not-true _ c.if-not-all_loose.true))
+    ∙ rw (sym c.all_proper.ensures ∙ c.if-not-all_proper.false, sym c.all_loose.ensures ∙ c.if-not-all_loose.true))
 
 pub returns : goal.returns
 returns c =
     sym (refused-else _ c.if-s-gt-WORDS.false c.if-s-ne0.false
-    ∙ rw (sym c.all_proper.ensures ∙ not-false _ c.if-not-all_proper.false, sym c.all_loose.ensures ∙ not-false _ c.if-not-all_loose.false))
+    ∙ rw (sym c.all_proper.ensures ∙ c.if-not-all_proper.false, sym c.all_loose.ensures ∙ c.if-not-all_loose.false))

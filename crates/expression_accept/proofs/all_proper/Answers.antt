@@ -3,8 +3,7 @@ use mathlib.Core.Path.{◌≡◌, sym, ◌∙◌, ap}
 use Prim.Native.Nat.{ℕ}
 use native.Mathlib.Omega.{arith}
 use borrow.Author.Rules.{rules}
-use borrow.Author.Tests.{not-true, not-false}
-use mathlib.Core.List.{List}
+use mathlib.Core.List.{List, []}
 use lib.ListN.{get_or}
 use Rattle.sets.specs.{Sets.proper}
 use Rattle.expression.specs.Words.{cubes_of}
@@ -21,12 +20,12 @@ tested c = ap proper (sym c.cube_at.ensures) ∙ sym c.is_proper.ensures
 
 pub returns-then-not-is_proper : goal.returns-then-not-is_proper
 returns-then-not-is_proper c =
-    sym (all-stop (held (goal.at.returns-then-not-is_proper c).At-loop-i) c.loop-i.i [] (omega arith) proper (tested (goal.at.returns-then-not-is_proper c).After-is_proper ∙ not-true _ c.if-not-is_proper.true))
+    sym (all-stop (held (goal.at.returns-then-not-is_proper c).At-loop-i) c.loop-i.i [] (omega arith) proper (tested (goal.at.returns-then-not-is_proper c).After-is_proper ∙ c.if-not-is_proper.true))
     ∙ c.loop-i.invariant.1
 
 pub loop-i-preserved : goal.loop-i-preserved
 loop-i-preserved c =
-    (search rules, sym (all-on (held (goal.at.loop-i-preserved c).At-loop-i) c.loop-i.i [] (omega arith) proper (tested (goal.at.loop-i-preserved c).After-is_proper ∙ not-false _ c.if-not-is_proper.false)) ∙ c.loop-i.invariant.1)
+    (search rules, sym (all-on (held (goal.at.loop-i-preserved c).At-loop-i) c.loop-i.i [] (omega arith) proper (tested (goal.at.loop-i-preserved c).After-is_proper ∙ c.if-not-is_proper.false)) ∙ c.loop-i.invariant.1)
 
 pub returns : goal.returns
 returns c =

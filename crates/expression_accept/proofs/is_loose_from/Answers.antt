@@ -3,8 +3,7 @@ use mathlib.Core.Path.{◌≡◌, sym, ◌∙◌, ap}
 use Prim.Native.Nat.{ℕ, ◌+◌}
 use native.Mathlib.Omega.{arith}
 use borrow.Author.Rules.{rules}
-use borrow.Author.Tests.{not-true, not-false}
-use mathlib.Core.List.{List}
+use mathlib.Core.List.{List, []}
 use lib.ListN.{drop, get_or}
 use Rattle.sets.specs.Lists.{all}
 use Rattle.cube.specs.Cube.{lits}
@@ -36,15 +35,14 @@ overflow_add-j c = omega (arith, cubes-few c.args.s.now)
 
 pub returns-then-not-is_loose : goal.returns-then-not-is_loose
 returns-then-not-is_loose c =
-    sym (all-stop (cubes_of (lent (goal.at.returns-then-not-is_loose c).At-loop-j)) c.loop-j.j [] (omega arith) (loose (first (goal.at.returns-then-not-is_loose c).At-loop-j)) (tested (goal.at.returns-then-not-is_loose c).After-is_loose ∙ not-true _ c.if-not-is_loose.true)) ∙ whole (goal.at.returns-then-not-is_loose c).At-loop-j
+    sym (all-stop (cubes_of (lent (goal.at.returns-then-not-is_loose c).At-loop-j)) c.loop-j.j [] (omega arith) (loose (first (goal.at.returns-then-not-is_loose c).At-loop-j)) (tested (goal.at.returns-then-not-is_loose c).After-is_loose ∙ c.if-not-is_loose.true)) ∙ whole (goal.at.returns-then-not-is_loose c).At-loop-j
 
 pub loop-j-preserved : goal.loop-j-preserved
-loop-j-preserved c =
-    (
-      search rules,
-      sym (all-on (cubes_of (lent (goal.at.loop-j-preserved c).At-loop-j)) c.loop-j.j [] (omega arith) (loose (first (goal.at.loop-j-preserved c).At-loop-j)) (tested (goal.at.loop-j-preserved c).After-is_loose ∙ not-false _ c.if-not-is_loose.false))
-          ∙ c.loop-j.invariant.1,
-    )
+loop-j-preserved c = (
+  search rules,
+  sym (all-on (cubes_of (lent (goal.at.loop-j-preserved c).At-loop-j)) c.loop-j.j [] (omega arith) (loose (first (goal.at.loop-j-preserved c).At-loop-j)) (tested (goal.at.loop-j-preserved c).After-is_loose ∙ c.if-not-is_loose.false))
+      ∙ c.loop-j.invariant.1,
+)
 
 pub returns : goal.returns
 returns c =

@@ -1,10 +1,12 @@
 -- The answers of `expression_survey::find`.
 use mathlib.Core.{Path.refl, List.List}
-use Prim.Native.Nat.{ℕ}
+use Prim.Native.Nat.{ℕ, ◌-◌, ◌≤◌}
 use native.Mathlib.Omega.{arith}
+use borrow.Author.Rules.{rules}
+use lib.ListN.{length}
 use Rattle.cube.{specs.Cube.lits, proofs.Verdict.Told, proofs.Verdict.told_of_lem}
 use Rattle.expression.specs.Words.{cubes_of}
-use Rattle.expression_survey.proofs.Searching.{middle, left-start, go-up, go-down, stop-at, stop-none}
+use Rattle.expression_survey.proofs.Searching.{middle, Left, left-start, go-up, go-down, stop-at, stop-none}
 use Rattle.expression_survey.proofs.find.Goals as goal
 use Rattle.expression_survey.proofs.find.Goals.{After-compare-o}
 

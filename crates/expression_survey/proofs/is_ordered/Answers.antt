@@ -1,11 +1,13 @@
 -- The answers of `expression_survey::is_ordered`.
-use Prim.Native.Nat.{ℕ}
+use Prim.Native.Nat.{ℕ, ◌≤◌, ◌-◌}
 use mathlib.Core.{Logic.inl, Logic.inr, Path.sym, Path.◌∙◌, List.List}
 use native.Mathlib.Omega.{arith}
+use borrow.Author.Rules.{rules}
+use lib.ListN.{length}
 use Rattle.cube.proofs.Verdict.{is-before, order-told}
 use Rattle.sets.proofs.Truth.{refuted}
 use Rattle.expression.specs.Words.{cubes_of}
-use Rattle.expression_survey.proofs.Neighbours.{climbs-ordered, climbs-not, climbs-next}
+use Rattle.expression_survey.proofs.Neighbours.{Climbs, climbs-ordered, climbs-not, climbs-next}
 use Rattle.expression_survey.proofs.is_ordered.Goals as goal
 use Rattle.expression_survey.proofs.is_ordered.Goals.{At-loop-i}
 
@@ -19,7 +21,7 @@ pub returns-in_default : goal.returns-in_default
 returns-in_default c =
     let e = c.cube_at.ensures in
     let g = c.cube_at-in-loop-i.ensures in
-    let n = refuted (λ b. elim (rw (c.compare-o.ensures ∙ sym (is-before _ _ b)) at c.in_default.keys2) [ inl w ↦ omega arith | inr w ↦ omega arith ]) in
+    let n = refuted (λ b. c.in_default.not-Before (c.compare-o.ensures ∙ sym (is-before _ _ b))) in
     sym (climbs-not (cubes (goal.at.returns-in_default c).At-loop-i) c.loop-i.i (omega arith) (omega arith) (rw (← e, ← g) n))
 
 pub loop-i-preserved : goal.loop-i-preserved

@@ -1,14 +1,16 @@
 -- The answers of `expression_survey::literals`.
 use mathlib.Core.Path.{◌≡◌, sym, ◌∙◌, ap}
-use mathlib.Core.{Logic.inl, Logic.inr}
-use Prim.Native.Nat.{◌+◌, ◌<◌}
+use mathlib.Core.{List.[], Logic.inl, Logic.inr}
+use Prim.Native.Nat.{◌+◌, ◌-◌, ◌<◌, ◌≤◌}
 use native.Mathlib.Omega.{arith}
+use borrow.Author.Rules.{rules}
 use lib.ListN.{length, get_or, take}
 use lib.Seq.{take_all}
 use Rattle.expression.specs.{Words.cubes_of, Expression.literals_of, Answers.capped}
-use Rattle.sets.{proofs.Places.total-next}
+use Rattle.sets.{specs.Word.largest, proofs.Places.total-next}
 use Rattle.expression_survey.proofs.Counting.{capped-more, capped-full}
 use Rattle.expression_survey.proofs.literals.Goals as goal
+use Rattle.expression_survey.proofs.literals.Goals.{then-n-sum, else-n-sum}
 
 pub loop-i-preserved : goal.loop-i-preserved
 loop-i-preserved c =
@@ -18,8 +20,8 @@ loop-i-preserved c =
     let n : c.count-n.result ≡ length (get_or f c.loop-i.i []) = c.count-n.ensures ∙ ap length c.cube_at.ensures in
     let more : t + c.count-n.result ≡ literals_of (take (c.loop-i.i + 1) f) = rw n (sym (total-next length f c.loop-i.i [] inside)) in
     elim c.if-n-sum.branch [
-      | inl (w, e) ↦ (omega arith, e ∙ capped-more t c.count-n.result c.loop-i.sum c.loop-i.invariant.1 w.taken ∙ ap capped more, omega arith)
-      | inr (w, e) ↦ (omega arith, e ∙ capped-full t c.count-n.result c.loop-i.sum c.loop-i.invariant.1 w.left ∙ ap capped more, omega arith)
+      | then-n-sum w ↦ (omega arith, w.sum-is ∙ capped-more t c.count-n.result c.loop-i.sum c.loop-i.invariant.1 w.if-n-sum.true ∙ ap capped more, omega arith)
+      | else-n-sum w ↦ (omega arith, w.sum-is ∙ capped-full t c.count-n.result c.loop-i.sum c.loop-i.invariant.1 w.if-n-sum.false ∙ ap capped more, omega arith)
     ]
 
 pub returns : goal.returns

@@ -1,4 +1,5 @@
 -- `extract::first_best` meets its contract: the table says the gains of what it is filled with. Assumes nothing.
+use borrow.Author.Rules.{rules}
 use Rattle.extract.proofs.first_best.Goals as goal
 
 pub returns : goal.returns

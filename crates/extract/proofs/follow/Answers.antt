@@ -4,13 +4,14 @@ use mathlib.Core.Path.{◌≡◌, sym, ap, ◌∙◌, subst}
 use mathlib.Core.{Logic.inl, Logic.inr, Bool.true, Option.some}
 use native.Mathlib.Omega.{arith}
 use borrow.Author.Rules.{rules}
-use lib.IntN.{pos}
+use lib.IntN.{pos, ◌-ℤ◌}
 use lib.ListN.{set}
 use lib.Signed.{le_z, lt_z}
 use mir.Syntax.{w32}
 use mir.Val.{to_z, of_z}
 use mir.Facts.{to_z-of_z}
-use Rattle.network.{specs.Held.net_of, specs.Handed.Shaped, proofs.Handing.shape_of}
+use Rattle.extract_counts.specs.Counts.{Says}
+use Rattle.network.{specs.Net.nodes, specs.Held.net_of, specs.Held.most_variables, specs.Handed.Shaped, proofs.Handing.shape_of}
 use Rattle.extract_laws.specs.Run.{run_from}
 use Rattle.extract_step.specs.declared.Outcome.TheVariants as Outcome
 use Rattle.extract_step.specs.declared.Next.{Next}

@@ -18,7 +18,7 @@ use Rattle.extract_choice.proofs.best.Goals as goal
 use Rattle.extract_choice.proofs.best.Goals.{After-struct_told-1, Else-s-le0, Then-s-le0}
 
 kept : (c : After-struct_told-1) → arranged c.args.n ≡ true
-kept c = sym c.is_arranged.ensures ∙ not-false _ c.if-not-is_arranged.false
+kept c = sym c.is_arranged.ensures ∙ c.if-not-is_arranged.false
 
 shape : (c : After-struct_told-1) → Shaped c.args.n
 shape c = shape_of _ (search rules) (search rules)
@@ -34,7 +34,7 @@ low : (c : Then-s-le0) → lt_z (pos 0) c.scan-s.result.weight ≡ false
 low c = above_most c.scan-s.result.weight true (ap (λ z. le_z z (pos 0)) (sym ((let it : let s = c.scan-s.result in to_z w32 (of_z w32 s.weight) ≡ s.weight = to_z-of_z {w = w32} {z = c.scan-s.result.weight} (search rules) in it))) ∙ c.if-s-le0.true)
 
 pub returns-then-not-is_arranged : goal.returns-then-not-is_arranged
-returns-then-not-is_arranged c k = chosen-not _ _ (sym c.is_arranged.ensures ∙ not-true _ c.if-not-is_arranged.true) c.no_step.ensures
+returns-then-not-is_arranged c k = chosen-not _ _ (sym c.is_arranged.ensures ∙ c.if-not-is_arranged.true) c.no_step.ensures
 
 pub returns-then-s-le0 : goal.returns-then-s-le0
 returns-then-s-le0 c k =

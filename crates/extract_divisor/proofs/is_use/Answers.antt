@@ -2,6 +2,7 @@
 use mathlib.Core.Path.{◌≡◌, sym, ◌∙◌, ap}
 use mathlib.Core.Bool.{true}
 use borrow.Author.Tests.{not-true, not-false}
+use borrow.Author.Rules.{rules}
 use Rattle.sets.{specs.Lists.is_nil, specs.Lists.is_some, proofs.Sets.meet-none}
 use Rattle.sets.specs.Sets.{sub, apart, union, without}
 use Rattle.cube.specs.Cube.{lits}
@@ -13,7 +14,7 @@ use Rattle.extract_divisor.proofs.is_use.Goals.{After-find-f, After-is_empty, El
 
 -- the cube contains the first part
 inside : (c : Else-not-contains) → sub (lits c.args.a) (lits c.args.c) ≡ true
-inside c = sym c.contains.ensures ∙ not-false _ c.if-not-contains.false
+inside c = sym c.contains.ensures ∙ c.if-not-contains.false
 
 -- what the test of the base says
 free : (c : After-is_empty) → apart (without (lits c.args.c) (lits c.args.a)) (lits c.args.b) ≡ c.is_empty.result
@@ -27,17 +28,17 @@ searched : (c : After-find-f)
 unfolding found_use
 searched c =
     let s = c.args in
-    rw ((let it : sub (lits c.args.a) (lits c.args.c) ≡ true = sym c.contains.ensures ∙ not-false _ c.if-not-contains.false in it), (let it : apart (without (lits c.args.c) (lits c.args.a)) (lits c.args.b) ≡ c.is_empty.result = sym (c.is_empty.ensures ∙ ap is_nil c.common.ensures ∙ meet-none _ _ ∙ ap (λ z. apart z (lits c.args.b)) c.without-base.ensures) in it) ∙ not-false _ c.if-not-is_empty.false)
+    rw ((let it : sub (lits c.args.a) (lits c.args.c) ≡ true = sym c.contains.ensures ∙ c.if-not-contains.false in it), (let it : apart (without (lits c.args.c) (lits c.args.a)) (lits c.args.b) ≡ c.is_empty.result = sym (c.is_empty.ensures ∙ ap is_nil c.common.ensures ∙ meet-none _ _ ∙ ap (λ z. apart z (lits c.args.b)) c.without-base.ensures) in it) ∙ c.if-not-is_empty.false)
     (ap is_some c.find-f.ensures
     ∙ ap (λ z. is_some (find_in z (cubes_of s.s.now))) (c.union.ensures ∙ ap (λ z. union z (lits s.b)) c.without-base.ensures))
 
 pub returns-then-not-contains : goal.returns-then-not-contains
 unfolding found_use
-returns-then-not-contains c = rw (sym c.contains.ensures ∙ not-true _ c.if-not-contains.true)
+returns-then-not-contains c = rw (sym c.contains.ensures ∙ c.if-not-contains.true)
 
 pub returns-then-not-is_empty : goal.returns-then-not-is_empty
 unfolding found_use
-returns-then-not-is_empty c = rw (inside (goal.at.returns-then-not-is_empty c).Else-not-contains, free (goal.at.returns-then-not-is_empty c).After-is_empty ∙ not-true _ c.if-not-is_empty.true)
+returns-then-not-is_empty c = rw (inside (goal.at.returns-then-not-is_empty c).Else-not-contains, free (goal.at.returns-then-not-is_empty c).After-is_empty ∙ c.if-not-is_empty.true)
 
 pub returns-in-At : goal.returns-in-At
 returns-in-At c = ap (λ p. is_some (place_of p)) (sym c.in-At.is) ∙ searched (goal.at.returns-in-At c).After-find-f

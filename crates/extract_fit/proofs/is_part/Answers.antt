@@ -6,6 +6,7 @@ use borrow.Author.Tests.{not-true, not-false}
 use Rattle.cube.specs.Cube.{lits}
 use Rattle.extract_laws.specs.Divisor.{small}
 use Rattle.extract_fit.proofs.Fitting.{small-none, small-many, small-few}
+use borrow.Author.Rules.{rules}
 use Rattle.extract_fit.proofs.is_part.Goals as goal
 use Rattle.extract_fit.proofs.is_part.Goals.{Else-n-gt2}
 
@@ -20,8 +21,8 @@ pub returns-then-n-gt2 : goal.returns-then-n-gt2
 returns-then-n-gt2 c = rw (small-many (lits c.args.a) (omega (arith, c.count-n.ensures, c.if-n-gt2.true)))
 
 pub returns-then-not-is_proper : goal.returns-then-not-is_proper
-returns-then-not-is_proper c = rw (few (goal.at.returns-then-not-is_proper c).Else-n-gt2, sym c.is_proper.ensures ∙ not-true _ c.if-not-is_proper.true)
+returns-then-not-is_proper c = rw (few (goal.at.returns-then-not-is_proper c).Else-n-gt2, sym c.is_proper.ensures ∙ c.if-not-is_proper.true)
 
 pub returns : goal.returns
 returns c =
-    rw (few (goal.at.returns c).Else-n-gt2, sym c.is_proper.ensures ∙ not-false _ c.if-not-is_proper.false) c.is_below.ensures
+    rw (few (goal.at.returns c).Else-n-gt2, sym c.is_proper.ensures ∙ c.if-not-is_proper.false) c.is_below.ensures

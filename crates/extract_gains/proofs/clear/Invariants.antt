@@ -1,7 +1,6 @@
 -- `extract_gains::clear` meets its contract. The loop's invariant: the words passed are 0. Assumes nothing.
 use mathlib.Core.{Path.◌≡◌}
 use Prim.Native.Nat.{ℕ, ◌-◌, ◌<◌, ◌≤◌}
-use lib.ListN as list
 use lib.ListN.{length, get_or}
 use Rattle.extract_gains.specs.Gains.{first, slots}
 use Rattle.extract_gains.proofs.clear.Given as goal

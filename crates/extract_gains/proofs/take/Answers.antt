@@ -3,7 +3,7 @@ use native.Mathlib.Omega.{arith}
 use Rattle.extract_gains.specs.{Parts.Finds, declared.Entry.TheVariants.At}
 use Rattle.extract_gains.proofs.Changing.{turns-still, turns_lower, turns-short}
 use Rattle.extract_gains.proofs.take.Goals as goal
-use Rattle.extract_gains.proofs.take.Goals.{In-At-2}
+use Rattle.extract_gains.proofs.take.Goals.{In-At}
 
 pub returns-then-by-eq0 : goal.returns-then-by-eq0
 returns-then-by-eq0 c =
@@ -11,24 +11,24 @@ returns-then-by-eq0 c =
     (turns-still a.t.now a.g.now a.key a.by c.if-by-eq0.true).1
 
 -- what the search told of the entry
-found : (c : In-At-2) → Finds c.args.t.now c.args.key (At c.in-At.i)
+found : (c : In-At) → Finds c.args.t.now c.args.key (At c.in-At.i)
 found c = rw c.in-At.is at c.find-f.ensures
 
 pub offset_bounds-g-i : goal.offset_bounds-g-i
-offset_bounds-g-i c = omega (arith, (found (goal.at.offset_bounds-g-i c).In-At-2).0)
+offset_bounds-g-i c = omega (arith, (found (goal.at.offset_bounds-g-i c).In-At).0)
 
 pub bounds-g-i : goal.bounds-g-i
-bounds-g-i c = (found (goal.at.bounds-g-i c).In-At-2).0
+bounds-g-i c = (found (goal.at.bounds-g-i c).In-At).0
 
 pub offset_bounds-g-i-then-by-old : goal.offset_bounds-g-i-then-by-old
-offset_bounds-g-i-then-by-old c = omega (arith, (found (goal.at.offset_bounds-g-i-then-by-old c).In-At-2).0)
+offset_bounds-g-i-then-by-old c = omega (arith, (found (goal.at.offset_bounds-g-i-then-by-old c).In-At).0)
 
 pub bounds-g-i-then-by-old : goal.bounds-g-i-then-by-old
-bounds-g-i-then-by-old c = (found (goal.at.bounds-g-i-then-by-old c).In-At-2).0
+bounds-g-i-then-by-old c = (found (goal.at.bounds-g-i-then-by-old c).In-At).0
 
 pub returns-then-by-old : goal.returns-then-by-old
 returns-then-by-old c =
-    turns_lower c.args.t.now c.args.g.now c.args.key c.in-At.i c.args.by (found (goal.at.returns-then-by-old c).In-At-2).0 (found (goal.at.returns-then-by-old c).In-At-2).1 c.if-by-old.true
+    turns_lower c.args.t.now c.args.g.now c.args.key c.in-At.i c.args.by (found (goal.at.returns-then-by-old c).In-At).0 (found (goal.at.returns-then-by-old c).In-At).1 c.if-by-old.true
 
 pub returns-else-by-old : goal.returns-else-by-old
 returns-else-by-old c =

@@ -13,13 +13,13 @@ use Rattle.extract_keep.proofs.fill.Goals as goal
 use Rattle.extract_keep.proofs.fill.Goals.{Else-not-is_arranged}
 
 net-kept : (c : Else-not-is_arranged) → arranged c.args.n ≡ true
-net-kept c = sym c.is_arranged.ensures ∙ not-false _ c.if-not-is_arranged.false
+net-kept c = sym c.is_arranged.ensures ∙ c.if-not-is_arranged.false
 
 shape : (c : Else-not-is_arranged) → Shaped c.args.n
 shape c = shape_of _ (search rules) (search rules)
 
 pub returns-then-not-is_arranged : goal.returns-then-not-is_arranged
-returns-then-not-is_arranged c r a = clash a (sym c.is_arranged.ensures ∙ not-true _ c.if-not-is_arranged.true)
+returns-then-not-is_arranged c r a = clash a (sym c.is_arranged.ensures ∙ c.if-not-is_arranged.true)
 
 pub returns : goal.returns
 returns c =

@@ -14,10 +14,10 @@ use Rattle.extract_keep.proofs.renew.Goals.{Else-not-is_arranged-2}
 
 -- the two are in cube order
 old-kept : (c : Else-not-is_arranged-2) → arranged c.args.old ≡ true
-old-kept c = sym c.is_arranged.ensures ∙ not-false _ c.if-not-is_arranged.false
+old-kept c = sym c.is_arranged.ensures ∙ c.if-not-is_arranged.false
 
 new-kept : (c : Else-not-is_arranged-2) → arranged c.args.new ≡ true
-new-kept c = sym c.is_arranged-2.ensures ∙ not-false _ c.if-not-is_arranged-2.false
+new-kept c = sym c.is_arranged-2.ensures ∙ c.if-not-is_arranged-2.false
 
 old-shape : (c : Else-not-is_arranged-2) → Shaped c.args.old
 old-shape c = shape_of _ (search rules) (search rules)
@@ -29,7 +29,7 @@ pub returns-then-not-is_arranged : goal.returns-then-not-is_arranged
 returns-then-not-is_arranged c k = c.fill.ensures
 
 pub returns-then-not-is_arranged-2 : goal.returns-then-not-is_arranged-2
-returns-then-not-is_arranged-2 c k r a = clash a (sym c.is_arranged-2.ensures ∙ not-true _ c.if-not-is_arranged-2.true)
+returns-then-not-is_arranged-2 c k r a = clash a (sym c.is_arranged-2.ensures ∙ c.if-not-is_arranged-2.true)
 
 pub renew_nodes-requires : goal.renew_nodes-requires
 renew_nodes-requires c =

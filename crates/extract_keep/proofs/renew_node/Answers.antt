@@ -1,10 +1,13 @@
 -- The answers of `extract_keep::renew_node`.
+use Prim.Native.Nat.{◌+◌, ◌-◌, ◌≤◌}
 use mathlib.Core.{Path.subst}
 use native.Mathlib.Omega.{arith}
+use lib.ListN.{length}
 use borrow.Author.Rules.{rules}
 use Rattle.expression.{specs.Words.cubes_of, proofs.Words.cubes-asc}
-use Rattle.extract_keep.specs.Parts.{Turn}
-use Rattle.extract_keep.specs.declared.{Next.Next}
+use Rattle.extract_counts.specs.Counts.{node_gain}
+use Rattle.extract_keep.specs.Parts.{Shifts, between, Turn}
+use Rattle.extract_keep.specs.declared.{Next.Next, Next.TheVariants.Goes, Next.TheVariants.Comes, Next.TheVariants.Stays, Next.TheVariants.Ended}
 use Rattle.extract_keep.proofs.Keeping.{shift_none, shift-on, shift-to, cube-stay, between-last}
 use Rattle.extract_keep.proofs.renew_node.Goals as goal
 use Rattle.extract_keep.proofs.renew_node.Goals.{After-next_of-x, In-Comes, In-Ended, In-Goes, In-Stays}

@@ -3,6 +3,7 @@ use Prim.Native.Nat.{ℕ, ◌≤◌, ◌/◌, ◌%◌, ◌+◌}
 use mathlib.Core.{Path.ap₂, Logic.inl, Logic.inr}
 use native.Mathlib.Omega.{arith}
 use lib.Dec.{eqb}
+use borrow.Author.Rules.{rules}
 use borrow.Author.Tests.{eq-eqb, ne_eqb}
 use Rattle.sets.proofs.Truth.{decided}
 use Rattle.extract_keys.specs.Keys.{size_at, cost_at}

@@ -1,5 +1,6 @@
 -- `extract_keys::sum_key` meets its contract. Assumes nothing.
 use native.Mathlib.Omega.{arith}
+use borrow.Author.Rules.{rules}
 use Rattle.extract_keys.specs.Keys.{two_codes}
 use Rattle.extract_keys.proofs.{Codes.cube-code-below}
 use Rattle.extract_keys.proofs.sum_key.Goals as goal

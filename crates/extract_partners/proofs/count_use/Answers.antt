@@ -2,6 +2,7 @@
 use Prim.Native.Nat.{◌+◌, ◌*◌, ◌-◌, ◌≤◌}
 use mathlib.Core.Path.{◌≡◌, sym, ap, ap₂, ◌∙◌}
 use native.Mathlib.Omega.{arith}
+use borrow.Author.Rules.{rules}
 use borrow.Author.Tests.{not-true, not-false}
 use lib.ListN.{length}
 use Rattle.sets.specs.{Lists.is_nil, Sets.same, Sets.apart, Sets.meet}
@@ -23,10 +24,10 @@ loose c =
     c.is_empty.ensures ∙ ap is_nil (c.common.ensures ∙ ap₂ meet c.part_at-a.ensures c.part_at-b.ensures) ∙ meet-none _ _
 
 pub returns-then-not-same : goal.returns-then-not-same
-returns-then-not-same c = use-differs _ _ _ _ _ (sym (alike (goal.at.returns-then-not-same c).After-same) ∙ not-true _ c.if-not-same.true)
+returns-then-not-same c = use-differs _ _ _ _ _ (sym (alike (goal.at.returns-then-not-same c).After-same) ∙ c.if-not-same.true)
 
 pub returns-then-not-is_empty : goal.returns-then-not-is_empty
-returns-then-not-is_empty c = use-shares _ _ _ _ _ (sym (loose (goal.at.returns-then-not-is_empty c).After-is_empty) ∙ not-true _ c.if-not-is_empty.true)
+returns-then-not-is_empty c = use-shares _ _ _ _ _ (sym (loose (goal.at.returns-then-not-is_empty c).After-is_empty) ∙ c.if-not-is_empty.true)
 
 -- the counts of literals
 few : (c : After-count-3) → (c.count.result ≤ 2 * width) × (c.count-2.result ≤ 2 * width) × (c.count-3.result ≤ 2 * width)
@@ -42,7 +43,7 @@ overflow_sub-by c =
 
 pub returns : goal.returns
 returns c =
-    use-met _ _ _ _ _ (sym (alike (goal.at.returns c).After-same) ∙ not-false _ c.if-not-same.false) (sym (loose (goal.at.returns c).After-is_empty) ∙ not-false _ c.if-not-is_empty.false)
+    use-met _ _ _ _ _ (sym (alike (goal.at.returns c).After-same) ∙ c.if-not-same.false) (sym (loose (goal.at.returns c).After-is_empty) ∙ c.if-not-is_empty.false)
     (c.sum_key.ensures ∙ ap₂ (λ x y. two_codes (part_code x) (part_code y)) c.part_at-a.ensures c.part_at-b.ensures)
     (ap₂ (λ x y. x + (y - 1)) (c.count.ensures ∙ ap length c.left_at-left.ensures)
     (ap₂ ◌+◌ (c.count-2.ensures ∙ ap length c.part_at-a.ensures) (c.count-3.ensures ∙ ap length c.part_at-b.ensures)))

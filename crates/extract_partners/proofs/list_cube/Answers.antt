@@ -1,8 +1,9 @@
 -- The answers of `extract_partners::list_cube`.
 use Prim.Native.Nat.{ℕ, ◌+◌, ◌*◌, ◌<◌}
 use mathlib.Core.Path.{◌≡◌, ap, ◌∙◌}
-use mathlib.Core.List.{List, ◌∷◌, ◌++◌, map}
+use mathlib.Core.List.{List, [], ◌∷◌, ◌++◌, map}
 use native.Mathlib.Omega.{arith}
+use borrow.Author.Rules.{rules}
 use lib.ListN.{length, set, length-map}
 use Rattle.cube.specs.Cube.{lits, width}
 use Rattle.cube_order.proofs.Taking.{taken_none, taken-small, taken_next}

@@ -1,8 +1,9 @@
 -- The answers of `extract_partners::list_pairs`.
 use Prim.Native.Nat.{ℕ, ◌+◌, ◌*◌, ◌<◌}
 use mathlib.Core.Path.{◌≡◌, ap}
-use mathlib.Core.List.{List, ◌∷◌, map}
+use mathlib.Core.List.{List, [], ◌∷◌, map}
 use native.Mathlib.Omega.{arith}
+use borrow.Author.Rules.{rules}
 use lib.ListN.{length, length-map}
 use Rattle.sets.proofs.Lists.{map-cong}
 use Rattle.cube.specs.Cube.{lits, width}

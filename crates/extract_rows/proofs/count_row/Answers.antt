@@ -1,6 +1,12 @@
 -- The answers of `extract_rows::count_row`.
+use Prim.Native.Nat.{◌-◌, ◌≤◌}
 use native.Mathlib.Omega.{arith}
-use Rattle.extract_rows.proofs.Counting.{due_all, due-next, due-done, row-none, row_next}
+use lib.ListN.{drop}
+use borrow.Author.Rules.{rules}
+use Rattle.cube.specs.Cube.{lits}
+use Rattle.expression.specs.Words.{cubes_of}
+use Rattle.extract_counts.specs.Counts.{row_gain}
+use Rattle.extract_rows.proofs.Counting.{Due, due_all, due-next, due-done, row-none, row_next}
 use Rattle.extract_rows.proofs.count_row.Goals as goal
 
 pub loop-i-init : goal.loop-i-init

@@ -2,12 +2,13 @@
 use mathlib.Core.{Path.sym, Path.◌∙◌, Bool.and-true}
 use borrow.Author.Tests.{not-true, not-false}
 use Rattle.sets.specs.Sets.{sub}
+use borrow.Author.Rules.{rules}
 use Rattle.extract_step.proofs.has_pair.Goals as goal
 
 pub returns-then-not-has : goal.returns-then-not-has
 unfolding sub
-returns-then-not-has c = rw (sym c.has.ensures ∙ not-true _ c.if-not-has.true)
+returns-then-not-has c = rw (sym c.has.ensures ∙ c.if-not-has.true)
 
 pub returns : goal.returns
 unfolding sub
-returns c = rw (sym c.has.ensures ∙ not-false _ c.if-not-has.false, and-true) c.has-2.ensures
+returns c = rw (sym c.has.ensures ∙ c.if-not-has.false, and-true) c.has-2.ensures

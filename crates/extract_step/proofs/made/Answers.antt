@@ -9,6 +9,7 @@ use Rattle.network.specs.{Held.most_cubes, Handed.LaidNodes}
 use Rattle.extract_tidy.proofs.Laid.{laid-places}
 use Rattle.extract_step.proofs.Answering.{after, rewritten, next-number, laid-few, laid-count, laid-literals, step-laid, step-held}
 use Rattle.extract_step.proofs.Answering.{room-rows, room-over, room-literals, room-made}
+use borrow.Author.Rules.{rules}
 use Rattle.extract_step.proofs.made.Goals as goal
 use Rattle.extract_step.proofs.made.Goals.{After-literals-literals, After-plain-x, After-put_nodes-to, After-put_own-end}
 

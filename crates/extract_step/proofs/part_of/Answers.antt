@@ -1,7 +1,7 @@
 -- `extract_step::part_of` meets its contract: a pair's two literals, or the sum's first part. Assumes nothing.
 use Prim.Native.Nat.{ℕ, ◌*◌}
 use mathlib.Core.Path.{◌≡◌, ◌∙◌, ap, subst}
-use mathlib.Core.{Bool.true, List.◌∷◌}
+use mathlib.Core.{Bool.true, List.[], List.◌∷◌}
 use native.Mathlib.Omega.{arith}
 use borrow.Author.Tests.{lt-ltb, le-ltb, ne_eqb}
 use Rattle.sets.specs.Sets.{insert}
@@ -9,6 +9,7 @@ use Rattle.cube.specs.Cube.{width, joined}
 use Rattle.extract_laws.specs.Divisor.{pair}
 use Rattle.extract_divisor.specs.Divisor.{divisor_of}
 use Rattle.extract_fit.{specs.Fitness.fitting, proofs.Fitting.pair-below}
+use borrow.Author.Rules.{rules}
 use Rattle.extract_step.proofs.part_of.Goals as goal
 
 -- the two literals of a pair, the smaller first, as a cube

@@ -4,6 +4,7 @@ use mathlib.Core.Path.{◌≡◌, sym, ap, ◌∙◌}
 use mathlib.Core.{Bool.true, List.List}
 use native.Mathlib.Omega.{arith}
 use lib.ListN.{length, take, drop}
+use borrow.Author.Rules.{rules}
 use borrow.Author.Tests.{not-false}
 use Rattle.expression.specs.{Words.cubes_of, Words.Appends, Expression.ordered, Expression.sort}
 use Rattle.expression.proofs.Sorting.{ordered-sort}
@@ -28,4 +29,4 @@ returns-then-not-is_ordered c =
 pub returns-else-not-is_ordered : goal.returns-else-not-is_ordered
 returns-else-not-is_ordered c =
     appends-as (become-rewrite _ _ _) (appends-ordered c.write_node-to.ensures (inside (goal.at.returns-else-not-is_ordered c).After-write_node-to)
-    (ap ordered (sym c.part.ensures.0) ∙ sym c.is_ordered.ensures ∙ not-false _ c.if-not-is_ordered.false))
+    (ap ordered (sym c.part.ensures.0) ∙ sym c.is_ordered.ensures ∙ c.if-not-is_ordered.false))

@@ -2,12 +2,12 @@
 use Prim.Native.Nat.{ℕ, ◌+◌, ◌-◌, ◌≤◌}
 use mathlib.Core.Path.{◌≡◌, refl, sym, ap}
 use mathlib.Core.Bool.{true}
-use mathlib.Core.List.{List}
+use mathlib.Core.List.{List, [], map}
 use native.Mathlib.Omega.{arith}
-use lib.ListN.{length}
+use lib.ListN.{length, take}
 use Rattle.sets.proofs.{Lists.all-out, Places.at_in}
 use Rattle.expression.specs.{Words.cubes_of, Expression.ordered}
-use Rattle.network.{specs.Parts.nodes_of, proofs.Laying.laid_none, proofs.Parts.nodes-length, proofs.Parts.nodes-at}
+use Rattle.network.{specs.Handed.LaidNodes, specs.Parts.nodes_of, proofs.Laying.laid_none, proofs.Parts.nodes-length, proofs.Parts.nodes-at}
 use Rattle.extract_laws.specs.Divisor.{rewrite}
 use Rattle.extract_tidy.proofs.Laid.{nodes-laid, node-fits, node-laid}
 use Rattle.extract_divisor.specs.Divisor.{divisor_of}

@@ -1,7 +1,7 @@
 -- `extract_step::put_own` meets its contract: the part, and after it the other part of a sum. Assumes nothing.
 use Prim.Native.Nat.{◌≤◌}
 use mathlib.Core.Path.{sym, ap, ◌∙◌}
-use mathlib.Core.List.{◌∷◌}
+use mathlib.Core.List.{[], ◌∷◌}
 use native.Mathlib.Omega.{arith}
 use lib.ListN.{length}
 use Rattle.cube.specs.Cube.{lits}
@@ -9,6 +9,7 @@ use Rattle.extract_laws.specs.Divisor.{own, part}
 use Rattle.extract_divisor.specs.{Divisor.divisor_of, declared.Divisor.Divisor, declared.Divisor.TheVariants.Pair, declared.Divisor.TheVariants.Sum}
 use Rattle.expression.proofs.Words.{cubes-few}
 use Rattle.expression.proofs.Placing.{appends-none, appends-as, appends-put}
+use borrow.Author.Rules.{rules}
 use Rattle.extract_step.proofs.put_own.Goals as goal
 
 -- one cube at least

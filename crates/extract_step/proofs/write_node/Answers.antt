@@ -1,15 +1,16 @@
 -- The answers of `extract_step::write_node`.
-use Prim.Native.Nat.{ℕ, ◌+◌, ◌≤◌}
+use Prim.Native.Nat.{ℕ, ◌+◌, ◌-◌, ◌≤◌}
 use mathlib.Core.Path.{◌≡◌, refl, sym, ap, ◌∙◌}
-use mathlib.Core.{List.List, Option.Option}
+use mathlib.Core.{List.List, List.[], Option.Option}
 use native.Mathlib.Omega.{arith}
-use lib.ListN.{get_or}
+use lib.ListN.{length, get_or, take}
 use lib.Seq.{take_all}
-use Rattle.expression.{specs.Words.cubes_of, proofs.Words.cubes-few}
+use Rattle.expression.{specs.Words.cubes_of, specs.Words.Appends, proofs.Words.cubes-few}
 use Rattle.extract_divisor.specs.Divisor.{divisor_of}
 use Rattle.extract_step.specs.Parts.{fate, fate_of, become}
 use Rattle.extract_step.proofs.Becoming.{become-few, become-none, become-one}
 use Rattle.expression.proofs.Placing.{appends-none, appends-as, appends-put}
+use borrow.Author.Rules.{rules}
 use Rattle.extract_step.proofs.write_node.Goals as goal
 use Rattle.extract_step.proofs.write_node.Goals.{After-remake-t, At-loop-i}
 

@@ -1,10 +1,12 @@
 -- The answers of `extract_tidy::all_ordered`.
-use Prim.Native.Nat.{ℕ}
+use Prim.Native.Nat.{ℕ, ◌-◌, ◌≤◌}
 use mathlib.Core.Path.{◌≡◌, sym, ◌∙◌, ap}
-use mathlib.Core.List.{List}
+use mathlib.Core.List.{List, []}
 use native.Mathlib.Omega.{arith}
+use borrow.Author.Rules.{rules}
 use borrow.Author.Tests.{not-true, not-false}
-use lib.ListN.{length, get_or}
+use lib.ListN.{length, get_or, drop}
+use Rattle.sets.specs.Lists.{all}
 use Rattle.sets.proofs.Places.{all-stop, all-on, all_done}
 use Rattle.expression.specs.Expression.{ordered}
 use Rattle.network.{specs.Parts.nodes_of, proofs.Parts.nodes-length, proofs.Parts.nodes-at}
@@ -34,12 +36,12 @@ tested c =
 pub returns-then-not-is_ordered : goal.returns-then-not-is_ordered
 returns-then-not-is_ordered c =
     let l = head (goal.at.returns-then-not-is_ordered c).After-is_ordered in
-    sym (all-stop (held l) l.loop.i [] (omega (arith, many l)) ordered (tested (goal.at.returns-then-not-is_ordered c).After-is_ordered ∙ not-true _ c.if-not-is_ordered.true)) ∙ l.loop.inv.1
+    sym (all-stop (held l) l.loop.i [] (omega (arith, many l)) ordered (tested (goal.at.returns-then-not-is_ordered c).After-is_ordered ∙ c.if-not-is_ordered.true)) ∙ l.loop.inv.1
 
 pub loop-i-preserved : goal.loop-i-preserved
 loop-i-preserved c =
     let l = head (goal.at.loop-i-preserved c).After-is_ordered in
-    (omega arith, sym (all-on (held l) l.loop.i [] (omega (arith, many l)) ordered (tested (goal.at.loop-i-preserved c).After-is_ordered ∙ not-false _ c.if-not-is_ordered.false)) ∙ l.loop.inv.1)
+    (omega arith, sym (all-on (held l) l.loop.i [] (omega (arith, many l)) ordered (tested (goal.at.loop-i-preserved c).After-is_ordered ∙ c.if-not-is_ordered.false)) ∙ l.loop.inv.1)
 
 pub returns : goal.returns
 returns c = sym (all_done (held (goal.at.returns c).At-loop-i) c.loop-i.i (omega (arith, many (goal.at.returns c).At-loop-i)) ordered) ∙ c.loop-i.invariant.1

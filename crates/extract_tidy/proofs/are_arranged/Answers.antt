@@ -3,6 +3,7 @@ use Prim.Native.Nat.{ℕ, ◌+◌, ◌≤◌}
 use mathlib.Core.Path.{◌≡◌, sym, ap, ◌∙◌}
 use mathlib.Core.{Bool.true, Bool.false, List.List}
 use native.Mathlib.Omega.{arith}
+use borrow.Author.Rules.{rules}
 use borrow.Author.Tests.{not-true, not-false}
 use lib.ListN.{length}
 use lib.Seq.{take_all}
@@ -20,14 +21,14 @@ tested c = let a = c.args in held_in a.inputs a.outputs a.divisors a.counts.now 
 
 -- the limits are kept
 limits : (c : Else-not-is_within) → sized ((let a = c.args in held_in a.inputs a.outputs a.divisors a.counts.now a.words.now)) ≡ true
-limits c = sym c.is_within.ensures ∙ not-false _ c.if-not-is_within.false
+limits c = sym c.is_within.ensures ∙ c.if-not-is_within.false
 
 -- where there are fewer counts than nodes, there are no more nodes than counts
 counted : (e : ℕ) (counts words : List ℕ) → length counts ≤ e → nodes_of (length counts) counts words ≡ nodes_of e counts words
 counted e counts words h = ap (λ (l : List ℕ). cut l (cubes_of words)) (take_all (length counts) counts (omega arith) ∙ sym (take_all e counts h))
 
 pub returns-then-not-is_within : goal.returns-then-not-is_within
-returns-then-not-is_within c = arranged-as (tested (goal.at.returns-then-not-is_within c).After-is_within) false (sym c.is_within.ensures ∙ not-true _ c.if-not-is_within.true)
+returns-then-not-is_within c = arranged-as (tested (goal.at.returns-then-not-is_within c).After-is_within) false (sym c.is_within.ensures ∙ c.if-not-is_within.true)
 
 pub overflow_add-e : goal.overflow_add-e
 overflow_add-e c = let z = sized-measured (tested (goal.at.overflow_add-e c).After-is_within) (limits c) in record { fits = omega (arith, z.outputs, z.few) }

@@ -1,10 +1,10 @@
 -- The answers of `extract_tidy::lay_nodes`.
-use Prim.Native.Nat.{ℕ, ◌+◌, ◌≤◌}
-use mathlib.Core.Path.{refl, sym, ap, ◌∙◌, subst}
+use Prim.Native.Nat.{ℕ, ◌+◌, ◌-◌, ◌≤◌}
+use mathlib.Core.Path.{◌≡◌, refl, sym, ap, ◌∙◌, subst}
 use mathlib.Core.List.{List, map}
 use native.Mathlib.Omega.{arith}
 use borrow.Author.Rules.{rules}
-use lib.ListN.{length}
+use lib.ListN.{length, take}
 use Rattle.expression.{specs.Words.cubes_of, specs.Expression.sort, proofs.Sorting.sort-length, proofs.Words.cubes-few}
 use Rattle.network.{specs.Handed.LaidNodes, specs.Parts.nodes_of, proofs.Laying.laid_none}
 use Rattle.extract_tidy.proofs.Laid.{nodes-laid, node-fits, node-laid, sorted-copy}

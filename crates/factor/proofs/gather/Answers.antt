@@ -1,14 +1,15 @@
 -- The answers of `factor::gather`.
 use mathlib.Core.Path.{◌≡◌, refl, sym, ◌∙◌, ap, ap₂}
-use mathlib.Core.List.{List, ◌∷◌}
+use mathlib.Core.List.{List, [], ◌∷◌}
 use mathlib.Core.Logic.{inl, inr}
-use Prim.Native.Nat.{ℕ, ◌-◌, ◌<◌}
+use Prim.Native.Nat.{ℕ, ◌-◌, ◌≤◌, ◌<◌}
 use native.Mathlib.Omega.{arith}
+use borrow.Author.Rules.{rules}
 use lib.ListN.{length, get_or, set}
 use Rattle.sets.specs.Sets.{mem, without}
 use Rattle.cube.specs.Cube.{lits, joined}
 use Rattle.expression.{specs.Words.cubes_of, proofs.Words.cubes-few, proofs.Words.same-room}
-use Rattle.factor.proofs.Parting.{parting-none, parting-yes, parting-no, back_at, joined-one}
+use Rattle.factor.proofs.Parting.{Parting, parting-none, parting-yes, parting-no, back_at, joined-one}
 use Rattle.factor.proofs.gather.Goals as goal
 use Rattle.factor.proofs.gather.Goals.{After-cube_at-c, After-has, After-with-one, At-loop-i, In-loop-i}
 

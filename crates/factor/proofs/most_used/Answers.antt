@@ -1,10 +1,11 @@
 -- The answers of `factor::most_used`.
 use mathlib.Core.Path.{◌≡◌, refl, sym, ◌∙◌, ap}
-use Prim.Native.Nat.{◌+◌, ◌-◌, ◌*◌}
+use Prim.Native.Nat.{◌+◌, ◌-◌, ◌*◌, ◌≤◌}
 use native.Mathlib.Omega.{arith}
+use borrow.Author.Rules.{rules}
 use mathlib.Core.Logic.{inl, inr}
 use Rattle.cube.specs.Cube.{width}
-use Rattle.factor.specs.Form.{used_in, most as most_from}
+use Rattle.factor.specs.Form.{used_in, most as most_from, most_used}
 use Rattle.factor.specs.Parts.{cubes_from}
 use Rattle.factor.proofs.Choosing.{most-taken, most-left, most-end}
 use Rattle.factor.proofs.most_used.Goals as goal

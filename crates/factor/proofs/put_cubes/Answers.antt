@@ -1,9 +1,10 @@
 -- The answers of `factor::put_cubes`.
 use mathlib.Core.Path.{◌≡◌, refl, sym, ◌∙◌, ap}
-use mathlib.Core.List.{List, ◌∷◌, ◌++◌}
-use Prim.Native.Nat.{ℕ, ◌+◌, ◌<◌}
+use mathlib.Core.List.{List, [], ◌∷◌, ◌++◌}
+use Prim.Native.Nat.{ℕ, ◌+◌, ◌-◌, ◌≤◌, ◌<◌}
 use native.Mathlib.Omega.{arith}
-use lib.ListN.{get_or}
+use borrow.Author.Rules.{rules}
+use lib.ListN.{length, get_or}
 use Rattle.cube.specs.Cube.{lits}
 use Rattle.expression.{specs.Words.cubes_of, proofs.Words.cubes-few}
 use Rattle.letters_products.specs.Products.{cube_text}

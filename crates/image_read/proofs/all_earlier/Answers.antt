@@ -1,5 +1,5 @@
 -- The answers of `image_read::all_earlier`.
-use Prim.Native.Nat.{ℕ, ◌+◌}
+use Prim.Native.Nat.{ℕ, ◌+◌, ◌-◌, ◌≤◌}
 use mathlib.Core.Path.{◌≡◌, sym, ap, ◌∙◌}
 use mathlib.Core.{Bool.Bool, Bool.◌&&◌, List.List}
 use native.Mathlib.Omega.{arith}
@@ -36,10 +36,10 @@ loop-i-init c =
     (search rules, ap (λ x. reads_earlier x (nodes_in c.args.counts.now c.args.words.now)) z)
 
 pub returns-then-not-reaches : goal.returns-then-not-reaches
-returns-then-not-reaches c = sym (tested (goal.at.returns-then-not-reaches c).After-reaches _ (not-true _ c.if-not-reaches.true))
+returns-then-not-reaches c = sym (tested (goal.at.returns-then-not-reaches c).After-reaches _ (c.if-not-reaches.true))
 
 pub loop-i-preserved : goal.loop-i-preserved
-loop-i-preserved c = (search rules, sym (tested (goal.at.loop-i-preserved c).After-reaches _ (not-false _ c.if-not-reaches.false)))
+loop-i-preserved c = (search rules, sym (tested (goal.at.loop-i-preserved c).After-reaches _ (c.if-not-reaches.false)))
 
 pub returns : goal.returns
 returns c =

@@ -1,11 +1,12 @@
 -- The answers of `image_read::all_tidy`.
-use Prim.Native.Nat.{ℕ}
+use Prim.Native.Nat.{ℕ, ◌-◌, ◌≤◌}
 use mathlib.Core.Path.{◌≡◌, sym, ap, ◌∙◌}
-use mathlib.Core.List.{List}
+use mathlib.Core.List.{List, []}
 use native.Mathlib.Omega.{arith}
-use lib.ListN.{length, get_or}
+use lib.ListN.{length, get_or, drop}
 use borrow.Author.Rules.{rules}
 use borrow.Author.Tests.{not-true, not-false}
+use Rattle.sets.specs.Lists.{all}
 use Rattle.sets.proofs.Places.{all-stop, all-on, all_done}
 use Rattle.expression.specs.Words.{cubes_of}
 use Rattle.network_nodes.proofs.Cutting.{cut-length}
@@ -25,11 +26,11 @@ tested c = ap tidy (sym c.node.ensures.0) ∙ sym c.is_tidy.ensures
 
 pub returns-then-not-is_tidy : goal.returns-then-not-is_tidy
 returns-then-not-is_tidy c =
-    sym (all-stop (held (goal.at.returns-then-not-is_tidy c).At-loop-i) c.loop-i.i [] (omega (arith, many (goal.at.returns-then-not-is_tidy c).At-loop-i)) tidy (tested (goal.at.returns-then-not-is_tidy c).After-is_tidy ∙ not-true _ c.if-not-is_tidy.true)) ∙ c.loop-i.invariant.1
+    sym (all-stop (held (goal.at.returns-then-not-is_tidy c).At-loop-i) c.loop-i.i [] (omega (arith, many (goal.at.returns-then-not-is_tidy c).At-loop-i)) tidy (tested (goal.at.returns-then-not-is_tidy c).After-is_tidy ∙ c.if-not-is_tidy.true)) ∙ c.loop-i.invariant.1
 
 pub loop-i-preserved : goal.loop-i-preserved
 loop-i-preserved c =
-    (search rules, sym (all-on (held (goal.at.loop-i-preserved c).At-loop-i) c.loop-i.i [] (omega (arith, many (goal.at.loop-i-preserved c).At-loop-i)) tidy (tested (goal.at.loop-i-preserved c).After-is_tidy ∙ not-false _ c.if-not-is_tidy.false)) ∙ c.loop-i.invariant.1)
+    (search rules, sym (all-on (held (goal.at.loop-i-preserved c).At-loop-i) c.loop-i.i [] (omega (arith, many (goal.at.loop-i-preserved c).At-loop-i)) tidy (tested (goal.at.loop-i-preserved c).After-is_tidy ∙ c.if-not-is_tidy.false)) ∙ c.loop-i.invariant.1)
 
 pub returns : goal.returns
 returns c = sym (all_done (held (goal.at.returns c).At-loop-i) c.loop-i.i (omega (arith, many (goal.at.returns c).At-loop-i)) tidy) ∙ c.loop-i.invariant.1

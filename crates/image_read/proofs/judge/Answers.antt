@@ -4,6 +4,7 @@ use mathlib.Core.Path.{◌≡◌, sym, ◌∙◌}
 use mathlib.Core.Bool.{Bool, true, ◌&&◌}
 use native.Mathlib.Omega.{arith}
 use lib.ListN.{drop, length-take}
+use borrow.Author.Rules.{rules}
 use borrow.Author.Tests.{not-true, not-false}
 use Rattle.image_fields.specs.Fields.{bits_in}
 use Rattle.image_laws.specs.Reading.{padding}
@@ -12,10 +13,10 @@ use Rattle.image_read.proofs.judge.Goals as goal
 use Rattle.image_read.proofs.judge.Goals.{After-in_order, After-is_few, After-struct_known-1}
 
 is-padded : (f : After-is_few) → padding (drop f.args.s.at (bits_in f.args.bytes.now)) ≡ true
-is-padded f = sym f.is_padded.ensures ∙ not-false _ f.if-not-is_padded.false
+is-padded f = sym f.is_padded.ensures ∙ f.if-not-is_padded.false
 
 is-few : (k : After-struct_known-1) → few_in k.args.s ≡ true
-is-few k = sym k.is_few.ensures ∙ not-false _ k.if-not-is_few.false
+is-few k = sym k.is_few.ensures ∙ k.if-not-is_few.false
 
 -- what the last test found
 found : (o : After-in_order) (b : Bool) → o.in_order.result ≡ b → (o.args.s.ascending && ordered_in o.args.z.inputs (nodes_in (divisor_counts o.args.z o.args.counts.now) o.args.apart.now)
@@ -27,10 +28,10 @@ found o b e =
     sym (rw (p, q) at o.in_order.ensures) ∙ e
 
 pub returns-then-not-is_padded : goal.returns-then-not-is_padded
-returns-then-not-is_padded c = rw (sym c.is_padded.ensures ∙ not-true c.is_padded.result c.if-not-is_padded.true)
+returns-then-not-is_padded c = rw (sym c.is_padded.ensures ∙ c.if-not-is_padded.true)
 
 pub returns-then-not-is_few : goal.returns-then-not-is_few
-returns-then-not-is_few c = rw (is-padded (goal.at.returns-then-not-is_few c).After-is_few, sym c.is_few.ensures ∙ not-true c.is_few.result c.if-not-is_few.true)
+returns-then-not-is_few c = rw (is-padded (goal.at.returns-then-not-is_few c).After-is_few, sym c.is_few.ensures ∙ c.if-not-is_few.true)
 
 pub in_order-requires : goal.in_order-requires
 in_order-requires c =

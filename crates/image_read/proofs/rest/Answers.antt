@@ -1,5 +1,6 @@
 -- `image_read::rest` meets its contract. The outputs are those of the definition. Assumes nothing.
 use mathlib.Core.Path.{refl}
+use borrow.Author.Rules.{rules}
 use Rattle.image_read.proofs.{Telling.outputs-refused}
 use Rattle.image_read.proofs.rest.Goals as goal
 

@@ -1,6 +1,6 @@
 -- The answers of `image_write::put_field`.
-use Prim.Native.Nat.{◌-◌, ◌/◌, ◌^◌}
-use mathlib.Core.List.{◌∷◌, ◌++◌}
+use Prim.Native.Nat.{◌-◌, ◌/◌, ◌^◌, ◌≤◌}
+use mathlib.Core.List.{[], ◌∷◌, ◌++◌}
 use lib.Bits.{bit_and}
 use lib.Dec.{eqb}
 use native.Mathlib.Omega.{arith}

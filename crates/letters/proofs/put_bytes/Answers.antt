@@ -1,8 +1,7 @@
 use mathlib.Core.Path.{◌≡◌, refl, ◌∙◌, ap}
 use mathlib.Core.List.{◌∷◌}
-use Prim.Native.Nat.{◌+◌, ◌-◌, ◌≤◌}
+use Prim.Native.Nat.{◌+◌}
 use native.Mathlib.Omega.{arith}
-use borrow.Author.Rules.{rules}
 use lib.ListN.{length, get_or, drop}
 use lib.Seq.{drop-length}
 use Rattle.sets.proofs.Places.{drop-next}
@@ -11,8 +10,8 @@ use Rattle.letters.proofs.put_bytes.Goals as goal
 use Rattle.letters.proofs.put_bytes.Goals.{In-loop-i}
 
 next : (c : In-loop-i) → let s = c.args in
-      Due s.o.now s.at s.s.now c.loop-i.o c.loop-i.p
-      (get_or s.s.now c.loop-i.i 0 ∷ drop (c.loop-i.i + 1) s.s.now)
+    Due s.o.now s.at s.s.now c.loop-i.o c.loop-i.p
+    (get_or s.s.now c.loop-i.i 0 ∷ drop (c.loop-i.i + 1) s.s.now)
 next c = due-as c.loop-i.invariant.1 (drop-next c.args.s.now c.loop-i.i 0 c.loop-i-test.true)
 
 pub loop-i-preserved : goal.loop-i-preserved

@@ -1,10 +1,12 @@
 -- The answers of `letters_products::put_product`.
-use Prim.Native.Nat.{ℕ, ◌+◌, ◌*◌}
+use Prim.Native.Nat.{ℕ, ◌+◌, ◌-◌, ◌*◌}
 use mathlib.Core.Path.{◌≡◌, refl, ◌∙◌}
 use mathlib.Core.Bool.{cond}
-use mathlib.Core.List.{List, ◌∷◌, ◌++◌}
+use mathlib.Core.List.{List, [], ◌∷◌, ◌++◌}
 use native.Mathlib.Omega.{arith}
+use borrow.Author.Rules.{rules}
 use lib.Dec.{ltb, leb}
+use lib.ListN.{length}
 use Rattle.sets.specs.Sets.{first_from}
 use Rattle.cube.specs.Cube.{width, lits}
 use Rattle.letters.proofs.Laying.{Due, due_all, due-as, due-next, due-done, due-trans, laid_next}

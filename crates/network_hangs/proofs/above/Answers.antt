@@ -1,4 +1,5 @@
 -- The answers of `network_hangs::above`.
+use Prim.Native.Nat.{◌-◌, ◌≤◌}
 use mathlib.Core.Path.{subst}
 use native.Mathlib.Omega.{arith}
 use borrow.Author.Rules.{rules}

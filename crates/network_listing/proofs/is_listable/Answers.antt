@@ -11,13 +11,13 @@ use Rattle.network_listing.proofs.is_listable.Goals.{Else-not-is_sized}
 
 -- the limits are kept
 limits : (c : Else-not-is_sized) → sized c.args.n ≡ true
-limits c = sym c.is_sized.ensures ∙ not-false _ c.if-not-is_sized.false
+limits c = sym c.is_sized.ensures ∙ c.if-not-is_sized.false
 
 small : (c : Else-not-is_sized) → Limited c.args.n
 small c = sized-out c.args.n (shape_of _ (search rules) (search rules)) (limits c)
 
 pub returns-then-not-is_sized : goal.returns-then-not-is_sized
-returns-then-not-is_sized c = sym (listable-no c.args.n (sym c.is_sized.ensures ∙ not-true _ c.if-not-is_sized.true))
+returns-then-not-is_sized c = sym (listable-no c.args.n (sym c.is_sized.ensures ∙ c.if-not-is_sized.true))
 
 pub overflow_add-n : goal.overflow_add-n
 overflow_add-n c = let z = small (goal.at.overflow_add-n c).Else-not-is_sized in omega (arith, z.narrow, z.variables)

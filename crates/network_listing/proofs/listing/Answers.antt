@@ -9,11 +9,11 @@ use Rattle.network_listing.proofs.listing.Goals as goal
 use Rattle.network_listing.proofs.listing.Goals.{Else-not-is_listable}
 
 allowed : (c : Else-not-is_listable) → listable c.args.n ≡ true
-allowed c = sym c.is_listable.ensures ∙ not-false _ c.if-not-is_listable.false
+allowed c = sym c.is_listable.ensures ∙ c.if-not-is_listable.false
 
 pub returns-then-not-is_listable : goal.returns-then-not-is_listable
 returns-then-not-is_listable c =
-    listed-as c.args.n _ false (sym c.is_listable.ensures ∙ not-true _ c.if-not-is_listable.true) c.nothing.ensures
+    listed-as c.args.n _ false (sym c.is_listable.ensures ∙ c.if-not-is_listable.true) c.nothing.ensures
 
 pub list-requires : goal.list-requires
 list-requires c =

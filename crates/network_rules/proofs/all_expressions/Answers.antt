@@ -1,11 +1,12 @@
 -- The answers of `network_rules::all_expressions`.
-use Prim.Native.Nat.{ℕ}
+use Prim.Native.Nat.{ℕ, ◌≤◌, ◌-◌}
 use mathlib.Core.Path.{◌≡◌, sym, ◌∙◌, ap}
-use mathlib.Core.List.{List}
+use mathlib.Core.List.{List, []}
 use native.Mathlib.Omega.{arith}
 use borrow.Author.Rules.{rules}
 use borrow.Author.Tests.{not-true, not-false}
-use lib.ListN.{length, get_or}
+use lib.ListN.{length, drop, get_or}
+use Rattle.sets.specs.Lists.{all}
 use Rattle.expression.specs.Expression.{expression}
 use Rattle.sets.proofs.Places.{all-stop, all-on, all_done}
 use Rattle.network.{specs.Parts.nodes_of, proofs.Parts.nodes-length, proofs.Parts.nodes-at}
@@ -28,11 +29,11 @@ tested c =
 
 pub returns-then-not-is_expression : goal.returns-then-not-is_expression
 returns-then-not-is_expression c =
-    sym (all-stop (held (goal.at.returns-then-not-is_expression c).At-loop-i) c.loop-i.i [] (omega (arith, many (goal.at.returns-then-not-is_expression c).At-loop-i)) expression (tested (goal.at.returns-then-not-is_expression c).After-is_expression ∙ not-true _ c.if-not-is_expression.true)) ∙ c.loop-i.invariant.1
+    sym (all-stop (held (goal.at.returns-then-not-is_expression c).At-loop-i) c.loop-i.i [] (omega (arith, many (goal.at.returns-then-not-is_expression c).At-loop-i)) expression (tested (goal.at.returns-then-not-is_expression c).After-is_expression ∙ c.if-not-is_expression.true)) ∙ c.loop-i.invariant.1
 
 pub loop-i-preserved : goal.loop-i-preserved
 loop-i-preserved c =
-    (search rules, sym (all-on (held (goal.at.loop-i-preserved c).At-loop-i) c.loop-i.i [] (omega (arith, many (goal.at.loop-i-preserved c).At-loop-i)) expression (tested (goal.at.loop-i-preserved c).After-is_expression ∙ not-false _ c.if-not-is_expression.false)) ∙ c.loop-i.invariant.1)
+    (search rules, sym (all-on (held (goal.at.loop-i-preserved c).At-loop-i) c.loop-i.i [] (omega (arith, many (goal.at.loop-i-preserved c).At-loop-i)) expression (tested (goal.at.loop-i-preserved c).After-is_expression ∙ c.if-not-is_expression.false)) ∙ c.loop-i.invariant.1)
 
 pub returns : goal.returns
 returns c = sym (all_done (held (goal.at.returns c).At-loop-i) c.loop-i.i (omega (arith, many (goal.at.returns c).At-loop-i)) expression) ∙ c.loop-i.invariant.1

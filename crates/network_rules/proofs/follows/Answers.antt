@@ -11,7 +11,7 @@ use Rattle.network_rules.proofs.follows.Goals as goal
 use Rattle.network_rules.proofs.follows.Goals.{Else-not-is_listable}
 
 allowed : (c : Else-not-is_listable) → listable c.args.n ≡ true
-allowed c = sym c.is_listable.ensures ∙ not-false _ c.if-not-is_listable.false
+allowed c = sym c.is_listable.ensures ∙ c.if-not-is_listable.false
 
 shape : (c : Else-not-is_listable) → Shaped c.args.n
 shape c = shape_of _ (search rules) (search rules)
@@ -20,11 +20,11 @@ small : (c : Else-not-is_listable) → Limited c.args.n
 small c = sized-out c.args.n (shape c) (listable-sized c.args.n (allowed c))
 
 pub returns-then-not-is_listable : goal.returns-then-not-is_listable
-returns-then-not-is_listable c = rules-no c.args.n (sym c.is_listable.ensures ∙ not-true _ c.if-not-is_listable.true)
+returns-then-not-is_listable c = rules-no c.args.n (sym c.is_listable.ensures ∙ c.if-not-is_listable.true)
 
 pub returns-then-not-is_acyclic : goal.returns-then-not-is_acyclic
 returns-then-not-is_acyclic c =
-    sym (rules-as c.args.n (shape (goal.at.returns-then-not-is_acyclic c).Else-not-is_listable) (allowed (goal.at.returns-then-not-is_acyclic c).Else-not-is_listable) ∙ rw (sym c.is_acyclic.ensures ∙ not-true _ c.if-not-is_acyclic.true))
+    sym (rules-as c.args.n (shape (goal.at.returns-then-not-is_acyclic c).Else-not-is_listable) (allowed (goal.at.returns-then-not-is_acyclic c).Else-not-is_listable) ∙ rw (sym c.is_acyclic.ensures ∙ c.if-not-is_acyclic.true))
 
 pub overflow_add-n : goal.overflow_add-n
 overflow_add-n c = let z = small (goal.at.overflow_add-n c).Else-not-is_listable in omega (arith, z.narrow, z.variables)

@@ -9,13 +9,13 @@ use Rattle.network_rules.proofs.literals.Goals as goal
 use Rattle.network_rules.proofs.literals.Goals.{Else-not-follows}
 
 kept : (c : Else-not-follows) → rules c.args.n ≡ true
-kept c = sym c.follows.ensures ∙ not-false _ c.if-not-follows.false
+kept c = sym c.follows.ensures ∙ c.if-not-follows.false
 
 shape : (c : Else-not-follows) → Shaped c.args.n
 shape c = shape_of _ (search rules) (search rules)
 
 pub returns-then-not-follows : goal.returns-then-not-follows
-returns-then-not-follows c = counted-no c.args.n (sym c.follows.ensures ∙ not-true _ c.if-not-follows.true)
+returns-then-not-follows c = counted-no c.args.n (sym c.follows.ensures ∙ c.if-not-follows.true)
 
 pub returns : goal.returns
 returns c = counted_is c.args.n (shape (goal.at.returns c).Else-not-follows) _ (kept (goal.at.returns c).Else-not-follows) c.literals_within.ensures

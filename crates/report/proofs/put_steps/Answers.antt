@@ -1,8 +1,9 @@
 -- The answers of `report::put_steps`.
 use mathlib.Core.Path.{◌≡◌, refl, sym, ◌∙◌, ap, subst}
 use mathlib.Core.List.{List, ◌∷◌, ◌++◌, map}
-use Prim.Native.Nat.{◌+◌, ◌≤◌}
+use Prim.Native.Nat.{◌+◌, ◌-◌, ◌≤◌}
 use native.Mathlib.Omega.{arith}
+use borrow.Author.Rules.{rules}
 use lib.IntN.{pos}
 use lib.ListN.{length, get_or, take, drop, length-map, drop_of_length-le}
 use lib.Seq.{length-take-le}
@@ -20,7 +21,7 @@ abbrev steps : Start → List Made
 steps s = map made_of (take s.args.steps.count s.args.steps.list)
 
 room : (s : Start) → length s.args.steps.list ≡ places
-room s = sym (length-map s.args.steps.list _) ∙ s.well-formed.1.1.0.1.1.1.0.1.0.1
+room s = sym (length-map s.args.steps.list _) ∙ s.well_formed.1.1.0.1.1.1.0.1.0.1
 
 pub loop-i-init : goal.loop-i-init
 loop-i-init c = (omega arith, due_all _ _ (omega arith) (omega arith) refl, c.requires.each, refl)
@@ -35,7 +36,7 @@ module _ (c : In-loop-i) where
 
   next : drop c.loop-i.i ((map made_of (take c.args.steps.count c.args.steps.list))) ≡ step ∷ others
   next =
-      made-next c.args.steps.list c.args.steps.count c.loop-i.i c.loop-i-test.true (omega (arith, (let it : length c.args.steps.list ≡ places = sym (length-map c.args.steps.list _) ∙ c.well-formed.1.1.0.1.1.1.0.1.0.1 in it), c.requires.few))
+      made-next c.args.steps.list c.args.steps.count c.loop-i.i c.loop-i-test.true (omega (arith, (let it : length c.args.steps.list ≡ places = sym (length-map c.args.steps.list _) ∙ c.well_formed.1.1.0.1.1.1.0.1.0.1 in it), c.requires.few))
 
   weights : Sized step.weight × EachSized others
   weights = each_first (subst (λ l. EachSized l) next c.loop-i.invariant.2)
@@ -54,7 +55,7 @@ line : (c : After-size) → let s = c.args in
     Due s.o.now s.at (step_lines ((map made_of (take c.args.steps.count c.args.steps.list)))) c.loop-i.o c.loop-i.p
     (step_line ((made_of (get_or c.args.steps.list c.loop-i.i no_made))).number ((made_of (get_or c.args.steps.list c.loop-i.i no_made))).divisor (pos c.size.result) (pos ((made_of (get_or c.args.steps.list c.loop-i.i no_made))).literals) ++ step_lines ((drop (c.loop-i.i + 1) ((map made_of (take c.args.steps.count c.args.steps.list))))))
 line c =
-    due-as c.loop-i.invariant.1 (ap step_lines ((let it : drop c.loop-i.i ((map made_of (take c.args.steps.count c.args.steps.list))) ≡ step ∷ others = made-next c.args.steps.list c.args.steps.count c.loop-i.i c.loop-i-test.true (omega (arith, (let it : length c.args.steps.list ≡ places = sym (length-map c.args.steps.list _) ∙ c.well-formed.1.1.0.1.1.1.0.1.0.1 in it), c.requires.few)) in it)) ∙ lines-first ((made_of (get_or c.args.steps.list c.loop-i.i no_made))) ((drop (c.loop-i.i + 1) ((map made_of (take c.args.steps.count c.args.steps.list))))) (c.size.ensures ∙ sized-read ((let it : Sized step.weight × EachSized others = each_first (subst (λ l. EachSized l) next c.loop-i.invariant.2) in it)).0))
+    due-as c.loop-i.invariant.1 (ap step_lines ((let it : drop c.loop-i.i ((map made_of (take c.args.steps.count c.args.steps.list))) ≡ step ∷ others = made-next c.args.steps.list c.args.steps.count c.loop-i.i c.loop-i-test.true (omega (arith, (let it : length c.args.steps.list ≡ places = sym (length-map c.args.steps.list _) ∙ c.well_formed.1.1.0.1.1.1.0.1.0.1 in it), c.requires.few)) in it)) ∙ lines-first ((made_of (get_or c.args.steps.list c.loop-i.i no_made))) ((drop (c.loop-i.i + 1) ((map made_of (take c.args.steps.count c.args.steps.list))))) (c.size.ensures ∙ sized-read ((let it : Sized step.weight × EachSized others = each_first (subst (λ l. EachSized l) next c.loop-i.invariant.2) in it)).0))
 
 pub overflow_add-i : goal.overflow_add-i
 overflow_add-i c = omega (arith, c.requires.few, c.loop-i-test.taken)

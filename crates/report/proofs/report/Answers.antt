@@ -1,8 +1,9 @@
 -- `report::report` meets its contract: the length is found with no room, and then the report is written or refused. Assumes nothing.
 use mathlib.Core.Path.{◌≡◌, ap, subst}
-use mathlib.Core.List.{◌++◌}
+use mathlib.Core.List.{[], ◌++◌}
 use Prim.Native.Nat.{◌≤◌}
 use native.Mathlib.Omega.{arith}
+use borrow.Author.Rules.{rules}
 use lib.ListN.{length}
 use Rattle.letters.{specs.Laid.Laid, proofs.Telling.told-long, proofs.Telling.told-whole}
 use Rattle.letters.proofs.Laying.{laid_as, laid-whole, laid-nowhere, laid-long, laid-short}

@@ -1,11 +1,13 @@
 -- The answers of `table::build`.
-use Prim.Native.Nat.{ℕ}
+use mathlib.Core.{List.map, Path.◌≡◌}
+use Prim.Native.Nat.{ℕ, ◌-◌, ◌≤◌}
 use native.Mathlib.Omega.{arith}
-use lib.ListN.{length-replicate}
+use lib.ListN.{length, length-replicate}
 use Rattle.sets.specs.Lists.{from}
 use Rattle.expression.proofs.Words.{room-cubes}
-use Rattle.network.specs.Handed.{cube_slots, word_slots}
+use Rattle.network.specs.Handed.{cube_slots, word_slots, LaidNodes}
 use Rattle.network.proofs.Laying.{laid_none}
+use Rattle.table.specs.Parts.{formed}
 use Rattle.table.proofs.Building.{laid-room, laid-output, laid-outputs}
 use borrow.Author.Rules.{rules}
 use Rattle.table.proofs.build.Goals as goal

@@ -1,8 +1,9 @@
 -- The answers of `table::collect`.
 use mathlib.Core.Path.{◌≡◌, refl, sym, ◌∙◌, subst}
 use mathlib.Core.Logic.{inl, inr}
-use Prim.Native.Nat.{ℕ}
+use Prim.Native.Nat.{ℕ, ◌-◌, ◌≤◌}
 use native.Mathlib.Omega.{arith}
+use lib.ListN.{length}
 use Rattle.expression.{specs.Words.Appends, proofs.Words.spare-length}
 use Rattle.table.specs.Parts.{pick}
 use Rattle.table.proofs.Picking.{pick-none, pick-skip, pick_put, pick-room}

@@ -3,6 +3,7 @@ use Prim.Native.Nat.{◌+◌, ◌≤◌}
 use native.Mathlib.Omega.{arith}
 use Rattle.expression.proofs.Words.{spare-length}
 use Rattle.table.proofs.Building.{end-inside, kept-few, filled}
+use borrow.Author.Rules.{rules}
 use Rattle.table.proofs.fill_output.Goals as goal
 use Rattle.table.proofs.fill_output.Goals.{After-absorb_part}
 

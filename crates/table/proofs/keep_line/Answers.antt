@@ -1,6 +1,7 @@
 -- `table::keep_line` meets its contract: the cube and the mask are put after those kept. Assumes nothing.
 use native.Mathlib.Omega.{arith}
 use Rattle.table.proofs.{Adding.stands_plain, Adding.stands-kept}
+use borrow.Author.Rules.{rules}
 use Rattle.table.proofs.keep_line.Goals as goal
 
 pub returns-then-rows-eq0 : goal.returns-then-rows-eq0

@@ -1,5 +1,5 @@
 -- The answers of `table::scan`.
-use Prim.Native.Nat.{◌-◌, ◌≤◌}
+use Prim.Native.Nat.{◌+◌, ◌-◌, ◌≤◌}
 use mathlib.Core.Path.{◌≡◌, refl, sym, ◌∙◌, ap, subst}
 use mathlib.Core.Logic.{◌⊎◌, inl, inr}
 use native.Mathlib.Omega.{arith}
@@ -11,7 +11,7 @@ use Rattle.table.specs.Table as table
 use Rattle.table.specs.{Table.read_lines, Parts.Scans, declared.State.State, declared.Scanned.Scanned}
 use Rattle.table.specs.declared.{Turn.Turn, Turn.TheVariants.Next}
 use Rattle.table.proofs.{Turn.the_type, Scanning.Remains, Scanning.left_there}
-use Rattle.table.proofs.Scanning.{reading-first, reading-rows, reading-roomy, reading-over, reading-next, reading-stop}
+use Rattle.table.proofs.Scanning.{Reading, reading-first, reading-rows, reading-roomy, reading-over, reading-next, reading-stop}
 use borrow.Author.Rules.{rules}
 use Rattle.table.proofs.scan.Goals as goal
 use Rattle.table.proofs.scan.Goals.{After-content_of-span, After-line_end-e}

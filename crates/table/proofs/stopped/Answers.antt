@@ -1,4 +1,5 @@
 -- `table::stopped` meets its contract. Assumes nothing.
+use borrow.Author.Rules.{rules}
 use Rattle.table.proofs.stopped.Goals as goal
 
 pub returns-in-Next : goal.returns-in-Next

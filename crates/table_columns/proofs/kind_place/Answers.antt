@@ -1,6 +1,7 @@
 -- `table_columns::kind_place` meets its contract: only a line of no kind goes anywhere. Assumes nothing.
 use mathlib.Core.{Path.◌≡◌, Path.sym, Logic.inl, Logic.inr}
 use native.Mathlib.Omega.{arith}
+use borrow.Author.Rules.{rules}
 use Rattle.table_kinds.specs.declared.Kind.TheVariants.{Other}
 use Rattle.table_columns.specs.Columns.{unless_zero}
 use Rattle.table_columns.proofs.{Counting.kind-none}

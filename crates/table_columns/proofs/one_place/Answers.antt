@@ -1,9 +1,10 @@
 -- The answers of `table_columns::one_place`.
-use Prim.Native.Nat.{◌+◌}
+use Prim.Native.Nat.{◌+◌, ◌-◌, ◌≤◌}
 use mathlib.Core.Path.{◌≡◌, sym, ◌∙◌}
 use mathlib.Core.Logic.{inl, inr}
 use native.Mathlib.Omega.{arith}
-use lib.ListN.{drop}
+use lib.ListN.{length, drop}
+use borrow.Author.Rules.{rules}
 use Rattle.table_columns.specs.Columns.{one_place}
 use Rattle.table_columns.proofs.Counting.{one-stop, one-passed, one_on, one-done}
 use Rattle.table_columns.proofs.one_place.Goals as goal

@@ -1,14 +1,16 @@
 -- The answers of `table_kinds::decimal_of`.
 use mathlib.Core.Path.{◌≡◌, refl, sym, ◌∙◌, ap}
 use mathlib.Core.{Logic.inl, Logic.inr, Option.some}
-use Prim.Native.Nat.{◌-◌, ◌<◌, ◌≤◌}
+use Prim.Native.Nat.{◌-◌, ◌^◌, ◌<◌, ◌≤◌}
 use native.Mathlib.Omega.{arith}
 use borrow.Author.Tests.{ltb-true, ltb-false}
-use lib.ListN.{length, get_or}
+use lib.ListN.{length, get_or, drop}
+use Rattle.sets.specs.Lists.{all}
 use Rattle.sets.proofs.Places.{all-stop, all-on, all_done}
-use Rattle.letters.specs.Meaning.{is_digit}
+use Rattle.letters.specs.Meaning.{read_back, is_digit}
 use Rattle.table_kinds.proofs.Reading.{value-short, value-long, value-stray, value_read, read-on, read_done, digit_low, digit-high, digit-in}
 use Rattle.table_kinds.proofs.{Reading.digits_lt, Reading.digits-few}
+use borrow.Author.Rules.{rules}
 use Rattle.table_kinds.proofs.decimal_of.Goals as goal
 
 pub returns-then-t-eq0 : goal.returns-then-t-eq0
@@ -17,7 +19,7 @@ returns-then-t-eq0 c = let t = c.args.t.now in
 
 pub loop-i-init : goal.loop-i-init
 loop-i-init c = let t = c.args.t.now in
-    (omega arith, omega arith, ltb-false 5 (length t) c.if-t-gt-DIGITS.false, omega arith, refl, refl)
+    (omega arith, omega arith, c.if-t-gt-DIGITS.false, omega arith, refl, refl)
 
 pub returns-then-b-lt48 : goal.returns-then-b-lt48
 returns-then-b-lt48 c = let t = c.args.t.now in
@@ -33,7 +35,7 @@ overflow_mul-n c = record { fits = omega (arith, digits-few c.loop-i.i c.loop-i.
 
 pub overflow_add-n : goal.overflow_add-n
 overflow_add-n c = let t = c.args.t.now in
-    let d = ltb-false 57 (get_or t c.loop-i.i 0) c.if-b-gt57.false in
+    let d = c.if-b-gt57.false in
     record { fits = omega (arith, digits-few c.loop-i.i c.loop-i.n (omega arith) c.loop-i.invariant.3, c.digit.ensures) }
 
 pub loop-i-preserved : goal.loop-i-preserved
@@ -42,7 +44,7 @@ loop-i-preserved c = let t = c.args.t.now in
     let n = c.loop-i.n in
     let b = get_or t i 0 in
     let inside : i < length t = omega arith in
-    let high : b ≤ 57 = ltb-false 57 b c.if-b-gt57.false in
+    let high : b ≤ 57 = c.if-b-gt57.false in
     let low : 48 ≤ b = c.if-b-lt48.false in
     let d : c.digit.result ≡ b - 48 = omega (arith, c.digit.ensures) in (
       omega arith,

@@ -1,12 +1,12 @@
 -- The answers of `table_lines::trim_end`.
 use mathlib.Core.Path.{◌≡◌, sym, ◌∙◌, ap}
-use mathlib.Core.Logic.{inl, inr}
 use native.Mathlib.Omega.{arith}
 use lib.ListN.{take}
 use lib.Seq.{take-length, length-take-le}
 use Rattle.table_lines.specs.Text.{trim_end}
 use Rattle.table_lines.proofs.Ends.{end-stop, end_on, end-done}
 use Rattle.table_lines.proofs.trim_end.Goals as goal
+use Rattle.table_lines.proofs.trim_end.Goals.{then-loop-e-test+else-is_blank, else-loop-e-test}
 
 pub loop-e-init : goal.loop-e-init
 loop-e-init c = (omega arith, ap trim_end (take-length c.args.l.now))
@@ -25,7 +25,7 @@ pub returns : goal.returns
 returns c = let l = c.args.l.now in
     let e = c.loop-e.e in
     let left : trim_end (take e l) ≡ take e l = elim c.loop-e-test.branch [
-      | inl (t, k, b, x) ↦ end-stop l e t.taken c.loop-e.invariant.0 (sym b.ensures ∙ x.left)
-      | inr t ↦ end-done l e t.left
+      | then-loop-e-test+else-is_blank w ↦ end-stop l e w.loop-e-test.true c.loop-e.invariant.0 (sym w.is_blank.ensures ∙ w.if-is_blank.false)
+      | else-loop-e-test w ↦ end-done l e w.loop-e-test.false
     ] in
     sym left ∙ c.loop-e.invariant.1

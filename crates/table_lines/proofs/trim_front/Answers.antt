@@ -1,11 +1,11 @@
 -- The answers of `table_lines::trim_front`.
 use mathlib.Core.Path.{◌≡◌, sym, ◌∙◌}
-use mathlib.Core.Logic.{inl, inr}
 use native.Mathlib.Omega.{arith}
 use lib.ListN.{drop}
 use Rattle.table_lines.specs.Text.{trim_front}
 use Rattle.table_lines.proofs.Ends.{rest-whole, front-stop, front-on, front-done}
 use Rattle.table_lines.proofs.trim_front.Goals as goal
+use Rattle.table_lines.proofs.trim_front.Goals.{then-loop-a-test+else-is_blank, else-loop-a-test}
 
 pub loop-a-preserved : goal.loop-a-preserved
 loop-a-preserved c = (
@@ -18,7 +18,7 @@ pub returns : goal.returns
 returns c = let l = c.args.l.now in
     let i = c.loop-a.a in
     let left : trim_front (drop i l) ≡ drop i l = elim c.loop-a-test.branch [
-      | inl (t, k, b, x) ↦ front-stop l i t.taken (sym b.ensures ∙ x.left)
-      | inr t ↦ front-done l i t.left
+      | then-loop-a-test+else-is_blank w ↦ front-stop l i w.loop-a-test.true (sym w.is_blank.ensures ∙ w.if-is_blank.false)
+      | else-loop-a-test w ↦ front-done l i w.loop-a-test.false
     ] in
     rest-whole i l ∙ sym left ∙ c.loop-a.invariant.1

@@ -3,7 +3,6 @@ use Prim.Native.Nat.{ℕ, ◌<◌, ◌≤◌}
 use mathlib.Core.Path.{◌≡◌, refl, sym, ◌∙◌, ap}
 use mathlib.Core.List.{List}
 use native.Mathlib.Omega.{arith}
-use borrow.Author.Tests.{not-true, not-false}
 use lib.ListN.{length, get_or, take}
 use lib.Seq.{length-take-le, get_or-take}
 use Rattle.sets.proofs.Places.{all-stop, all-on, all_done}
@@ -21,7 +20,7 @@ pub returns-then-not-is_sign : goal.returns-then-not-is_sign
 returns-then-not-is_sign c = let a = c.args in
     let w = next a.l.now a.n c.loop-i.i (omega arith) c.loop-i.invariant.1 in
     sym (all-stop (take a.n a.l.now) c.loop-i.i 0 w.0 (is_sign a.dash)
-    (ap (is_sign a.dash) w.1 ∙ sym c.is_sign.ensures ∙ not-true _ c.if-not-is_sign.true)) ∙ c.loop-i.invariant.2
+    (ap (is_sign a.dash) w.1 ∙ sym c.is_sign.ensures ∙ c.if-not-is_sign.true)) ∙ c.loop-i.invariant.2
 
 pub loop-i-preserved : goal.loop-i-preserved
 loop-i-preserved c = let a = c.args in
@@ -29,7 +28,7 @@ loop-i-preserved c = let a = c.args in
       omega arith,
       c.loop-i.invariant.1,
       sym (all-on (take a.n a.l.now) c.loop-i.i 0 w.0 (is_sign a.dash)
-          (ap (is_sign a.dash) w.1 ∙ sym c.is_sign.ensures ∙ not-false _ c.if-not-is_sign.false)) ∙ c.loop-i.invariant.2,
+          (ap (is_sign a.dash) w.1 ∙ sym c.is_sign.ensures ∙ c.if-not-is_sign.false)) ∙ c.loop-i.invariant.2,
     )
 
 pub returns : goal.returns

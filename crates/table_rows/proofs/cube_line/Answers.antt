@@ -3,7 +3,6 @@ use Prim.Native.Nat.{◌≤◌}
 use mathlib.Core.Path.{◌≡◌, sym, ◌∙◌, ap}
 use mathlib.Core.Bool.{true}
 use lib.ListN.{length, take}
-use borrow.Author.Tests.{not-true, not-false}
 use Rattle.sets.specs.Lists.{all}
 use Rattle.table_lines.{specs.Text.trim_front, proofs.Ends.rest-whole}
 use Rattle.table_rows.specs.{Lines.most_places, Lines.is_place, Parts.roomy, Parts.marked_line}
@@ -14,12 +13,12 @@ use Rattle.table_rows.proofs.cube_line.Goals.{After-all_of, Else-not-has_room}
 
 pub returns-then-not-has_room : goal.returns-then-not-has_room
 returns-then-not-has_room c = let a = c.args in
-    rw (← parsing-parts a.n a.m a.c.now, sym c.has_room.ensures ∙ not-true _ c.if-not-has_room.true)
+    rw (← parsing-parts a.n a.m a.c.now, sym c.has_room.ensures ∙ c.if-not-has_room.true)
 
 -- the numbers are as their test wants them
 room : (c : Else-not-has_room) → roomy (length c.args.c.now) c.args.n c.args.m
     ≡ true
-room c = sym c.has_room.ensures ∙ not-false _ c.if-not-has_room.false
+room c = sym c.has_room.ensures ∙ c.if-not-has_room.false
 
 bounds : (c : Else-not-has_room)
     → let a = c.args in (a.n ≤ most_places) × (a.m ≤ most_places) × (a.n ≤ length a.c.now)
@@ -34,11 +33,11 @@ placed c = let a = c.args in
 
 pub returns-then-not-all_of : goal.returns-then-not-all_of
 returns-then-not-all_of c = let a = c.args in
-    rw (← parsing-parts a.n a.m a.c.now, room (goal.at.returns-then-not-all_of c).Else-not-has_room, placed (goal.at.returns-then-not-all_of c).After-all_of ∙ not-true _ c.if-not-all_of.true)
+    rw (← parsing-parts a.n a.m a.c.now, room (goal.at.returns-then-not-all_of c).Else-not-has_room, placed (goal.at.returns-then-not-all_of c).After-all_of ∙ c.if-not-all_of.true)
 
 pub returns : goal.returns
 returns c = let a = c.args in
-    rw (← parsing-parts a.n a.m a.c.now, room (goal.at.returns c).Else-not-has_room, placed (goal.at.returns c).After-all_of ∙ not-false _ c.if-not-all_of.false)
+    rw (← parsing-parts a.n a.m a.c.now, room (goal.at.returns c).Else-not-has_room, placed (goal.at.returns c).After-all_of ∙ c.if-not-all_of.false)
     (c.marked.ensures ∙ ap (marked_line a.m (take a.n a.c.now)) (c.trim_front.ensures ∙ ap trim_front (rest-whole a.n a.c.now)))
 
 pub all_of-requires : goal.all_of-requires

@@ -1,7 +1,6 @@
 -- `table_rows::marked` meets its contract: the marks are tested, and then the cube and the mask are made. Assumes nothing.
 use mathlib.Core.Path.{◌≡◌, sym, ◌∙◌, ap₂}
 use native.Mathlib.Omega.{arith}
-use borrow.Author.Tests.{not-true, not-false}
 use mathlib.Core.Bool.{true}
 use Rattle.table_rows.specs.Parts.{has_marks, entered}
 use Rattle.table_rows.proofs.{Cubing.marks-length}
@@ -9,11 +8,11 @@ use Rattle.table_rows.proofs.marked.Goals as goal
 use Rattle.table_rows.proofs.marked.Goals.{Else-not-has_marks}
 
 pub returns-then-not-has_marks : goal.returns-then-not-has_marks
-returns-then-not-has_marks c = rw (sym c.has_marks.ensures ∙ not-true _ c.if-not-has_marks.true)
+returns-then-not-has_marks c = rw (sym c.has_marks.ensures ∙ c.if-not-has_marks.true)
 
 -- the marks are as the test wants them
 whole : (c : Else-not-has_marks) → has_marks c.args.m c.args.o.now ≡ true
-whole c = sym c.has_marks.ensures ∙ not-false _ c.if-not-has_marks.false
+whole c = sym c.has_marks.ensures ∙ c.if-not-has_marks.false
 
 pub cube_of-requires : goal.cube_of-requires
 cube_of-requires c = let h = c.requires in

@@ -23,19 +23,19 @@ overflow_add-mask c = record { fits = omega (arith, marks-lt c.args.o.now c.loop
 
 pub loop-i-preserved-then-o-i-eq49 : goal.loop-i-preserved-then-o-i-eq49
 loop-i-preserved-then-o-i-eq49 c = let o = c.args.o.now in (
-      omega arith,
-      omega arith,
-      rw (marks-next o c.loop-i.i (omega arith) (omega arith), eq-eqb 49 (get_or o (c.loop-i.i - 1) 0) (sym c.if-o-i-eq49.true))
-          (omega arith),
-    )
+  omega arith,
+  omega arith,
+  rw (marks-next o c.loop-i.i (omega arith) (omega arith), eq-eqb 49 (get_or o (c.loop-i.i - 1) 0) (sym c.if-o-i-eq49.true))
+      (omega arith),
+)
 
 pub loop-i-preserved : goal.loop-i-preserved
 loop-i-preserved c = let o = c.args.o.now in (
-      omega arith,
-      omega arith,
-      rw (marks-next o c.loop-i.i (omega arith) (omega arith), ne_eqb 49 (get_or o (c.loop-i.i - 1) 0) (λ e. c.if-o-i-eq49.false (sym e)))
-          (omega arith),
-    )
+  omega arith,
+  omega arith,
+  rw (marks-next o c.loop-i.i (omega arith) (omega arith), ne_eqb 49 (get_or o (c.loop-i.i - 1) 0) (λ e. c.if-o-i-eq49.false (sym e)))
+      (omega arith),
+)
 
 pub returns : goal.returns
 returns c = let o = c.args.o.now in

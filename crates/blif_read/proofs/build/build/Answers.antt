@@ -1,11 +1,14 @@
 -- The answers of `blif_read::build::build`.
-use Prim.Native.Nat.{ℕ, ◌+◌, ◌≤◌}
+use Prim.Native.Nat.{ℕ, ◌+◌, ◌-◌, ◌≤◌}
+use mathlib.Core.{Path.◌≡◌, List.List}
 use native.Mathlib.Omega.{arith}
 use borrow.Author.Rules.{rules}
-use lib.ListN.{length-replicate}
+use lib.ListN.{length, take, length-replicate}
 use Rattle.expression.proofs.Words.{room-cubes}
-use Rattle.network.specs.{Handed.cube_slots, Handed.word_slots}
+use Rattle.network.specs.{Net.nodes, Handed.LaidNodes, Handed.cube_slots, Handed.word_slots}
 use Rattle.network.proofs.Laying.{laid_none}
+use Rattle.blif_laws.specs.{Text.Block, Reading.net_in}
+use Rattle.blif_read.specs.Defining.{model_by}
 use Rattle.blif_read.proofs.Building.{Whole, built-next, built-all}
 use Rattle.blif_read.proofs.build.build.Goals as goal
 use Rattle.blif_read.proofs.build.build.Goals.{After-out-in-loop-i-1}

@@ -1,7 +1,9 @@
 -- The answers of `blif_read::build::marked`.
+use Prim.Native.Nat.{◌-◌, ◌≤◌}
 use mathlib.Core.Path.{◌≡◌, refl, sym, ap, ap₂, ◌∙◌}
-use mathlib.Core.{Logic.inl, Logic.inr, List.◌∷◌}
+use mathlib.Core.{Logic.inl, Logic.inr, List.[], List.◌∷◌}
 use native.Mathlib.Omega.{arith}
+use borrow.Author.Rules.{rules}
 use borrow.Author.Tests.{le-leb, lt-leb}
 use lib.ListN.{length, get_or, set, length-append}
 use Rattle.sets.specs.Lists.{from}

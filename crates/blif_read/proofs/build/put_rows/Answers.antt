@@ -1,13 +1,16 @@
 -- The answers of `blif_read::build::put_rows`.
-use Prim.Native.Nat.{◌+◌, ◌<◌, ◌≤◌}
+use Prim.Native.Nat.{ℕ, ◌+◌, ◌-◌, ◌<◌, ◌≤◌}
 use mathlib.Core.Path.{◌≡◌, refl, subst}
+use mathlib.Core.List.{List}
 use native.Mathlib.Omega.{arith}
 use borrow.Author.Rules.{rules}
 use lib.ListN.{length}
 use Rattle.sets.specs.Word.{largest}
 use Rattle.expression.{specs.Words.cubes_of, proofs.Words.cubes-few, proofs.Words.cubes-length}
-use Rattle.blif_lines.specs.Lining.{RowIs}
-use Rattle.blif_read.proofs.Putting.{rows-first, rows_next, rows-over, rows-full, rows_all}
+use Rattle.blif_scan.specs.Scanning.{left}
+use Rattle.blif_lines.specs.Lining.{RowsOf, RowIs}
+use Rattle.blif_read.specs.Building.{Columns, Within}
+use Rattle.blif_read.proofs.Putting.{RowsTo, rows-first, rows_next, rows-over, rows-full, rows_all}
 use Rattle.blif_read.proofs.build.put_rows.Goals as goal
 use Rattle.blif_read.proofs.build.put_rows.Goals.{After-number, After-read_row-row, At-loop-i}
 

@@ -1,8 +1,13 @@
 -- The answers of `blif_read::build::read_signs`.
-use mathlib.Core.{Path.subst}
+use Prim.Native.Nat.{◌-◌, ◌≤◌}
+use mathlib.Core.{Path.◌≡◌, Path.subst, List.List, List.◌++◌}
 use native.Mathlib.Omega.{arith}
-use Rattle.blif_scan.specs.Scanning.{NextIs}
-use Rattle.blif_read.proofs.Putting.{signs-first, signs-next, signs-some, signs-all}
+use borrow.Author.Rules.{rules}
+use lib.ListN.{length}
+use Rattle.cube.specs.Cube.{lits}
+use Rattle.blif_scan.specs.Scanning.{left, NextIs}
+use Rattle.blif_read.specs.Building.{Columns}
+use Rattle.blif_read.proofs.Putting.{SignsTo, signs-first, signs-next, signs-some, signs-all}
 use Rattle.blif_read.proofs.build.read_signs.Goals as goal
 
 pub loop-i-init : goal.loop-i-init

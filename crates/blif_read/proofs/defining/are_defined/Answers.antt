@@ -1,9 +1,16 @@
 -- The answers of `blif_read::defining::are_defined`.
-use mathlib.Core.Path.{refl, sym, ◌∙◌}
-use mathlib.Core.{Bool.true}
+use Prim.Native.Nat.{ℕ, ◌-◌, ◌≤◌}
+use mathlib.Core.Path.{◌≡◌, refl, sym, ◌∙◌}
+use mathlib.Core.{Bool.true, List.List}
 use native.Mathlib.Omega.{arith}
+use borrow.Author.Rules.{rules}
 use borrow.Author.Tests.{not-true, not-false}
-use Rattle.sets.specs.{Lists.from}
+use lib.Dec.{eqb}
+use Rattle.sets.specs.{Lists.all, Lists.from, Word.largest}
+use Rattle.blif_laws.specs.Text.{Block}
+use Rattle.blif_scan.specs.Scanning.{left}
+use Rattle.blif_read.specs.Defining.{times_in}
+use Rattle.blif_form.specs.Surveying.{BlocksOf, SmallBlocks}
 use Rattle.blif_lines.proofs.Windows.{windows-on, windows-stop, windows-done}
 use Rattle.blif_read.proofs.defining.are_defined.Goals as goal
 
@@ -17,7 +24,7 @@ is_defined-requires c = omega (arith, c.span-k.ensures)
 pub returns-then-not-is_defined : goal.returns-then-not-is_defined
 returns-then-not-is_defined c = λ m bs f b k.
     sym (windows-stop _ c.loop-base.base c.span-k.result _ (omega (arith, c.span-k.ensures))
-    (sym (c.is_defined.ensures m bs f b k) ∙ not-true _ c.if-not-is_defined.true))
+    (sym (c.is_defined.ensures m bs f b k) ∙ c.if-not-is_defined.true))
 
 pub overflow_add-base : goal.overflow_add-base
 overflow_add-base c = omega (arith, c.span-k.ensures)
@@ -28,7 +35,7 @@ loop-base-smaller c = omega (arith, c.span-k.ensures)
 pub loop-base-preserved : goal.loop-base-preserved
 loop-base-preserved c = λ m bs f b k.
     windows-on _ c.loop-base.base c.span-k.result (c.loop-base.invariant m bs f b k)
-    (sym (c.is_defined.ensures m bs f b k) ∙ not-false _ c.if-not-is_defined.false)
+    (sym (c.is_defined.ensures m bs f b k) ∙ c.if-not-is_defined.false)
 
 pub returns : goal.returns
 returns c = λ m bs f b k. sym (windows-done _ c.loop-base.base _ (omega arith) (c.loop-base.invariant m bs f b k))

@@ -1,8 +1,9 @@
 -- The answers of `blif_read::defining::is_gapless`.
-use Prim.Native.Nat.{ℕ, ◌≤◌}
+use Prim.Native.Nat.{ℕ, ◌-◌, ◌≤◌}
 use mathlib.Core.Path.{◌≡◌, sym, ◌∙◌}
 use mathlib.Core.{Bool.true, List.List}
 use native.Mathlib.Omega.{arith}
+use borrow.Author.Rules.{rules}
 use borrow.Author.Tests.{not-true, not-false}
 use Rattle.sets.specs.{Lists.all, Lists.from, Sets.mem, Word.largest}
 use Rattle.blif_laws.specs.{Text.Block, Reading.standing}
@@ -29,7 +30,7 @@ answer c m bs f b k = others-stand _ m bs c.loop-base.base _ c.loop-base.invaria
 pub returns-then-not-does_stand : goal.returns-then-not-does_stand
 returns-then-not-does_stand c = λ m bs f b k.
     sym (windows-stop _ c.loop-base.base c.span-k.result _ (omega (arith, c.span-k.ensures))
-    (answer (goal.at.returns-then-not-does_stand c).After-does_stand m bs f b k ∙ not-true _ c.if-not-does_stand.true))
+    (answer (goal.at.returns-then-not-does_stand c).After-does_stand m bs f b k ∙ c.if-not-does_stand.true))
 
 pub overflow_add-base : goal.overflow_add-base
 overflow_add-base c = omega (arith, c.span-k.ensures)
@@ -42,7 +43,7 @@ loop-base-preserved c =
     (
       omega arith,
       λ m bs f b k.
-          windows-on _ c.loop-base.base c.span-k.result (c.loop-base.invariant.1 m bs f b k) (answer (goal.at.loop-base-preserved c).After-does_stand m bs f b k ∙ not-false _ c.if-not-does_stand.false),
+          windows-on _ c.loop-base.base c.span-k.result (c.loop-base.invariant.1 m bs f b k) (answer (goal.at.loop-base-preserved c).After-does_stand m bs f b k ∙ c.if-not-does_stand.false),
     )
 
 pub returns : goal.returns

@@ -1,7 +1,9 @@
 -- The answers of `blif_read::defining::mark_inputs`.
+use Prim.Native.Nat.{◌-◌, ◌≤◌}
 use mathlib.Core.Path.{sym, ◌∙◌, ap, subst}
 use native.Mathlib.Omega.{arith}
 use native.Mathlib.Numerals.{add-one}
+use borrow.Author.Rules.{rules}
 use Rattle.sets.{specs.Lists.from, proofs.Rows.from-snoc}
 use Rattle.blif_lines.{specs.Marking.Raised, proofs.Marking.raised-none, proofs.Marking.raised-on}
 use Rattle.blif_read.proofs.defining.mark_inputs.Goals as goal

@@ -1,13 +1,14 @@
 -- `blif_read::mark_name` meets its contract, in each of its four cases. Assumes nothing.
+use borrow.Author.Rules.{rules}
 use borrow.Author.Tests.{not-true, not-false}
 use Rattle.blif_lines.proofs.Marking.{raised-none}
 use Rattle.blif_read.proofs.defining.mark_name.Goals as goal
 
 pub returns-then-not-outputs : goal.returns-then-not-outputs
-returns-then-not-outputs c = rw (c.in-Variable.is, not-true c.args.outputs c.if-not-outputs.true) c.mark.ensures
+returns-then-not-outputs c = rw (c.in-Variable.is, c.if-not-outputs.true) c.mark.ensures
 
 pub returns-else-not-outputs : goal.returns-else-not-outputs
-returns-else-not-outputs c = rw (c.in-Variable.is, not-false c.args.outputs c.if-not-outputs.false) (raised-none _ _)
+returns-else-not-outputs c = rw (c.in-Variable.is, c.if-not-outputs.false) (raised-none _ _)
 
 pub returns-then-outputs : goal.returns-then-outputs
 returns-then-outputs c = rw (c.in-Output.is, c.if-outputs.true) c.mark-then-outputs.ensures

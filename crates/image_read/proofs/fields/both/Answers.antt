@@ -5,8 +5,8 @@ use Rattle.image_read.proofs.fields.both.Goals as goal
 
 pub returns-then-not-a : goal.returns-then-not-a
 returns-then-not-a c =
-    sym (ap (λ (x : Bool). x && c.args.b) (not-true c.args.a c.if-not-a.true))
+    sym (ap (λ (x : Bool). x && c.args.b) (c.if-not-a.true))
 
 pub returns : goal.returns
 returns c =
-    sym (ap (λ (x : Bool). x && c.args.b) (not-false c.args.a c.if-not-a.false))
+    sym (ap (λ (x : Bool). x && c.args.b) (c.if-not-a.false))

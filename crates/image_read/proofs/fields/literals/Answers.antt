@@ -1,15 +1,17 @@
 -- The answers of `image_read::fields::literals`.
-use Prim.Native.Nat.{ℕ}
-use mathlib.Core.Path.{refl, sym, ap, ◌∙◌}
-use mathlib.Core.{Bool.Bool, List.List}
+use Prim.Native.Nat.{ℕ, ◌+◌, ◌-◌, ◌*◌, ◌≤◌}
+use mathlib.Core.Path.{◌≡◌, refl, sym, ap, ◌∙◌}
+use mathlib.Core.{Bool.Bool, Bool.◌&&◌, List.List}
 use native.Mathlib.Omega.{arith}
 use lib.ListN.{drop}
+use borrow.Author.Rules.{rules}
 use borrow.Author.Tests.{not-true, not-false}
+use Rattle.cube.specs.Cube.{lits}
 use Rattle.image_fields.specs.Fields.{bits_in}
 use Rattle.image_laws.specs.Widths.{edition1}
 use Rattle.image_read.specs.{Parts.FieldIs, declared.fields.Field.TheVariants.Value}
 use Rattle.image_read.proofs.{Heading.field_below}
-use Rattle.image_read.proofs.Gathering.{gather_none, gather-cut, gather-bad, gather-next, gather-end}
+use Rattle.image_read.proofs.Gathering.{Gathering, gather_none, gather-cut, gather-bad, gather-next, gather-end}
 use Rattle.image_read.proofs.fields.literals.Goals as goal
 use Rattle.image_read.proofs.fields.literals.Goals.{At-loop-i, In-Value}
 
@@ -37,7 +39,7 @@ overflow_cast-l c = omega (arith, field_below edition1.literal (literal c) (bits
 pub returns-then-not-is_allowed : goal.returns-then-not-is_allowed
 returns-then-not-is_allowed c =
     gather-bad c.loop-i.invariant.2 c.loop-i-test.true (literal (goal.at.returns-then-not-is_allowed c).In-Value) (read (goal.at.returns-then-not-is_allowed c).In-Value)
-    (sym c.is_allowed.ensures ∙ not-true _ c.if-not-is_allowed.true)
+    (sym c.is_allowed.ensures ∙ c.if-not-is_allowed.true)
 
 pub loop-i-preserved : goal.loop-i-preserved
 loop-i-preserved c =
@@ -45,7 +47,7 @@ loop-i-preserved c =
       omega (arith, more),
       omega (arith, c.loop-i.invariant.1),
       gather-next c.loop-i.invariant.2 more (literal (goal.at.loop-i-preserved c).In-Value) (read (goal.at.loop-i-preserved c).In-Value) c.requires.1
-          (sym c.is_allowed.ensures ∙ not-false _ c.if-not-is_allowed.false) _ c.with-seen.ensures _
+          (sym c.is_allowed.ensures ∙ c.if-not-is_allowed.false) _ c.with-seen.ensures _
           (c.both-ascending.ensures ∙ ap (c.loop-i.ascending &&◌) c.is_below.ensures),
     )
 

@@ -1,8 +1,11 @@
 -- The answers of `image_read::nodes::cubes`.
-use mathlib.Core.Path.{refl, ◌∙◌}
+use Prim.Native.Nat.{◌-◌, ◌≤◌}
+use mathlib.Core.Path.{◌≡◌, refl, ◌∙◌}
 use native.Mathlib.Omega.{arith}
+use lib.ListN.{length}
 use borrow.Author.Rules.{rules}
-use Rattle.image_read.proofs.Filling.{fill_none, fill-next, fill_end}
+use Rattle.image_fields.specs.Fields.{bits_in}
+use Rattle.image_read.proofs.Filling.{Filling, fill_none, fill-next, fill_end}
 use Rattle.image_read.proofs.{Going.going-bad}
 use Rattle.image_read.proofs.nodes.cubes.Goals as goal
 

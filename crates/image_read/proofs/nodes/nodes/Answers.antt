@@ -1,9 +1,11 @@
 -- The answers of `image_read::nodes::nodes`.
-use mathlib.Core.Path.{refl, ◌∙◌}
+use Prim.Native.Nat.{◌-◌, ◌≤◌}
+use mathlib.Core.Path.{◌≡◌, refl, ◌∙◌}
 use native.Mathlib.Omega.{arith}
-use lib.ListN.{length-set}
+use lib.ListN.{length, length-set}
 use borrow.Author.Rules.{rules}
-use Rattle.image_read.proofs.Filling.{count_none, count_next, count-end}
+use Rattle.image_fields.specs.Fields.{bits_in}
+use Rattle.image_read.proofs.Filling.{Counting, count_none, count_next, count-end}
 use Rattle.image_read.proofs.{Going.going-bad}
 use Rattle.image_read.proofs.nodes.nodes.Goals as goal
 
