@@ -3,7 +3,7 @@ use Rattle.std.proofs.Common.{◌-◌, ◌≤◌, ◌≡◌, length}
 use Rattle.spindle.proofs.file.read_full.Given as goal
 
 abbrev pub invariant-loop-done : goal.invariant-loop-done
-invariant-loop-done l = (l.done ≤ length l.room) × (length l.room ≡ length l.initial.room)
+invariant-loop-done g l = (l.done ≤ length l.room) × (length l.room ≡ length l.initial.room)
 
 abbrev pub decreases-loop-done : goal.decreases-loop-done
-decreases-loop-done l = length l.room - l.done
+decreases-loop-done g l = length l.room - l.done
