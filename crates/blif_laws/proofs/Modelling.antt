@@ -67,8 +67,9 @@ module _ (c : ℕ → Name) (alike : (v u : ℕ) → same_name (c v) (c u) ≡ e
   turn_one k [] i v h e = absurd (omega arith)
   turn_one k (f ∷ fs) zero v h e =
       let z : v ≡ k = omega arith in
-      rw (z, alike k k, eq-eqb k k refl)
-      (ap (record { name = c k; cubes = f } ∷◌) (turn-none (same_name (c k)) c (suc k) fs (λ u i. alike k u ∙ ne_eqb k u (λ q. omega arith))))
+      subst (λ (w : ℕ). blocks_for (c w) (turn_blocks c k (f ∷ fs)) ≡ record { name = c w; cubes = f } ∷ []) (sym z)
+      (rw (alike k k, eq-eqb k k refl)
+      (ap (record { name = c k; cubes = f } ∷◌) (turn-none (same_name (c k)) c (suc k) fs (λ u i. alike k u ∙ ne_eqb k u (λ q. omega arith)))))
   turn_one k (f ∷ fs) (suc i) v h e = rw (alike v k, ne_eqb v k (λ q. omega arith)) (turn_one (suc k) fs i v (omega arith) (omega arith))
 
 -- where each of them comes from

@@ -118,6 +118,7 @@ module _ {A : Type 0} (p : A → Bool) where
   one_kept {x} {l} i h = go (keep p l) (keep-in p i h)
     where
       go : (k : List A) → x ∈ k → 1 ≤ length k
+      go [] m = absurd (Memᴰ.not-nil m)
       go (y ∷ k) m = omega arith
 
 -- ---- how often a name is defined

@@ -11,7 +11,7 @@ use Rattle.letters.specs.{Letters.decimal, Meaning.read_back, Meaning.is_digit}
 use Rattle.letters.proofs.Numbers.{decimal-one, decimal-more, decimal-value, decimal-digits, decimal-some, decimal-lead}
 use Rattle.blif_laws.specs.{Text.Name, Text.variable, Text.output, Text.name_word, Meaning.is_clear}
 use Rattle.blif_laws.proofs.{Cutting.clear_in, Naming.decimal-lacks}
-use Rattle.blif_scan.specs.Scanning.{left, NextIs, Starts, by_space, by_line, by_end, EndedIs, DigitIs, NumeralBy, CalledBy}
+use Rattle.blif_scan.specs.Scanning.{left, NextIs, Starts, by_space, by_line, by_end, EndedIs, DigitIs, NumeralBy, Small, CalledBy}
 use Rattle.blif_scan.specs.declared.{Next.Next, Ended.Ended, Digit.Digit}
 use Rattle.blif_scan.specs.declared.Next.TheVariants as Next
 use Rattle.blif_scan.specs.declared.Ended.TheVariants as Ended
@@ -179,7 +179,7 @@ module _ (s : List ℕ) (at b p : ℕ) (next : NextIs s at (Next.Byte b p)) wher
   called-variable e v (Ended.Space q) h = lettered 120 (decimal v) (Ended.Space q) e h
   called-variable e v (Ended.Line q) h = lettered 120 (decimal v) (Ended.Line q) e h
   called-variable e v Ended.Finish h = lettered 120 (decimal v) Ended.Finish e h
-  called-variable e v Ended.No h = λ a. elim a [
+  called-variable e v Ended.No h = λ a. elim a as (λ (z : Name). Small z → Starts (left s at) (name_word z) → ⊥) [
     | variable u ↦ λ l k. h u l (starts-tail (starts-as next.0 refl k)).1
     | output j ↦ λ l k. lettered-not 121 (decimal j) (λ f. omega arith) k
   ]
@@ -189,14 +189,14 @@ module _ (s : List ℕ) (at b p : ℕ) (next : NextIs s at (Next.Byte b p)) wher
   called-output e j (Ended.Space q) h = lettered 121 (decimal j) (Ended.Space q) e h
   called-output e j (Ended.Line q) h = lettered 121 (decimal j) (Ended.Line q) e h
   called-output e j Ended.Finish h = lettered 121 (decimal j) Ended.Finish e h
-  called-output e j Ended.No h = λ a. elim a [
+  called-output e j Ended.No h = λ a. elim a as (λ (z : Name). Small z → Starts (left s at) (name_word z) → ⊥) [
     | variable u ↦ λ l k. lettered-not 120 (decimal u) (λ f. omega arith) k
     | output i ↦ λ l k. h i l (starts-tail (starts-as next.0 refl k)).1
   ]
 
   pub called-not : (b ≡ 120 → ⊥) → (b ≡ 121 → ⊥) → (a : Name) → CalledBy s at a Ended.No
   unfolding name_word
-  called-not h k a = λ c. elim c [
+  called-not h k a = λ c. elim c as (λ (z : Name). Small z → Starts (left s at) (name_word z) → ⊥) [
     | variable u ↦ λ l w. lettered-not 120 (decimal u) h w
     | output j ↦ λ l w. lettered-not 121 (decimal j) k w
   ]
@@ -206,7 +206,7 @@ lettered-cut s at e c w = λ k. starts_none (starts-as e refl k)
 
 pub called-cut : (s : List ℕ) (at : ℕ) → left s at ≡ [] → (a : Name) → CalledBy s at a Ended.No
 unfolding name_word
-called-cut s at e a = λ c. elim c [
+called-cut s at e a = λ c. elim c as (λ (z : Name). Small z → Starts (left s at) (name_word z) → ⊥) [
   | variable u ↦ λ l k. lettered-cut s at e 120 (decimal u) k
   | output j ↦ λ l k. lettered-cut s at e 121 (decimal j) k
 ]

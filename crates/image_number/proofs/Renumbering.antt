@@ -3,7 +3,6 @@ use Prim.Native.Nat.{ℕ, ◌+◌, ◌-◌, ◌*◌, ◌/◌, ◌%◌, ◌<◌, 
 use mathlib.Core.Path.{◌≡◌, refl, sym, ap, ap₂, ◌∙◌, subst}
 use mathlib.Core.{Logic.inl, Logic.inr, Bool.true}
 use mathlib.Core.List.Memᴰ
-use mathlib.Core.List.Memᴰ.{tail as there}
 use mathlib.Core.List.{List, [], ◌∷◌, map}
 use native.Mathlib.Omega.{arith}
 use lib.Dec.{ltb}
@@ -14,7 +13,7 @@ use Rattle.sets.{specs.Lists.all, specs.Lists.total, specs.Sets.insert, proofs.T
 use Rattle.sets.proofs.Lists.{◌∈◌, all-out, map-cong}
 use Rattle.sets.proofs.Places.{at_in, pairwise-at, total-room}
 use Rattle.expression.specs.{Words.cubes_of, Expression.sort}
-use Rattle.network.specs.Net.{Net, nodes, variables, cubes_at}
+use Rattle.network.specs.Net.{Net, nodes, cubes_at}
 use Rattle.network.specs.{Listing.listing, Held.reach, Answers.padded, Answers.listed_of, declared.Network.Network}
 use Rattle.network_nodes.{specs.Nodes.cut, proofs.Cutting.cut-node-length}
 use Rattle.network.specs.Held.{place_at, net_of, rules}

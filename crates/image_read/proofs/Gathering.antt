@@ -19,7 +19,6 @@ use Rattle.image_laws.proofs.{NewNumbers.set-mem, Reading.proper-more}
 use Rattle.image_read.specs.Parts.{FieldIs, set_of, CubeGot, CubeIs}
 use Rattle.image_read.specs.declared.fields.Field.TheVariants.{Value, Cut}
 use Rattle.image_read.specs.declared.fields.Turn.{Turn}
-use Rattle.image_read.specs.declared.fields.Turn.TheVariants as Turn
 use Rattle.image_read.proofs.Fielding.{field_cut, field-bad, field-got}
 use Rattle.image_read.proofs.Going.{onto, onto-none, onto-more}
 

@@ -10,7 +10,7 @@ use lib.ListN.{length, take, drop, replicate, length-append, length-map}
 use lib.Seq.{sets, take_at, drop_at}
 use borrow.Author.Tests.{leb-true}
 use Rattle.sets.specs.Lists.{all, total}
-use Rattle.sets.specs.Sets.{asc, proper}
+use Rattle.sets.specs.Sets.{asc}
 use Rattle.sets.proofs.Lists.{all_append, total-append}
 use Rattle.sets.proofs.Truth.{both, together, decided, clash, refuted}
 use Rattle.expression.specs.Words.{cubes_of, Placed, Front, fitting}

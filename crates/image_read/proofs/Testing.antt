@@ -1,5 +1,5 @@
 -- The tests of the order: literals below a bound, divisors in turn, cubes that rise. Assumes nothing.
-use Prim.Native.Nat.{ℕ, suc, ◌+◌, ◌-◌, ◌<◌, ◌≤◌}
+use Prim.Native.Nat.{ℕ, suc, ◌+◌, ◌<◌, ◌≤◌}
 use mathlib.Core.Path.{◌≡◌, refl, sym, ap₂, ◌∙◌}
 use mathlib.Core.Bool.{true, not, ◌&&◌, and_comm}
 use mathlib.Core.List.{List, [], ◌∷◌}

@@ -14,10 +14,7 @@ use Rattle.image_laws.specs.Widths.{edition1, head_size, most_node_bits, most_bi
 use Rattle.image_laws.specs.Reading.{Parsed, got, bad, Raw, get_many, get_node, get_nodes, get_raw, padding, reads_earlier}
 use Rattle.image_read.specs.declared.fields.{Field.Field, Field.TheVariants.Value, Field.TheVariants.Cut}
 use Rattle.image_read.specs.declared.{fields.Taken.Taken, fields.Turn.Turn, nodes.State.State}
-use Rattle.image_read.specs.declared.fields.Turn.TheVariants as Turn
 use Rattle.image_read.specs.declared.{nodes.Step.Step, Sizes.Sizes, Head.Head}
-use Rattle.image_read.specs.declared.nodes.Step.TheVariants as Step
-use Rattle.image_read.specs.declared.Head.TheVariants as Head
 
 -- each part begins below one of these bounds, and leaves the next to the parts in it
 abbrev pub times : ℕ → ℕ

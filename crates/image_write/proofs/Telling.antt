@@ -7,7 +7,7 @@ use native.Mathlib.Omega.{arith}
 use lib.ListN.{length, take, drop}
 use lib.Seq.{take_at, drop_at, take-take}
 use Rattle.sets.proofs.Rows.{drop-take}
-use Rattle.expression.specs.{Words.cubes_of, declared.Verdict.TheVariants.Refused}
+use Rattle.expression.specs.{Words.cubes_of}
 use Rattle.image_fields.specs.Fields.{bytes_for, bytes_from, field_bits}
 use Rattle.image_fields.proofs.Bytes.{bytes-length}
 use Rattle.network.specs.{Net.Net, Net.nodes, Held.net_of, Held.rules, declared.Network.Network}

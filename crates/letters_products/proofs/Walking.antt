@@ -44,7 +44,7 @@ above-some l x (y ∷ c) a h = elim (decided (leb l y)) [
       let s : some y ≡ some x = rw t at h in
       let e : y ≡ x = cc in
       let g : l ≤ y = leb-true l y t in
-      rw (t, ← e, lt-leb (y + 1) y (omega arith)) (ap (y ∷◌) (past l y c a (omega arith) ∙ sym (past (y + 1) y c a (omega arith))))
+      rw (t, lt-leb (x + 1) y (omega arith)) (ap (y ∷◌) (past l y c a (omega arith) ∙ sym (past (x + 1) y c a (omega arith))) ∙ ap (λ z. z ∷ above (x + 1) c) e)
   | inr t ↦
       let s : first_from l c ≡ some x = rw t at h in
       let g : y < l = leb-false l y t in

@@ -89,12 +89,16 @@ onward-done c v h u = elim (compared u v) [
 
 -- ---- the variables that an expression reads
 
-pub reads_in : (f : List (List ℕ)) (v : ℕ) → Reads f v → mem v (reads_of f) ≡ true
+-- by the cube that has the literal
+reads-at : (v : ℕ) {c : List ℕ} {f : List (List ℕ)} → c ∈ f → (l : ℕ) × (l ∈ c) × (v ≡ l / 2) → mem v (reads_of f) ≡ true
 unfolding reads_of
-reads_in f v (c, here {x = d} {xs = g} e, (l, j, p)) =
+reads-at v (here {x = d} {xs = g} e) (l, j, p) =
     union-mem v (variables_of d) (reads_of g) ∙ or_left _ _ (ap₂ (λ (x : ℕ) (y : List ℕ). mem x (variables_of y)) p (sym e) ∙ variables-in j)
-reads_in f v (c, there {x = d} {xs = g} m, (l, j, p)) =
-    union-mem v (variables_of d) (reads_of g) ∙ or_right (mem v (variables_of d)) _ (reads_in g v (c, m, (l, j, p)))
+reads-at v (there {x = d} {xs = g} m) r =
+    union-mem v (variables_of d) (reads_of g) ∙ or_right (mem v (variables_of d)) _ (reads-at v m r)
+
+pub reads_in : (f : List (List ℕ)) (v : ℕ) → Reads f v → mem v (reads_of f) ≡ true
+reads_in f v (c, m, r) = reads-at v m r
 
 pub reads-out : (f : List (List ℕ)) (v : ℕ) → mem v (reads_of f) ≡ true → Reads f v
 unfolding reads_of mem

@@ -3,7 +3,8 @@ use Prim.Native.Nat.{ℕ}
 use mathlib.Core.Path.{◌≡◌, refl, sym, ap, ◌∙◌, subst}
 use mathlib.Core.{Bool.true, List.List, Option.some}
 use native.Mathlib.Omega.{arith}
-use Rattle.network.specs.{Net.literal_count, Held.net_of, Held.rules, declared.Network.Network}
+use Rattle.network.specs.{Net.literal_count, Held.net_of, Held.rules, Answers.counted, declared.Network.Network}
+use Rattle.network.specs.declared.{Number.Number, Number.TheVariants.Is, Number.TheVariants.No}
 use Rattle.network.specs.Handed.{Shaped}
 use Rattle.extract_laws.specs.Run.{Made, Result, run, asked_steps}
 use Rattle.extract_laws.proofs.{Running.run-few, Following.rules-good, Following.rules-within}
@@ -16,6 +17,16 @@ use Rattle.report.specs.Parts.{EachSized, run_of, Explored}
 use Rattle.report.proofs.Counting.{run-sized}
 
 -- ---- a run on a struct that follows the rules
+
+counted-rules : (n : Network) → rules n ≡ true → counted n ≡ Is (literal_count (net_of n))
+unfolding counted
+counted-rules n h = rw h
+
+pub counted-told : (n : Network) {k : Number} {x : ℕ} → rules n ≡ true → k ≡ counted n → k ≡ Is x → x ≡ literal_count (net_of n)
+counted-told n h e p = let q = counted-rules n h in cc
+
+pub never-uncounted : (n : Network) {k : Number} {x : ℕ} → rules n ≡ true → k ≡ counted n → k ≡ No x → ⊥
+never-uncounted n h e p = let q = counted-rules n h in let z : ◌≡◌ {A = ℕ} 0 1 = cc in omega arith
 
 module _ (n : Network) (shape : Shaped n) (h : rules n ≡ true) (r : Ran) (t : extract.Told (run_on asked_steps n) r) where
   abbrev result : Result

@@ -54,7 +54,7 @@ pub is_used-requires : goal.is_used-requires
 is_used-requires c = omega (arith, c.smaller-k.ensures, c.loop-base.invariant.1, c.requires)
 
 pub overflow_add-base : goal.overflow_add-base
-overflow_add-base c = omega (arith, within (goal.at.overflow_add-base c).After-is_used, c.fits.r)
+overflow_add-base c = omega (arith, within (goal.at.overflow_add-base c).After-is_used, c.ranges.r)
 
 pub loop-base-smaller : goal.loop-base-smaller
 loop-base-smaller c = omega (arith, within (goal.at.loop-base-smaller c).After-is_used, some (goal.at.loop-base-smaller c).After-is_used)

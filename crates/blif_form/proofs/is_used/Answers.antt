@@ -28,8 +28,8 @@ kept r = r.read_rows-rows.auto.marks ∙ r.clear.ensures.size
 pub returns-then-not-rows : goal.returns-then-not-rows
 returns-then-not-rows c =
     let a = c.args in
-    (window-none a.base a.k (rows (goal.at.returns-then-not-rows c).After-read_rows-rows false (c.if-not-rows.true)), kept (goal.at.returns-then-not-rows c).After-read_rows-rows)
+    (window-none a.base a.k (rows (goal.at.returns-then-not-rows c).After-read_rows-rows false (not-true _ c.if-not-rows.true)), kept (goal.at.returns-then-not-rows c).After-read_rows-rows)
 
 pub returns : goal.returns
 returns c =
-    (λ ws more h. c.all_met.ensures ∙ window-used c.requires c.clear.ensures (rows (goal.at.returns c).After-read_rows-rows true (c.if-not-rows.false)) ws more h, kept (goal.at.returns c).After-read_rows-rows)
+    (λ ws more h. c.all_met.ensures ∙ window-used c.requires c.clear.ensures (rows (goal.at.returns c).After-read_rows-rows true (not-false _ c.if-not-rows.false)) ws more h, kept (goal.at.returns c).After-read_rows-rows)

@@ -57,11 +57,11 @@ none {s} {at} {m} r e h = subst (λ x. BlockBy x s at m r) (sym e) h
 pub returns-then-not-d : goal.returns-then-not-d
 returns-then-not-d c =
     let few : c.args.m ≤ largest = omega (arith, c.ranges.m) in
-    (none c.no_block.result c.no_block.ensures (nameless few (names (goal.at.returns-then-not-d c).After-read_names-d false (c.if-not-d.true))), after-names (goal.at.returns-then-not-d c).After-read_names-d)
+    (none c.no_block.result c.no_block.ensures (nameless few (names (goal.at.returns-then-not-d c).After-read_names-d false (not-true _ c.if-not-d.true))), after-names (goal.at.returns-then-not-d c).After-read_names-d)
 
 -- names are there
 there : (c : After-is_among) → c.read_names-d.result.is ≡ true
-there c = c.if-not-d.false
+there c = (not-false _ c.if-not-d.false)
 
 pub returns-then-not-is_among : goal.returns-then-not-is_among
 returns-then-not-is_among c =
@@ -69,7 +69,7 @@ returns-then-not-is_among c =
 
 pub returns-then-not-rows : goal.returns-then-not-rows
 returns-then-not-rows c =
-    (none c.no_block-then-not-rows.result c.no_block-then-not-rows.ensures (rowless (names (goal.at.returns-then-not-rows c).After-read_names-d true (there (goal.at.returns-then-not-rows c).After-is_among)) (rows (goal.at.returns-then-not-rows c).After-read_rows-rows false (c.if-not-rows.true))), after-rows (goal.at.returns-then-not-rows c).After-read_rows-rows)
+    (none c.no_block-then-not-rows.result c.no_block-then-not-rows.ensures (rowless (names (goal.at.returns-then-not-rows c).After-read_names-d true (there (goal.at.returns-then-not-rows c).After-is_among)) (rows (goal.at.returns-then-not-rows c).After-read_rows-rows false (not-true _ c.if-not-rows.true))), after-rows (goal.at.returns-then-not-rows c).After-read_rows-rows)
 
 pub returns-then-not-all_used : goal.returns-then-not-all_used
 returns-then-not-all_used c =
@@ -80,8 +80,8 @@ returns-then-not-all_used c =
 
 pub returns : goal.returns
 returns c =
-    let top : c.read_names-d.result.top ≤ largest = omega (arith, c.struct_known-1.given) in (
-      block-found _ (names (goal.at.returns c).After-read_names-d true (there (goal.at.returns c).After-is_among)) (rows (goal.at.returns c).After-read_rows-rows true (c.if-not-rows.false))
-          (name (goal.at.returns c).After-is_among true (not-false _ c.if-not-is_among.left)) (columns (goal.at.returns c).After-all_used true (c.if-not-all_used.false)) top,
+    let top : c.read_names-d.result.top ≤ largest = omega arith in (
+      block-found _ (names (goal.at.returns c).After-read_names-d true (there (goal.at.returns c).After-is_among)) (rows (goal.at.returns c).After-read_rows-rows true (not-false _ c.if-not-rows.false))
+          (name (goal.at.returns c).After-is_among true c.if-not-is_among.false) (columns (goal.at.returns c).After-all_used true (c.if-not-all_used.false)) top,
       c.all_used.ensures.1 ∙ after-rows (goal.at.returns c).After-read_rows-rows,
     )

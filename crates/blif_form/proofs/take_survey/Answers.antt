@@ -39,9 +39,9 @@ pub returns-then-not-b : goal.returns-then-not-b
 returns-then-not-b c =
     let short : length (text (goal.at.returns-then-not-b c).After-read_head-h) ≤ largest = omega arith in
     none c.no_survey-then-not-b.result c.no_survey-then-not-b.ensures
-    (blockless short (head (goal.at.returns-then-not-b c).After-read_head-h _ c.in-Is.is).0 (blocks-told (goal.at.returns-then-not-b c).After-read_blocks-b false (c.if-not-b.true)))
+    (blockless short (head (goal.at.returns-then-not-b c).After-read_head-h _ c.in-Is.is).0 (blocks-told (goal.at.returns-then-not-b c).After-read_blocks-b false (not-true _ c.if-not-b.true)))
 
 pub returns : goal.returns
 returns c =
     let q = head (goal.at.returns c).After-read_head-h _ c.in-Is.is in
-    surveyed q.0 q.2 q.3 (blocks-told (goal.at.returns c).After-read_blocks-b true (c.if-not-b.false)) c.larger.ensures
+    surveyed q.0 q.2 q.3 (blocks-told (goal.at.returns c).After-read_blocks-b true (not-false _ c.if-not-b.false)) c.larger.ensures

@@ -31,7 +31,8 @@ abbrev after : After-read_block-b → ℕ
 after r = r.in-Space.q
 
 begins : (r : After-read_block-b) → EndedIs ((r.args.s.now)) r.loop-q.p (spelled ".names") (Ended.Space (after r))
-begins r = (let it : EndedIs ((r.args.s.now)) r.loop-q.p (spelled ".names") _ = subst (EndedIs ((r.args.s.now)) r.loop-q.p (spelled ".names")) r.in-Space.is r.keyword-e.ensures in it)
+unfolding spelled
+begins r = subst (EndedIs r.args.s.now r.loop-q.p (spelled ".names")) r.in-Space.is r.keyword-e.ensures
 
 -- the block that begins with it, or that there is none
 block : (r : After-read_block-b) (x : Bool) → r.read_block-b.result.is ≡ x
@@ -41,21 +42,21 @@ block r x q = subst (λ y. BlockBy y ((r.args.s.now)) (after r) r.args.m r.read_
 pub returns-in_default : goal.returns-in_default
 returns-in_default c =
     walked c.loop-q.invariant.0 c.keyword-e.result (word (goal.at.returns-in_default c).After-keyword-e _ refl)
-    (λ q e. elim (rw e at c.in_default.keys2) [ inl w ↦ omega arith | inr (inl w) ↦ omega arith | inr (inr w) ↦ omega arith ])
+    c.in_default.not-Space
     c.is_end.result c.is_end.ensures
 
 pub returns-then-not-b : goal.returns-then-not-b
 returns-then-not-b c =
-    walked-not c.loop-q.invariant.0 _ (begins (goal.at.returns-then-not-b c).After-read_block-b).0 (block (goal.at.returns-then-not-b c).After-read_block-b false (c.if-not-b.true))
+    walked-not c.loop-q.invariant.0 _ (begins (goal.at.returns-then-not-b c).After-read_block-b).0 (block (goal.at.returns-then-not-b c).After-read_block-b false (not-true _ c.if-not-b.true))
 
 pub loop-q-smaller : goal.loop-q-smaller
 loop-q-smaller c =
-    omega (arith, (block (goal.at.loop-q-smaller c).After-read_block-b true (c.if-not-b.false)).forth, (begins (goal.at.loop-q-smaller c).After-read_block-b).1)
+    omega (arith, (block (goal.at.loop-q-smaller c).After-read_block-b true (not-false _ c.if-not-b.false)).forth, (begins (goal.at.loop-q-smaller c).After-read_block-b).1)
 
 pub loop-q-preserved : goal.loop-q-preserved
 loop-q-preserved c =
     (
-      passed-more c.loop-q.invariant.0 _ (begins (goal.at.loop-q-preserved c).After-read_block-b).0 c.read_block-b.result (block (goal.at.loop-q-preserved c).After-read_block-b true (c.if-not-b.false)) _ _
+      passed-more c.loop-q.invariant.0 _ (begins (goal.at.loop-q-preserved c).After-read_block-b).0 c.read_block-b.result (block (goal.at.loop-q-preserved c).After-read_block-b true (not-false _ c.if-not-b.false)) _ _
           c.more_rows-rows.ensures c.larger-top.ensures,
       c.read_block-b.ensures.1 ∙ c.loop-q.invariant.1,
     )

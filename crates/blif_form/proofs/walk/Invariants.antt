@@ -16,7 +16,7 @@ use Rattle.blif_form.proofs.Surveying.{Passed, passed_none, passed-more, passed-
 use Rattle.blif_form.proofs.walk.Given as goal
 
 abbrev pub invariant-loop-q : goal.invariant-loop-q
-invariant-loop-q l = Passed l.s l.at l.m l.rows l.top top × (length l.p ≡ length l.initial.marks)
+invariant-loop-q l = Passed l.s l.at l.m l.p l.rows l.top × (length l.marks ≡ length l.initial.marks)
 
 abbrev pub decreases-loop-q : goal.decreases-loop-q
-decreases-loop-q l = length l.s - l.rows
+decreases-loop-q l = length l.s - l.p

@@ -11,8 +11,8 @@ overflow_add-result c =
 
 pub returns-in-Variable : goal.returns-in-Variable
 returns-in-Variable c =
-    rw c.in-Variable.is (record { small = omega (arith, c.known_told-1.given); top = refl; marks = c.mark.ensures })
+    rw c.in-Variable.is (record { small = omega (arith, (rw c.in-Variable.is at c.requires) c.in-Variable.v refl); top = refl; marks = c.mark.ensures })
 
 pub returns-in-Output : goal.returns-in-Output
 returns-in-Output c =
-    rw c.in-Output.is (record { small = omega (arith, c.known_told-in-Output-1.given); top = refl; marks = raised-none _ _ })
+    rw c.in-Output.is (record { small = omega arith; top = refl; marks = raised-none _ _ })

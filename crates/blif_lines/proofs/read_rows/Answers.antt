@@ -8,7 +8,7 @@ use borrow.Author.Tests.{not-true, not-false}
 use Rattle.blif_lines.specs.Lining.{RowGot, RowNot}
 use Rattle.blif_lines.proofs.Rowing.{Rowing, rowing-none, rowing-next, rowing-got, rowing-no}
 use Rattle.blif_lines.proofs.read_rows.Goals as goal
-use Rattle.blif_lines.proofs.read_rows.Goals.{In-At, In-default}
+use Rattle.blif_lines.proofs.read_rows.Goals.{In-At, In_default}
 
 pub loop-marks-init : goal.loop-marks-init
 loop-marks-init c = rowing-none _ _ _ _ _
@@ -20,7 +20,7 @@ row_here : (k : In-At) →
 row_here k = rw k.in-At.is at k.read_row-a.ensures
 
 -- or none does
-none : (c : In-default) →
+none : (c : In_default) →
     let a = c.args in
     RowNot a.s.now c.loop-marks.p a.r c.loop-marks.marks c.read_row-a.new.marks
 none c = rw c.in_default.is at c.read_row-a.ensures
@@ -30,7 +30,7 @@ shape_of-marks-in_default c = (none c).size ∙ c.loop-marks.invariant.marks.siz
 
 pub returns-in_default : goal.returns-in_default
 returns-in_default c =
-    rowing-no c.loop-marks.invariant (sym c.is_point.ensures ∙ not-true _ c.loop-marks-test.true) (none c)
+    rowing-no c.loop-marks.invariant (sym c.is_point.ensures ∙ c.loop-marks-test.true) (none c)
 
 pub overflow_add-count : goal.overflow_add-count
 overflow_add-count c =
@@ -46,4 +46,4 @@ pub shape_of-marks : goal.shape_of-marks
 shape_of-marks c = c.loop-marks.invariant.marks.size
 
 pub returns : goal.returns
-returns c = rowing-got c.loop-marks.invariant (sym c.is_point.ensures ∙ not-false _ c.loop-marks-test.false)
+returns c = rowing-got c.loop-marks.invariant (sym c.is_point.ensures ∙ c.loop-marks-test.false)

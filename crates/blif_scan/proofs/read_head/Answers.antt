@@ -50,6 +50,5 @@ returns-in_default-o c =
 pub returns : goal.returns
 unfolding spelled
 returns c =
-    let o = c.o-1.given.0 in
-    head-is (text (goal.at.returns c).In-At) (after-model (goal.at.returns c).In-At) (model (goal.at.returns c).In-At) (inputs (goal.at.returns c).In-Names) (after-inputs (goal.at.returns c).In-Names) (input-list (goal.at.returns c).In-Names) o.0 o.1.0
+    head-is (text (goal.at.returns c).In-At) (after-model (goal.at.returns c).In-At) (model (goal.at.returns c).In-At) (inputs (goal.at.returns c).In-Names) (after-inputs (goal.at.returns c).In-Names) (input-list (goal.at.returns c).In-Names) c.in-Names-o.m c.in-Names-o.r
     (rw c.in-Names-o.is at c.list-o.ensures)

@@ -30,7 +30,7 @@ module _ (k : In-Is) where
 -- a digit that goes on, and the place after it
 module _ (k : In-Is-g) where
   abbrev whole : List ℕ
-  whole = (start.args.s.now)
+  whole = k.args.s.now
 
   abbrev begin : ℕ
   begin = k.args.at

@@ -20,12 +20,9 @@ module _ (l : At-loop-q) where
   abbrev letter : ℕ
   letter = l.args.letter
 
-  abbrev word : List ℕ
-  word = name_text letter l.loop-q.k
-
 -- what is told of the name
-told : (n : After-named-e) (e : Ended) → n.named-e.result ≡ e → EndedIs ((n.args.s.now)) n.loop-q.p ((name_text letter n.loop-q.k)) e
-told n e q = subst (EndedIs ((n.args.s.now)) n.loop-q.p ((name_text letter n.loop-q.k))) q n.named-e.ensures
+told : (n : After-named-e) (e : Ended) → n.named-e.result ≡ e → EndedIs n.args.s.now n.loop-q.p (name_text n.args.letter n.loop-q.k) e
+told n e q = subst (EndedIs n.args.s.now n.loop-q.p (name_text n.args.letter n.loop-q.k)) q n.named-e.ensures
 
 pub loop-q-init : goal.loop-q-init
 loop-q-init c = turn-none c.args.letter c.args.s.now c.args.at

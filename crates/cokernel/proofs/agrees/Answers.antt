@@ -1,5 +1,4 @@
 -- `cokernel::agrees` meets its contract: the first literal that c lacks tells. Assumes nothing.
-use borrow.Author.Rules.{rules}
 use mathlib.Core.Path.{sym, ap, ◌∙◌}
 use Rattle.sets.{specs.Sets.first_from, proofs.Sets.without-asc}
 use Rattle.cube.{proofs.Lits.lits-asc, specs.Cube.answer}

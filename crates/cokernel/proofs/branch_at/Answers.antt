@@ -1,5 +1,4 @@
 -- `cokernel::branch_at` meets its contract. Assumes nothing.
-use borrow.Author.Rules.{rules}
 use mathlib.Core.Path.{◌∙◌}
 use Rattle.cube.proofs.Lits.{lits-asc}
 use Rattle.cokernel.proofs.{Exactly.held-words, Steps.joined-inside, Steps.branch-found}

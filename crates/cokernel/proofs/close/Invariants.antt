@@ -1,13 +1,9 @@
 -- `cokernel::close` meets its contract. The loop's invariant: the number and the common part are those of the cubes from i on. Assumes nothing.
-use borrow.Author.Rules.{rules}
-use Prim.Native.Nat.{◌+◌, ◌-◌, ◌≤◌}
-use mathlib.Core.Path.{◌≡◌, sym, ◌∙◌}
+use Prim.Native.Nat.{◌+◌, ◌≤◌}
 use lib.ListN.{length, drop}
-use native.Mathlib.Omega.{arith}
 use Rattle.cube.specs.Cube.{lits}
 use Rattle.expression.specs.Words.{cubes_of}
 use Rattle.cokernel.specs.Parts.{Shared}
-use Rattle.cokernel.proofs.Steps.{closed_none, closed-more, closed_same}
 use Rattle.cokernel.proofs.close.Given as goal
 
 abbrev pub invariant-loop-i : goal.invariant-loop-i

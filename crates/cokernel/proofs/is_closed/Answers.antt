@@ -1,5 +1,4 @@
 -- `cokernel::is_closed` meets its contract. Assumes nothing.
-use borrow.Author.Rules.{rules}
 use native.Mathlib.Omega.{arith}
 use borrow.Author.Tests.{lt-leb, le-leb}
 use Rattle.cokernel.proofs.is_closed.Goals as goal

@@ -1,12 +1,11 @@
 -- `cokernel::list_all` meets its contract. Assumes nothing.
 use native.Mathlib.Omega.{arith}
-use borrow.Author.Rules.{rules}
 use Rattle.cokernel.proofs.{Telling.walks-first, Telling.whole-walked}
 use Rattle.cokernel.proofs.list_all.Goals as goal
 
 pub list_beyond-requires : goal.list_beyond-requires
 list_beyond-requires c =
-    (walks-first _ _ c.empty-none.ensures _ _ c.close-s.ensures, omega (arith, c.put_if-next.ensures.next))
+    record { walks = walks-first _ _ c.empty-none.ensures _ _ c.close-s.ensures; few = omega (arith, c.put_if-next.ensures.next) }
 
 pub returns : goal.returns
 returns c =

@@ -1,5 +1,4 @@
 -- `cokernel::narrowed` meets its contract. Assumes nothing.
-use borrow.Author.Rules.{rules}
 use borrow.Author.Tests.{ne_eqb}
 use Rattle.cokernel.proofs.narrowed.Goals as goal
 

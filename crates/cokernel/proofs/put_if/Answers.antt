@@ -1,7 +1,5 @@
 -- `cokernel::put_if` meets its contract. Assumes nothing.
-use borrow.Author.Rules.{rules}
 use native.Mathlib.Omega.{arith}
-use borrow.Author.Tests.{not-true, not-false}
 use Rattle.expression.proofs.Placing.{put-placed}
 use Rattle.cokernel.proofs.{Steps.walked-still}
 use Rattle.cokernel.proofs.put_if.Goals as goal

@@ -1,6 +1,5 @@
 -- `division::accept_divisor` meets its contract: 8 where the number of cubes is 0. Assumes nothing.
 use mathlib.Core.Path.{sym, ◌∙◌}
-use borrow.Author.Rules.{rules}
 use Rattle.division.proofs.{Refusing.no-cubes, Refusing.some-cubes}
 use Rattle.division.proofs.accept_divisor.Goals as goal
 

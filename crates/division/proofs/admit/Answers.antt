@@ -1,6 +1,5 @@
 -- `division::admit` meets its contract: the parts in their order. Assumes nothing.
 use mathlib.Core.Path.{◌≡◌, ◌∙◌, ap₂}
-use borrow.Author.Rules.{rules}
 use Rattle.expression.specs.Answers.{refusal, refusal_of}
 use Rattle.division.specs.Answers.{either}
 use Rattle.division.proofs.{Refusing.admitted-early, Refusing.admitted-late}

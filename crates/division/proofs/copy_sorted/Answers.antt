@@ -1,6 +1,5 @@
 -- `division::copy_sorted` meets its contract: what was listed, put in order. Assumes nothing.
 use native.Mathlib.Omega.{arith}
-use borrow.Author.Rules.{rules}
 use Rattle.expression.{specs.Words.cubes_of, proofs.Placing.appends-sort}
 use Rattle.division.proofs.{Listing.copied}
 use Rattle.division.proofs.copy_sorted.Goals as goal

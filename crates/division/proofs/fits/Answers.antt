@@ -1,5 +1,4 @@
 -- `division::fits` meets its contract: two cubes share none where they have nothing in common; their union is sought in f. Assumes nothing.
-use borrow.Author.Rules.{rules}
 use Rattle.sets.proofs.Sets.{meet-none}
 use Rattle.division.proofs.fits.Goals as goal
 

@@ -1,18 +1,17 @@
 -- The answers of `division::fits_all`.
-use Prim.Native.Nat.{ℕ, ◌≤◌, ◌-◌}
+use Prim.Native.Nat.{ℕ}
 use mathlib.Core.Path.{◌≡◌, sym, ◌∙◌, ap}
 use mathlib.Core.{Bool.Bool, Bool.◌&&◌, List.List, List.[]}
 use native.Mathlib.Omega.{arith}
-use lib.ListN.{length, drop, get_or}
+use lib.ListN.{get_or}
 use borrow.Author.Rules.{rules}
-use borrow.Author.Tests.{not-true, not-false}
 use Rattle.sets.specs.Sets.{apart, union}
 use Rattle.sets.proofs.Places.{all-stop, all-on, all_done}
 use Rattle.cube.specs.Cube.{lits}
 use Rattle.expression.specs.{Words.cubes_of, Expression.has}
 use Rattle.division.specs.Division.{in_quotient}
 use Rattle.division.proofs.fits_all.Goals as goal
-use Rattle.division.proofs.fits_all.Goals.{At-loop-i, Start}
+use Rattle.division.proofs.fits_all.Goals.{After-fits, At-loop-i, Start}
 
 -- the test of one cube of d
 abbrev test : Start → List ℕ → Bool
@@ -22,9 +21,8 @@ abbrev cubes : At-loop-i → List (List ℕ)
 cubes l = cubes_of l.args.d.now
 
 -- what the test says of the cube at place i
-tested : (c : tie.After-fits2) → let l = c.before.before.before.before in
-    test (start l) (get_or (cubes l) l.loop.i []) ≡ c.fits2.result
-tested c = ap (test (start c.before.before.before.before)) (sym c.before.cube-at.ensures) ∙ sym c.fits2.ensures
+tested : (c : After-fits) → apart (lits c.args.c) (get_or (cubes_of c.args.d.now) c.loop-i.i []) && has (union (lits c.args.c) (get_or (cubes_of c.args.d.now) c.loop-i.i [])) (cubes_of c.args.f.now) ≡ c.fits.result
+tested c = ap (λ b. apart (lits c.args.c) b && has (union (lits c.args.c) b) (cubes_of c.args.f.now)) (sym c.cube_at.ensures) ∙ sym c.fits.ensures
 
 pub returns-then-not-fits : goal.returns-then-not-fits
 unfolding in_quotient

@@ -1,7 +1,6 @@
 -- `division::hand_over` meets its contract: 9 where a room is too small, else both are copied. Assumes nothing.
 use mathlib.Core.Path.{ap₂}
 use native.Mathlib.Omega.{arith}
-use borrow.Author.Rules.{rules}
 use Rattle.division.specs.declared.Division.TheVariants.{Done}
 use Rattle.division.proofs.{Listing.copied}
 use Rattle.division.proofs.Refusing.{cramped-first, cramped-second, cramped-none, handed-none, handed-all}

@@ -1,7 +1,5 @@
 -- `division::holds` meets its contract: in cube order the search finds a cube exactly where it is one of them. Assumes nothing.
 use mathlib.Core.Path.{◌≡◌, sym, ◌∙◌, ap}
-use borrow.Author.Rules.{rules}
-use borrow.Author.Tests.{not-true, not-false}
 use Rattle.sets.specs.Lists.{is_some}
 use Rattle.cube.specs.Cube.{lits}
 use Rattle.expression.specs.{Words.cubes_of, Expression.has, Answers.place_of}

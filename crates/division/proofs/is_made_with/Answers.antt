@@ -1,5 +1,4 @@
 -- `division::is_made_with` meets its contract: by the two tests in turn. Assumes nothing.
-use borrow.Author.Rules.{rules}
 use Rattle.division.proofs.is_made_with.Goals as goal
 
 pub returns : goal.returns

@@ -1,10 +1,10 @@
 -- The answers of `division::is_spared`.
-use Prim.Native.Nat.{ℕ, ◌≤◌, ◌-◌}
+use Prim.Native.Nat.{ℕ}
 use mathlib.Core.Path.{◌≡◌, sym, ◌∙◌, ap}
 use mathlib.Core.Bool.{Bool, not, ◌&&◌}
 use mathlib.Core.List.{List, []}
 use native.Mathlib.Omega.{arith}
-use lib.ListN.{length, drop, get_or}
+use lib.ListN.{get_or}
 use borrow.Author.Rules.{rules}
 use Rattle.sets.specs.Sets.{sub, without}
 use Rattle.sets.proofs.Places.{all-stop, all-on, all_done}
@@ -22,8 +22,8 @@ abbrev cubes : At-loop-i → List (List ℕ)
 cubes l = cubes_of l.args.d.now
 
 -- what the test says of the cube at place i
-tested : (c : After-is_made_with) → (not (sub (get_or ((cubes_of c.args.d.now)) c.loop-i.i []) (lits c.args.e) && has (without (lits c.args.e) (get_or ((cubes_of c.args.d.now)) c.loop-i.i [])) (cubes_of c.args.q.now))) ≡ not c.is_made_with.result
-tested c = ap (test (c ⟪Start⟫)) (sym c.cube_at.ensures) ∙ ap not (sym c.is_made_with.ensures)
+tested : (c : After-is_made_with) → (not (sub (get_or (cubes_of c.args.d.now) c.loop-i.i []) (lits c.args.e) && has (without (lits c.args.e) (get_or (cubes_of c.args.d.now) c.loop-i.i [])) (cubes_of c.args.q.now))) ≡ not c.is_made_with.result
+tested c = ap (λ b. not (sub b (lits c.args.e) && has (without (lits c.args.e) b) (cubes_of c.args.q.now))) (sym c.cube_at.ensures) ∙ ap not (sym c.is_made_with.ensures)
 
 pub returns-then-is_made_with : goal.returns-then-is_made_with
 unfolding spared

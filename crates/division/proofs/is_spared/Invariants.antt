@@ -1,15 +1,9 @@
 -- `division::is_spared` meets its contract. The loop's invariant: the test of the cubes from i on is the test of all. Assumes nothing.
-use Prim.Native.Nat.{ℕ, ◌≤◌, ◌-◌}
-use mathlib.Core.Path.{◌≡◌, sym, ◌∙◌, ap}
-use mathlib.Core.Bool.{Bool, not, ◌&&◌}
-use mathlib.Core.List.{List, []}
-use native.Mathlib.Omega.{arith}
-use lib.ListN.{length, drop, get_or}
-use borrow.Author.Rules.{rules}
-use Rattle.sets.specs.Sets.{sub, without}
-use Rattle.sets.proofs.Places.{all-stop, all-on, all_done}
+use Prim.Native.Nat.{◌≤◌, ◌-◌}
+use mathlib.Core.Path.{◌≡◌}
+use lib.ListN.{length, drop}
 use Rattle.cube.specs.Cube.{lits}
-use Rattle.expression.specs.{Words.cubes_of, Expression.has}
+use Rattle.expression.specs.{Words.cubes_of}
 use Rattle.division.specs.Parts.{spared}
 use Rattle.division.proofs.is_spared.Given as goal
 

@@ -1,5 +1,4 @@
 -- `division::lesser` meets its contract: by the cases of both. Assumes nothing.
-use borrow.Author.Rules.{rules}
 use Rattle.division.proofs.Refusing.{lesser-one, lesser-second, lesser-first}
 use Rattle.division.proofs.lesser.Goals as goal
 

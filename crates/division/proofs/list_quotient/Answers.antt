@@ -1,13 +1,10 @@
 -- The answers of `division::list_quotient`.
-use Prim.Native.Nat.{◌-◌}
 use mathlib.Core.Path.{◌≡◌, refl, sym, ◌∙◌}
 use native.Mathlib.Omega.{arith}
-use borrow.Author.Rules.{rules}
-use borrow.Author.Tests.{not-true, not-false}
 use Rattle.sets.specs.Sets.{sub}
 use Rattle.cube.specs.Cube.{lits}
 use Rattle.expression.specs.Words.{cubes_of}
-use Rattle.division.proofs.Listing.{Walk, walk_first, walk-skip, walk_put, walk_end}
+use Rattle.division.proofs.Listing.{walk_first, walk-skip, walk_put, walk_end}
 use Rattle.division.proofs.{Making.given, Making.given-length}
 use Rattle.division.proofs.list_quotient.Goals as goal
 use Rattle.division.proofs.list_quotient.Goals.{After-contains}

@@ -1,14 +1,9 @@
 -- `division::list_quotient` meets its contract. The loop's invariant: what the first i cubes give is written. Assumes nothing.
 use Prim.Native.Nat.{◌-◌}
-use mathlib.Core.Path.{◌≡◌, refl, sym, ◌∙◌}
-use native.Mathlib.Omega.{arith}
-use borrow.Author.Rules.{rules}
-use borrow.Author.Tests.{not-true, not-false}
-use Rattle.sets.specs.Sets.{sub}
 use Rattle.cube.specs.Cube.{lits}
 use Rattle.expression.specs.Words.{cubes_of}
-use Rattle.division.proofs.Listing.{Walk, walk_first, walk-skip, walk_put, walk_end}
-use Rattle.division.proofs.{Making.given, Making.given-length}
+use Rattle.division.proofs.Listing.{Walk}
+use Rattle.division.proofs.{Making.given}
 use Rattle.division.proofs.list_quotient.Given as goal
 
 abbrev pub invariant-loop-i : goal.invariant-loop-i

@@ -1,6 +1,5 @@
 -- `division::list_quotient_sorted` meets its contract: what was listed, put in order. Assumes nothing.
 use native.Mathlib.Omega.{arith}
-use borrow.Author.Rules.{rules}
 use Rattle.expression.proofs.Placing.{appends-sort}
 use Rattle.division.proofs.list_quotient_sorted.Goals as goal
 

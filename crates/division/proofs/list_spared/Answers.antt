@@ -1,19 +1,16 @@
 -- The answers of `division::list_spared`.
-use Prim.Native.Nat.{◌-◌}
 use mathlib.Core.Path.{refl, sym, ◌∙◌}
 use native.Mathlib.Omega.{arith}
-use borrow.Author.Rules.{rules}
-use borrow.Author.Tests.{not-true, not-false}
 use Rattle.sets.{specs.Lists.keep, proofs.Lists.keep-length}
 use Rattle.expression.specs.Words.{cubes_of}
 use Rattle.division.specs.Parts.{spared}
-use Rattle.division.proofs.Listing.{Walk, walk_first, walk-skip, walk_put, walk_end}
+use Rattle.division.proofs.Listing.{walk_first, walk-skip, walk_put, walk_end}
 use Rattle.division.proofs.list_spared.Goals as goal
 
 pub loop-i-init : goal.loop-i-init
 loop-i-init c =
     let p = spared (cubes_of c.args.q.now) (cubes_of c.args.d.now) in
-    walk_first (keep p) _ _ _ c.number-n.ensures (omega (arith, keep-length p (cubes_of c.args.f.now), c.requires.0))
+    walk_first (keep p) _ _ _ c.number-n.ensures (omega (arith, keep-length p (cubes_of c.args.f.now), c.requires.fact_1))
 
 pub loop-i-preserved-then-not-is_spared : goal.loop-i-preserved-then-not-is_spared
 loop-i-preserved-then-not-is_spared c =

@@ -1,13 +1,9 @@
 -- `division::list_spared` meets its contract. The loop's invariant: of the first i cubes the spared ones are written. Assumes nothing.
 use Prim.Native.Nat.{◌-◌}
-use mathlib.Core.Path.{refl, sym, ◌∙◌}
-use native.Mathlib.Omega.{arith}
-use borrow.Author.Rules.{rules}
-use borrow.Author.Tests.{not-true, not-false}
-use Rattle.sets.{specs.Lists.keep, proofs.Lists.keep-length}
+use Rattle.sets.{specs.Lists.keep}
 use Rattle.expression.specs.Words.{cubes_of}
 use Rattle.division.specs.Parts.{spared}
-use Rattle.division.proofs.Listing.{Walk, walk_first, walk-skip, walk_put, walk_end}
+use Rattle.division.proofs.Listing.{Walk}
 use Rattle.division.proofs.list_spared.Given as goal
 
 abbrev pub invariant-loop-i : goal.invariant-loop-i

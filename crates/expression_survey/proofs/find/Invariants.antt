@@ -1,12 +1,9 @@
 -- `expression_survey::find` meets its contract. The loop's invariant: what is left of the search answers as the whole. Assumes nothing.
-use mathlib.Core.{Path.refl, List.List}
-use Prim.Native.Nat.{ℕ, ◌-◌, ◌≤◌}
-use native.Mathlib.Omega.{arith}
-use borrow.Author.Rules.{rules}
+use Prim.Native.Nat.{◌-◌, ◌≤◌}
 use lib.ListN.{length}
-use Rattle.cube.{specs.Cube.lits, proofs.Verdict.Told, proofs.Verdict.told_of_lem}
+use Rattle.cube.{specs.Cube.lits}
 use Rattle.expression.specs.Words.{cubes_of}
-use Rattle.expression_survey.proofs.Searching.{middle, Left, left-start, go-up, go-down, stop-at, stop-none}
+use Rattle.expression_survey.proofs.Searching.{Left}
 use Rattle.expression_survey.proofs.find.Given as goal
 
 abbrev pub invariant-loop-low : goal.invariant-loop-low

@@ -1,13 +1,11 @@
 -- The answers of `expression_survey::is_ordered`.
-use Prim.Native.Nat.{ℕ, ◌≤◌, ◌-◌}
-use mathlib.Core.{Logic.inl, Logic.inr, Path.sym, Path.◌∙◌, List.List}
+use Prim.Native.Nat.{ℕ}
+use mathlib.Core.{Path.sym, Path.◌∙◌, List.List}
 use native.Mathlib.Omega.{arith}
-use borrow.Author.Rules.{rules}
-use lib.ListN.{length}
 use Rattle.cube.proofs.Verdict.{is-before, order-told}
 use Rattle.sets.proofs.Truth.{refuted}
 use Rattle.expression.specs.Words.{cubes_of}
-use Rattle.expression_survey.proofs.Neighbours.{Climbs, climbs-ordered, climbs-not, climbs-next}
+use Rattle.expression_survey.proofs.Neighbours.{climbs-ordered, climbs-not, climbs-next}
 use Rattle.expression_survey.proofs.is_ordered.Goals as goal
 use Rattle.expression_survey.proofs.is_ordered.Goals.{At-loop-i}
 

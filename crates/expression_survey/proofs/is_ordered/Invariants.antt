@@ -1,13 +1,8 @@
 -- `expression_survey::is_ordered` meets its contract. The loop's invariant: each cube passed comes before the next. Assumes nothing.
-use Prim.Native.Nat.{ℕ, ◌≤◌, ◌-◌}
-use mathlib.Core.{Logic.inl, Logic.inr, Path.sym, Path.◌∙◌, List.List}
-use native.Mathlib.Omega.{arith}
-use borrow.Author.Rules.{rules}
+use Prim.Native.Nat.{◌≤◌, ◌-◌}
 use lib.ListN.{length}
-use Rattle.cube.proofs.Verdict.{is-before, order-told}
-use Rattle.sets.proofs.Truth.{refuted}
 use Rattle.expression.specs.Words.{cubes_of}
-use Rattle.expression_survey.proofs.Neighbours.{Climbs, climbs-ordered, climbs-not, climbs-next}
+use Rattle.expression_survey.proofs.Neighbours.{Climbs}
 use Rattle.expression_survey.proofs.is_ordered.Given as goal
 
 abbrev pub invariant-loop-i : goal.invariant-loop-i

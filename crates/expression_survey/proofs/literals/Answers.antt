@@ -1,13 +1,12 @@
 -- The answers of `expression_survey::literals`.
 use mathlib.Core.Path.{◌≡◌, sym, ◌∙◌, ap}
-use mathlib.Core.{List.[], Logic.inl, Logic.inr}
-use Prim.Native.Nat.{◌+◌, ◌-◌, ◌<◌, ◌≤◌}
+use mathlib.Core.{List.[]}
+use Prim.Native.Nat.{◌+◌, ◌<◌}
 use native.Mathlib.Omega.{arith}
-use borrow.Author.Rules.{rules}
 use lib.ListN.{length, get_or, take}
 use lib.Seq.{take_all}
 use Rattle.expression.specs.{Words.cubes_of, Expression.literals_of, Answers.capped}
-use Rattle.sets.{specs.Word.largest, proofs.Places.total-next}
+use Rattle.sets.{proofs.Places.total-next}
 use Rattle.expression_survey.proofs.Counting.{capped-more, capped-full}
 use Rattle.expression_survey.proofs.literals.Goals as goal
 use Rattle.expression_survey.proofs.literals.Goals.{then-n-sum, else-n-sum}

@@ -1,14 +1,9 @@
 -- `expression_survey::literals` meets its contract. The loop's invariant: the sum is that of the cubes passed, as 64 bits hold it. Assumes nothing.
-use mathlib.Core.Path.{◌≡◌, sym, ◌∙◌, ap}
-use mathlib.Core.{List.[], Logic.inl, Logic.inr}
-use Prim.Native.Nat.{◌+◌, ◌-◌, ◌<◌, ◌≤◌}
-use native.Mathlib.Omega.{arith}
-use borrow.Author.Rules.{rules}
-use lib.ListN.{length, get_or, take}
-use lib.Seq.{take_all}
+use mathlib.Core.Path.{◌≡◌}
+use Prim.Native.Nat.{◌-◌, ◌≤◌}
+use lib.ListN.{length, take}
 use Rattle.expression.specs.{Words.cubes_of, Expression.literals_of, Answers.capped}
-use Rattle.sets.{specs.Word.largest, proofs.Places.total-next}
-use Rattle.expression_survey.proofs.Counting.{capped-more, capped-full}
+use Rattle.sets.{specs.Word.largest}
 use Rattle.expression_survey.proofs.literals.Given as goal
 
 abbrev pub invariant-loop-i : goal.invariant-loop-i

@@ -1,13 +1,12 @@
 -- The answers of `expression_survey::reaches`.
 use mathlib.Core.Path.{◌≡◌, sym, ◌∙◌, ap}
-use Prim.Native.Nat.{ℕ, ◌≤◌, ◌-◌}
+use Prim.Native.Nat.{ℕ}
 use native.Mathlib.Omega.{arith}
 use borrow.Author.Rules.{rules}
-use borrow.Author.Tests.{not-true, not-false}
 use mathlib.Core.List.{List, []}
-use lib.ListN.{length, drop, get_or}
+use lib.ListN.{get_or}
 use Rattle.sets.specs.Sets.{reads_below}
-use Rattle.expression.specs.{Words.cubes_of, Expression.reach}
+use Rattle.expression.specs.{Words.cubes_of}
 use Rattle.sets.proofs.Places.{all-stop, all-on, all_done}
 use Rattle.expression_survey.proofs.reaches.Goals as goal
 use Rattle.expression_survey.proofs.reaches.Goals.{After-is_below, At-loop-i}
@@ -24,12 +23,11 @@ returns-then-not-is_below c =
     sym (all-stop (cubes (goal.at.returns-then-not-is_below c).At-loop-i) c.loop-i.i [] (omega arith) (reads_below c.args.v) (tested (goal.at.returns-then-not-is_below c).After-is_below ∙ c.if-not-is_below.true)) ∙ c.loop-i.invariant.1
 
 pub loop-i-preserved : goal.loop-i-preserved
-loop-i-preserved c =
-    (
-      search rules,
-      sym (all-on (cubes (goal.at.loop-i-preserved c).At-loop-i) c.loop-i.i [] (omega arith) (reads_below c.args.v) (tested (goal.at.loop-i-preserved c).After-is_below ∙ c.if-not-is_below.false))
-          ∙ c.loop-i.invariant.1,
-    )
+loop-i-preserved c = (
+  search rules,
+  sym (all-on (cubes (goal.at.loop-i-preserved c).At-loop-i) c.loop-i.i [] (omega arith) (reads_below c.args.v) (tested (goal.at.loop-i-preserved c).After-is_below ∙ c.if-not-is_below.false))
+      ∙ c.loop-i.invariant.1,
+)
 
 pub returns : goal.returns
 returns c =

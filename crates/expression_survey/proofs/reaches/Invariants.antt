@@ -1,14 +1,8 @@
 -- `expression_survey::reaches` meets its contract. The loop's invariant: the test of the cubes from i on is the test of all. Assumes nothing.
-use mathlib.Core.Path.{◌≡◌, sym, ◌∙◌, ap}
-use Prim.Native.Nat.{ℕ, ◌≤◌, ◌-◌}
-use native.Mathlib.Omega.{arith}
-use borrow.Author.Rules.{rules}
-use borrow.Author.Tests.{not-true, not-false}
-use mathlib.Core.List.{List, []}
-use lib.ListN.{length, drop, get_or}
-use Rattle.sets.specs.Sets.{reads_below}
+use mathlib.Core.Path.{◌≡◌}
+use Prim.Native.Nat.{◌≤◌, ◌-◌}
+use lib.ListN.{length, drop}
 use Rattle.expression.specs.{Words.cubes_of, Expression.reach}
-use Rattle.sets.proofs.Places.{all-stop, all-on, all_done}
 use Rattle.expression_survey.proofs.reaches.Given as goal
 
 abbrev pub invariant-loop-i : goal.invariant-loop-i

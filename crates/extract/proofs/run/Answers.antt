@@ -4,12 +4,12 @@ use Rattle.network.{specs.Held.net_of, specs.Held.rules, specs.Handed.Holds, spe
 use Rattle.extract_laws.specs.Run.{in_order}
 use Rattle.network.proofs.Telling.{told-accepted, told-refused}
 use Rattle.extract.proofs.Starting.{start-ready, start-told, refused-told}
-use borrow.Author.Rules.{rules}
+use borrow.Author.Rules.{rules as kit_rules}
 use Rattle.extract.proofs.run.Goals as goal
 use Rattle.extract.proofs.run.Goals.{In-Accepted, Start}
 
 shape : (s : Start) → Shaped s.args.n
-shape s = shape_of _ (search rules) (search rules)
+shape s = shape_of _ (search kit_rules) (search kit_rules)
 
 -- what is held where the network is accepted
 kept : (c : In-Accepted) → let n = c.args.n in (rules n ≡ true)

@@ -28,7 +28,7 @@ node : (c : After-part) → cubes_of c.part.result.now ≡ get_or ((nodes_of c.a
 node c = c.part.ensures.0 ∙ node-part c.requires c.loop-i.i c.loop-i.at (omega arith) c.loop-i.invariant.1
 
 node-counted : (c : After-count_in-r) → c.count_in-r.result ≡ (uses (sum (lits c.args.a) (lits c.args.b)))
-node-counted c = c.count_in-r.ensures ∙ ap (used (c ⟪At-loop-i⟫)) ((let it : cubes_of c.part.result.now ≡ get_or ((nodes_of c.args.e c.args.counts.now c.args.words.now)) c.loop-i.i [] = c.part.ensures.0 ∙ node-part c.requires c.loop-i.i c.loop-i.at (omega arith) c.loop-i.invariant.1 in it))
+node-counted c = c.count_in-r.ensures ∙ ap (uses (sum (lits c.args.a) (lits c.args.b))) ((let it : cubes_of c.part.result.now ≡ get_or ((nodes_of c.args.e c.args.counts.now c.args.words.now)) c.loop-i.i [] = c.part.ensures.0 ∙ node-part c.requires c.loop-i.i c.loop-i.at (omega arith) c.loop-i.invariant.1 in it))
 
 pub overflow_add-next : goal.overflow_add-next
 overflow_add-next c = omega (arith, next_start c.requires c.loop-i.i c.loop-i.at (omega arith) c.loop-i.invariant.1)

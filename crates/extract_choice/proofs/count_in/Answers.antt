@@ -8,14 +8,15 @@ use Rattle.cube.specs.Cube.{lits}
 use Rattle.expression.specs.Words.{cubes_of}
 use Rattle.extract_choice.proofs.Counting.{tested-use, Counting, counting-none, counting-on, counting-off, counting-all}
 use Rattle.extract_choice.proofs.count_in.Goals as goal
+use Rattle.extract_choice.proofs.count_in.Goals.{then-is_use, else-is_use}
 
 pub loop-i-preserved : goal.loop-i-preserved
 loop-i-preserved c =
     let h : c.loop-i.i < length (cubes_of c.args.s.now) = omega arith in
     let t = tested-use _ _ _ c.loop-i.i _ c.requires.1 c.cube_at.ensures c.is_use.ensures in
     elim c.if-is_use.branch [
-      | inl (w, e) ↦ rw e (counting-on _ _ _ _ _ c.loop-i.invariant h (t ∙ w.taken))
-      | inr (w, e) ↦ rw e (counting-off _ _ _ _ _ c.loop-i.invariant h (t ∙ w.left))
+      | then-is_use w ↦ rw w.r-is (counting-on _ _ _ _ _ c.loop-i.invariant h (t ∙ w.if-is_use.true))
+      | else-is_use w ↦ rw w.r-is (counting-off _ _ _ _ _ c.loop-i.invariant h (t ∙ w.if-is_use.false))
     ]
 
 pub returns : goal.returns

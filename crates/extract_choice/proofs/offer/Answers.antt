@@ -22,7 +22,7 @@ pub returns-then-weight-held : goal.returns-then-weight-held
 returns-then-weight-held c =
     let a = c.args in
     sym (picked-less (weighed_of a.held) (offered a.key a.gain)
-    (ap₂ lt_z (sym (weight (goal.at.returns-then-weight-held c).After-weight_of-weight)) (sym (to_z-of_z {(goal.at.returns-then-weight-held c).After-weight_of-weight = w32} {z = a.held.weight} (search rules))) ∙ c.if-weight-held.true))
+    (ap₂ lt_z (sym (weight (goal.at.returns-then-weight-held c).After-weight_of-weight)) (sym (to_z-of_z {w = w32} {z = a.held.weight} (search rules))) ∙ c.if-weight-held.true))
 
 pub returns : goal.returns
 returns c =

@@ -15,7 +15,7 @@ use Rattle.extract_choice.specs.Parts.{offered, picked, best_below, Modest}
 use Rattle.extract_choice.proofs.Weights.{difference-modest, difference-less, cost-few, picked-less, picked-modest}
 use borrow.Author.Rules.{rules}
 use Rattle.extract_choice.proofs.scan.Goals as goal
-use Rattle.extract_choice.proofs.scan.Goals.{After-gain_at-gain}
+use Rattle.extract_choice.proofs.scan.Goals.{After-gain_at-gain, then-gain-held, else-gain-held}
 
 pub loop-e-init : goal.loop-e-init
 unfolding best_below
@@ -40,16 +40,16 @@ pub loop-e-preserved : goal.loop-e-preserved
 loop-e-preserved c =
     let l = c.loop-e in
     elim c.if-gain-held.branch [
-      | inl (w, k, o, e) ↦
-          let p : weighed_of o.result ≡ picked (weighed_of l.held) (entry (goal.at.loop-e-preserved c).After-gain_at-gain) = rw (← k.ensures) o.ensures in
+      | then-gain-held w ↦
+          let p : weighed_of w.offer-held.result ≡ picked (weighed_of l.held) (entry (goal.at.loop-e-preserved c).After-gain_at-gain) = rw (← w.key_at.ensures) w.offer-held.ensures in
           let d = difference-modest c.gain_at-gain.result (cost_at (key (goal.at.loop-e-preserved c).After-gain_at-gain)) (search rules) in
           let m = picked-modest (weighed_of l.held) (entry (goal.at.loop-e-preserved c).After-gain_at-gain) l.invariant.2 d in
-          rw e (omega arith, p ∙ next (goal.at.loop-e-preserved c).After-gain_at-gain, subst (λ (z : Weighed). Modest z.weight) (sym p) m)
-      | inr (w, e) ↦
+          rw w.held-is (omega arith, p ∙ next (goal.at.loop-e-preserved c).After-gain_at-gain, subst (λ (z : Weighed). Modest z.weight) (sym p) m)
+      | else-gain-held w ↦
           let x = c.gain_at-gain.result in
           let p = difference-less x (cost_at (key (goal.at.loop-e-preserved c).After-gain_at-gain)) l.held.weight (cost-few (key (goal.at.loop-e-preserved c).After-gain_at-gain)).0
-          (ap₂ lt_z (sym (to_z-of_z {w = w32} {z = l.held.weight} (search rules))) (sym (to_z_pos w32 {n = x} (search rules))) ∙ w.left) in
-          rw e (omega arith, sym (picked-less (weighed_of l.held) (entry (goal.at.loop-e-preserved c).After-gain_at-gain) p) ∙ next (goal.at.loop-e-preserved c).After-gain_at-gain, l.invariant.2)
+          (ap₂ lt_z (sym (to_z-of_z {w = w32} {z = l.held.weight} (search rules))) (sym (to_z_pos w32 {n = x} (search rules))) ∙ w.if-gain-held.false) in
+          rw w.held-is (omega arith, sym (picked-less (weighed_of l.held) (entry (goal.at.loop-e-preserved c).After-gain_at-gain) p) ∙ next (goal.at.loop-e-preserved c).After-gain_at-gain, l.invariant.2)
     ]
 
 pub returns : goal.returns

@@ -1,8 +1,6 @@
 -- `extract_divisor::is_use` meets its contract: what it tests, one after the other. Assumes nothing.
 use mathlib.Core.Path.{◌≡◌, sym, ◌∙◌, ap}
 use mathlib.Core.Bool.{true}
-use borrow.Author.Tests.{not-true, not-false}
-use borrow.Author.Rules.{rules}
 use Rattle.sets.{specs.Lists.is_nil, specs.Lists.is_some, proofs.Sets.meet-none}
 use Rattle.sets.specs.Sets.{sub, apart, union, without}
 use Rattle.cube.specs.Cube.{lits}

@@ -1,5 +1,4 @@
 -- `extract_fit::is_fit` meets its contract: each kind of divisor has its test. Assumes nothing.
-use borrow.Author.Rules.{rules}
 use Rattle.extract_fit.proofs.is_fit.Goals as goal
 
 pub returns-in-Pair : goal.returns-in-Pair

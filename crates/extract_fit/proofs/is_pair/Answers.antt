@@ -3,7 +3,6 @@ use Prim.Native.Nat.{ℕ}
 use mathlib.Core.Path.{sym, ap, ◌∙◌}
 use lib.Dec.{ltb}
 use Rattle.extract_fit.proofs.Fitting.{pair-falls, pair-both-ways, pair_fits}
-use borrow.Author.Rules.{rules}
 use Rattle.extract_fit.proofs.is_pair.Goals as goal
 
 pub returns-then-p-q : goal.returns-then-p-q

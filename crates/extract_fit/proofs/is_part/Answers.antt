@@ -2,11 +2,9 @@
 use mathlib.Core.Path.{◌≡◌, sym, ◌∙◌}
 use mathlib.Core.Bool.{true}
 use native.Mathlib.Omega.{arith}
-use borrow.Author.Tests.{not-true, not-false}
 use Rattle.cube.specs.Cube.{lits}
 use Rattle.extract_laws.specs.Divisor.{small}
 use Rattle.extract_fit.proofs.Fitting.{small-none, small-many, small-few}
-use borrow.Author.Rules.{rules}
 use Rattle.extract_fit.proofs.is_part.Goals as goal
 use Rattle.extract_fit.proofs.is_part.Goals.{Else-n-gt2}
 

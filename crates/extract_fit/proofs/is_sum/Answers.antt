@@ -1,13 +1,11 @@
 -- `extract_fit::is_sum` meets its contract: each part is tested, then what they share and which comes first. Assumes nothing.
 use mathlib.Core.Path.{◌≡◌, refl, sym, ap, ◌∙◌}
 use mathlib.Core.Bool.{true, ◌&&◌}
-use borrow.Author.Tests.{not-true, not-false}
 use Rattle.sets.{specs.Lists.is_nil, specs.Sets.apart, specs.Sets.before, proofs.Sets.meet-none, proofs.Ordering.before-irrefl, proofs.Ordering.before-asym}
 use Rattle.cube.{specs.Cube.lits, proofs.Lits.lits-asc, proofs.Verdict.Told, proofs.Verdict.told_of_lem}
 use Rattle.extract_laws.specs.Divisor.{sum}
 use Rattle.extract_fit.specs.{Fitness.fitting, Parts.fit_part}
 use Rattle.extract_fit.proofs.{Fitting.sum_fits}
-use borrow.Author.Rules.{rules}
 use Rattle.extract_fit.proofs.is_sum.Goals as goal
 use Rattle.extract_fit.proofs.is_sum.Goals.{After-compare-o, After-is_empty, Else-not-is_part, Else-not-is_part-2, Start}
 

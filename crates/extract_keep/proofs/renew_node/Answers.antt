@@ -10,25 +10,22 @@ use Rattle.extract_keep.specs.Parts.{Shifts, between, Turn}
 use Rattle.extract_keep.specs.declared.{Next.Next, Next.TheVariants.Goes, Next.TheVariants.Comes, Next.TheVariants.Stays, Next.TheVariants.Ended}
 use Rattle.extract_keep.proofs.Keeping.{shift_none, shift-on, shift-to, cube-stay, between-last}
 use Rattle.extract_keep.proofs.renew_node.Goals as goal
-use Rattle.extract_keep.proofs.renew_node.Goals.{After-next_of-x, In-Comes, In-Ended, In-Goes, In-Stays}
+use Rattle.extract_keep.proofs.renew_node.Goals.{In-Comes, In-Ended, In-Goes, In-Stays}
 
 pub loop-t-init : goal.loop-t-init
 loop-t-init c = (omega arith, omega arith, shift_none _ _ _)
 
-abbrev Told : After-next_of-x → Next → Type 0
-Told x = Turn (cubes_of x.args.a.now) x.loop-t.i (cubes_of x.args.b.now) x.loop-t.j
-
 goes : (c : In-Goes) → (Turn (cubes_of c.args.a.now) c.loop-t.i (cubes_of c.args.b.now) c.loop-t.j)
-goes c = subst (Told (c ⟪After-next_of-x⟫)) c.in-Goes.is c.next_of-x.ensures
+goes c = subst (Turn (cubes_of c.args.a.now) c.loop-t.i (cubes_of c.args.b.now) c.loop-t.j) c.in-Goes.is c.next_of-x.ensures
 
 comes : (c : In-Comes) → (Turn (cubes_of c.args.a.now) c.loop-t.i (cubes_of c.args.b.now) c.loop-t.j)
-comes c = subst (Told (c ⟪After-next_of-x⟫)) c.in-Comes.is c.next_of-x.ensures
+comes c = subst (Turn (cubes_of c.args.a.now) c.loop-t.i (cubes_of c.args.b.now) c.loop-t.j) c.in-Comes.is c.next_of-x.ensures
 
 stays : (c : In-Stays) → (Turn (cubes_of c.args.a.now) c.loop-t.i (cubes_of c.args.b.now) c.loop-t.j)
-stays c = subst (Told (c ⟪After-next_of-x⟫)) c.in-Stays.is c.next_of-x.ensures
+stays c = subst (Turn (cubes_of c.args.a.now) c.loop-t.i (cubes_of c.args.b.now) c.loop-t.j) c.in-Stays.is c.next_of-x.ensures
 
 ended : (c : In-Ended) → (Turn (cubes_of c.args.a.now) c.loop-t.i (cubes_of c.args.b.now) c.loop-t.j)
-ended c = subst (Told (c ⟪After-next_of-x⟫)) c.in-Ended.is c.next_of-x.ensures
+ended c = subst (Turn (cubes_of c.args.a.now) c.loop-t.i (cubes_of c.args.b.now) c.loop-t.j) c.in-Ended.is c.next_of-x.ensures
 
 pub take_out-requires : goal.take_out-requires
 take_out-requires c = goes (goal.at.take_out-requires c).In-Goes

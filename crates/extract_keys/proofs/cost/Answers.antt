@@ -3,7 +3,6 @@ use Prim.Native.Nat.{ℕ, ◌≤◌, ◌/◌, ◌%◌, ◌+◌}
 use mathlib.Core.{Path.ap₂, Logic.inl, Logic.inr}
 use native.Mathlib.Omega.{arith}
 use lib.Dec.{eqb}
-use borrow.Author.Rules.{rules}
 use borrow.Author.Tests.{eq-eqb, ne_eqb}
 use Rattle.sets.proofs.Truth.{decided}
 use Rattle.extract_keys.specs.Keys.{size_at, cost_at}
@@ -23,4 +22,4 @@ overflow_add-result c = omega (arith, size-le (c.args.key / 65536), size-le (c.a
 
 pub returns : goal.returns
 unfolding cost_at
-returns c = rw (ne_eqb _ _ c.if-x-y.false) (ap₂ ◌+◌ c.type_size.ensures c.size_of-2.ensures)
+returns c = rw (ne_eqb _ _ c.if-x-y.false) (ap₂ ◌+◌ c.size_of.ensures c.size_of-2.ensures)

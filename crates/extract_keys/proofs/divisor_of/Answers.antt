@@ -1,6 +1,5 @@
 -- `extract_keys::divisor_of` meets its contract. Assumes nothing.
 use mathlib.Core.Path.{ap₂}
-use borrow.Author.Rules.{rules}
 use borrow.Author.Tests.{eq-eqb, ne_eqb}
 use Rattle.extract_laws.specs.Divisor.{sum}
 use Rattle.extract_keys.specs.Keys.{divisor_at}

@@ -1,7 +1,6 @@
 -- `extract_keys::literal_from` meets its contract. Assumes nothing.
 use mathlib.Core.Path.{sym, ◌∙◌, ap}
 use mathlib.Core.Option.{some}
-use borrow.Author.Rules.{rules}
 use Rattle.sets.specs.Lists.{or_else}
 use Rattle.cube.specs.Cube.{answer}
 use Rattle.extract_keys.proofs.literal_from.Goals as goal

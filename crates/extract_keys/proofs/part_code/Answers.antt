@@ -1,6 +1,5 @@
 -- `extract_keys::part_code` meets its contract. Assumes nothing.
 use native.Mathlib.Omega.{arith}
-use borrow.Author.Rules.{rules}
 use Rattle.cube.proofs.Lits.{lits-asc}
 use Rattle.extract_keys.proofs.{Codes.from-below, Codes.first_two}
 use Rattle.extract_keys.proofs.part_code.Goals as goal

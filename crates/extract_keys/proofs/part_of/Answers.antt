@@ -1,7 +1,6 @@
 -- `extract_keys::part_of` meets its contract. Assumes nothing.
 use Prim.Native.Nat.{◌/◌, ◌%◌}
 use mathlib.Core.Path.{◌∙◌, ap}
-use borrow.Author.Rules.{rules}
 use Rattle.cube.specs.Cube.{joined}
 use Rattle.extract_keys.specs.Keys.{part_of}
 use Rattle.extract_keys.proofs.part_of.Goals as goal

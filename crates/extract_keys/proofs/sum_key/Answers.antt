@@ -1,18 +1,17 @@
 -- `extract_keys::sum_key` meets its contract. Assumes nothing.
 use native.Mathlib.Omega.{arith}
-use borrow.Author.Rules.{rules}
 use Rattle.extract_keys.specs.Keys.{two_codes}
 use Rattle.extract_keys.proofs.{Codes.cube-code-below}
 use Rattle.extract_keys.proofs.sum_key.Goals as goal
 
 pub overflow_mul-result : goal.overflow_mul-result
-overflow_mul-result c = omega (arith, cube-code-below c.args.a)
+overflow_mul-result c = omega (arith, cube-code-below c.args.a, cube-code-below c.args.b)
 
 pub overflow_add-result : goal.overflow_add-result
 overflow_add-result c = omega (arith, cube-code-below c.args.a, cube-code-below c.args.b)
 
 pub overflow_mul-result-else-x-y : goal.overflow_mul-result-else-x-y
-overflow_mul-result-else-x-y c = omega (arith, cube-code-below c.args.b)
+overflow_mul-result-else-x-y c = omega (arith, cube-code-below c.args.a, cube-code-below c.args.b)
 
 pub overflow_add-result-else-x-y : goal.overflow_add-result-else-x-y
 overflow_add-result-else-x-y c = omega (arith, cube-code-below c.args.a, cube-code-below c.args.b)

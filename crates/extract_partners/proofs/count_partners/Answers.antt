@@ -9,7 +9,7 @@ use Rattle.expression.specs.Words.{cubes_of}
 use Rattle.extract_partners.specs.Table.{left_at, code_of, first, place_of, Entered}
 use Rattle.extract_partners.proofs.Chains.{Walk, walk_first, walk_end, walk_at, walk-place, walk-below, walk-falls, walk-met, walk-passed}
 use Rattle.extract_partners.proofs.count_partners.Goals as goal
-use Rattle.extract_partners.proofs.count_partners.Goals.{At-loop-at, In-loop-at}
+use Rattle.extract_partners.proofs.count_partners.Goals.{At-loop-at, In-loop-at, then-r-at, else-r-at}
 
 pub loop-at-init : goal.loop-at-init
 loop-at-init c s l =
@@ -22,16 +22,16 @@ going : (h : At-loop-at) → Walk (cubes_of h.args.f.now) h.args.ws.now h.args.r
 going h = h.loop-at.invariant h.requires.0 h.requires.3
 
 entry : (c : In-loop-at) → ℕ
-entry c = (walk_at _ _ _ _ _ _ c.requires.0 c.requires.3 ((let it : Walk (cubes_of c.args.f.now) c.args.ws.now c.args.r.now c.args.e (get_or c.args.ws.now c.args.e 0) c.args.code c.requires.0 c.requires.3 c.args.t.now c.args.g.now c.loop-at.t c.loop-at.g c.loop-at.at = c.loop-at.invariant c.requires.0 c.requires.3 in it)) c.loop-at-test.true).entry
+entry c = (walk_at _ _ _ _ _ _ c.requires.0 c.requires.3 (c.loop-at.invariant c.requires.0 c.requires.3) c.loop-at-test.true).entry
 
 place : (c : In-loop-at) → c.loop-at.at ≡ place_of (entry c)
 unfolding entry
-place c = walk-place _ _ _ _ _ _ c.requires.0 c.requires.3 ((let it : Walk (cubes_of c.args.f.now) c.args.ws.now c.args.r.now c.args.e (get_or c.args.ws.now c.args.e 0) c.args.code c.requires.0 c.requires.3 c.args.t.now c.args.g.now c.loop-at.t c.loop-at.g c.loop-at.at = c.loop-at.invariant c.requires.0 c.requires.3 in it)) c.loop-at-test.true
+place c = walk-place _ _ _ _ _ _ c.requires.0 c.requires.3 (c.loop-at.invariant c.requires.0 c.requires.3) c.loop-at-test.true
 
 within : (c : In-loop-at) → (entry c < length c.args.ws.now) × (entry c < 16384)
 unfolding entry
 within c =
-    let b = walk-below _ _ _ _ _ _ c.requires.0 c.requires.3 ((let it : Walk (cubes_of c.args.f.now) c.args.ws.now c.args.r.now c.args.e (get_or c.args.ws.now c.args.e 0) c.args.code c.requires.0 c.requires.3 c.args.t.now c.args.g.now c.loop-at.t c.loop-at.g c.loop-at.at = c.loop-at.invariant c.requires.0 c.requires.3 in it)) c.loop-at-test.true in
+    let b = walk-below _ _ _ _ _ _ c.requires.0 c.requires.3 (c.loop-at.invariant c.requires.0 c.requires.3) c.loop-at-test.true in
     (omega (arith, c.requires.1), omega (arith, c.requires.1, c.requires.2))
 
 pub loop-at-smaller : goal.loop-at-smaller
@@ -42,10 +42,10 @@ pub loop-at-preserved : goal.loop-at-preserved
 loop-at-preserved c s l =
     let n = c.loop-at.invariant s l in
     elim c.if-r-at.branch [
-      | inl (w, a, b, k, u, p, q) ↦ rw (p, q)
+      | then-r-at w ↦ rw (w.t-is, w.g-is)
           (walk-met _ _ _ _ _ _ s l n c.loop-at-test.true (omega (arith, walk-place _ _ _ _ _ _ s l n c.loop-at-test.true)) c.wide-at-in-loop-at.ensures
-          u.ensures)
-      | inr (w, p, q) ↦ rw (p, q) (walk-passed _ _ _ _ _ _ s l n c.loop-at-test.true w.left c.wide-at-in-loop-at.ensures)
+          w.count_use.ensures)
+      | else-r-at w ↦ rw (w.t-is, w.g-is) (walk-passed _ _ _ _ _ _ s l n c.loop-at-test.true w.if-r-at.false c.wide-at-in-loop-at.ensures)
     ]
 
 pub returns : goal.returns

@@ -13,7 +13,7 @@ use Rattle.extract_partners.proofs.count_partners.Given as goal
 
 abbrev pub invariant-loop-at : goal.invariant-loop-at
 invariant-loop-at l =
-    (s : Entered (cubes_of l.f) l.ws l.r l.e) (l : l.code ≡ code_of (left_at (cubes_of l.f) l.w)) → Walk (cubes_of l.f) l.ws l.r l.e l.w l.code s l l.initial.t l.initial.g l.t l.g l.at
+    (s : Entered (cubes_of l.f) l.ws l.r l.e) (p : l.code ≡ code_of (left_at (cubes_of l.f) l.w)) → Walk (cubes_of l.f) l.ws l.r l.e l.w l.code s p l.initial.t l.initial.g l.t l.g l.at
 
 abbrev pub decreases-loop-at : goal.decreases-loop-at
 decreases-loop-at l = l.at

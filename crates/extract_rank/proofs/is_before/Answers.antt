@@ -2,7 +2,6 @@
 use mathlib.Core.Path.{refl, sym, ap, ◌∙◌}
 use Rattle.sets.{specs.Sets.before, proofs.Ordering.before-irrefl, proofs.Ordering.before-asym}
 use Rattle.cube.{specs.Cube.lits, proofs.Verdict.Told, proofs.Verdict.told_of_lem}
-use borrow.Author.Rules.{rules}
 use Rattle.extract_rank.proofs.is_before.Goals as goal
 use Rattle.extract_rank.proofs.is_before.Goals.{After-compare-o}
 

@@ -1,6 +1,5 @@
 -- `extract_rank::is_sooner` meets its contract: a case for each two kinds. Assumes nothing.
 use Rattle.extract_laws.specs.Extract.{sooner}
-use borrow.Author.Rules.{rules}
 use Rattle.extract_rank.proofs.is_sooner.Goals as goal
 
 pub returns-in-Pair-e : goal.returns-in-Pair-e

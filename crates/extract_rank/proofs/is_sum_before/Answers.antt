@@ -1,6 +1,5 @@
 -- `extract_rank::is_sum_before` meets its contract: the parts are compared in turn. Assumes nothing.
 use mathlib.Core.Path.{sym, ◌∙◌}
-use borrow.Author.Rules.{rules}
 use Rattle.extract_rank.proofs.is_sum_before.Goals as goal
 
 pub returns-then-is_before : goal.returns-then-is_before

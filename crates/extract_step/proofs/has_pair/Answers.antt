@@ -1,8 +1,6 @@
 -- `extract_step::has_pair` meets its contract: it asks for one literal, then for the other. Assumes nothing.
 use mathlib.Core.{Path.sym, Path.◌∙◌, Bool.and-true}
-use borrow.Author.Tests.{not-true, not-false}
 use Rattle.sets.specs.Sets.{sub}
-use borrow.Author.Rules.{rules}
 use Rattle.extract_step.proofs.has_pair.Goals as goal
 
 pub returns-then-not-has : goal.returns-then-not-has

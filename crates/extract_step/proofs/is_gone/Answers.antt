@@ -1,7 +1,6 @@
 -- `extract_step::is_gone` meets its contract: a pair has one test, a sum one for each part. Assumes nothing.
 use mathlib.Core.Path.{sym, ◌∙◌}
 use Rattle.extract_divisor.proofs.Using.{found-use}
-use borrow.Author.Rules.{rules}
 use Rattle.extract_step.proofs.is_gone.Goals as goal
 
 pub returns-then-is_use : goal.returns-then-is_use

@@ -1,7 +1,6 @@
 -- `extract_step::is_hit` meets its contract: each kind of divisor has its test. Assumes nothing.
 use mathlib.Core.Path.{◌∙◌}
 use Rattle.extract_divisor.proofs.Using.{found-use}
-use borrow.Author.Rules.{rules}
 use Rattle.extract_step.proofs.is_hit.Goals as goal
 
 pub returns-in-Pair : goal.returns-in-Pair

@@ -9,7 +9,6 @@ use Rattle.network.specs.{Held.most_cubes, Handed.LaidNodes}
 use Rattle.extract_tidy.proofs.Laid.{laid-places}
 use Rattle.extract_step.proofs.Answering.{after, rewritten, next-number, laid-few, laid-count, laid-literals, step-laid, step-held}
 use Rattle.extract_step.proofs.Answering.{room-rows, room-over, room-literals, room-made}
-use borrow.Author.Rules.{rules}
 use Rattle.extract_step.proofs.made.Goals as goal
 use Rattle.extract_step.proofs.made.Goals.{After-literals-literals, After-plain-x, After-put_nodes-to, After-put_own-end}
 
@@ -39,7 +38,10 @@ counted c = c.literals-literals.ensures ∙ ap capped (laid-literals c.requires 
 pub put_nodes-to-requires : goal.put_nodes-to-requires
 put_nodes-to-requires c =
     let r = c.requires in
-    ((r.source, record { divisor = r.divisor; literal = omega (arith, literal (goal.at.put_nodes-to-requires c).After-plain-x, r.number) }), (refl, refl))
+    record {
+      fact_1 = (r.source, record { divisor = r.divisor; literal = omega (arith, literal (goal.at.put_nodes-to-requires c).After-plain-x, r.number) });
+      fact_2 = (refl, refl);
+    }
 
 pub overflow_sub-to : goal.overflow_sub-to
 overflow_sub-to c = omega (arith, laid-few c.requires (laid (goal.at.overflow_sub-to c).After-put_nodes-to))

@@ -9,7 +9,6 @@ use Rattle.cube.specs.Cube.{width, joined}
 use Rattle.extract_laws.specs.Divisor.{pair}
 use Rattle.extract_divisor.specs.Divisor.{divisor_of}
 use Rattle.extract_fit.{specs.Fitness.fitting, proofs.Fitting.pair-below}
-use borrow.Author.Rules.{rules}
 use Rattle.extract_step.proofs.part_of.Goals as goal
 
 -- the two literals of a pair, the smaller first, as a cube

@@ -4,8 +4,6 @@ use mathlib.Core.Path.{◌≡◌, sym, ap, ◌∙◌}
 use mathlib.Core.{Bool.true, List.List}
 use native.Mathlib.Omega.{arith}
 use lib.ListN.{length, take, drop}
-use borrow.Author.Rules.{rules}
-use borrow.Author.Tests.{not-false}
 use Rattle.expression.specs.{Words.cubes_of, Words.Appends, Expression.ordered, Expression.sort}
 use Rattle.expression.proofs.Sorting.{ordered-sort}
 use Rattle.expression.proofs.Placing.{placed-span, appends-as, appends-sort}
@@ -20,7 +18,7 @@ appends-ordered {f = f} p h o = appends-as (sym (ordered-sort f (ap ordered (sym
 
 -- ---- what holds there
 inside : (w : After-write_node-to) → w.args.at ≤ length (cubes_of w.args.out.now)
-inside w = omega (arith, w.requires.1)
+inside w = omega (arith, w.requires.fact_2)
 
 pub returns-then-not-is_ordered : goal.returns-then-not-is_ordered
 returns-then-not-is_ordered c =

@@ -2,75 +2,72 @@
 use Prim.Native.Nat.{ℕ, ◌+◌, ◌-◌, ◌≤◌}
 use mathlib.Core.Path.{◌≡◌, refl, sym, ap}
 use mathlib.Core.Bool.{true}
-use mathlib.Core.List.{List, [], map}
+use mathlib.Core.List.{List, []}
 use native.Mathlib.Omega.{arith}
-use lib.ListN.{length, take}
+use lib.ListN.{length}
 use Rattle.sets.proofs.{Lists.all-out, Places.at_in}
 use Rattle.expression.specs.{Words.cubes_of, Expression.ordered}
-use Rattle.network.{specs.Handed.LaidNodes, specs.Parts.nodes_of, proofs.Laying.laid_none, proofs.Parts.nodes-length, proofs.Parts.nodes-at}
+use Rattle.network.{specs.Parts.nodes_of, proofs.Laying.laid_none, proofs.Parts.nodes-length, proofs.Parts.nodes-at}
 use Rattle.extract_laws.specs.Divisor.{rewrite}
 use Rattle.extract_tidy.proofs.Laid.{nodes-laid, node-fits, node-laid}
 use Rattle.extract_divisor.specs.Divisor.{divisor_of}
-use Rattle.extract_step.specs.Parts.{SourceNodes}
 use Rattle.extract_step.proofs.{Becoming.rewrite-length}
 use borrow.Author.Rules.{rules}
 use Rattle.extract_step.proofs.put_nodes.Goals as goal
 use Rattle.extract_step.proofs.put_nodes.Goals.{After-node, At-loop-i}
 
--- ---- the states of the walk
-abbrev Loop : Type 0
-Loop = At-loop-i
-
-abbrev head : After-node → Loop
-head c = (c ⟪At-loop-i⟫)
-
 -- ---- what holds there
-abbrev changed : Loop → List (List ℕ) → List (List ℕ)
-changed l = rewrite (start l).args.x.0 (divisor_of (start l).args.d)
+abbrev changed : At-loop-i → List (List ℕ) → List (List ℕ)
+changed c = rewrite c.args.x.0 (divisor_of c.args.d)
 
-fewer : (l : Loop) (f : List (List ℕ)) → length (changed l f) ≤ length f
-fewer l f = rewrite-length (start l).args.x.0 (divisor_of (start l).args.d) f
-
-source : (l : Loop) → SourceNodes (start l).args.words.now (start l).args.counts.now (start l).args.e
-source l = (start l).pre.0.0
+fewer : (c : At-loop-i) (f : List (List ℕ)) → length (changed c f) ≤ length f
+fewer c f = rewrite-length c.args.x.0 (divisor_of c.args.d) f
 
 -- there is room for the node as it was
-fits : (c : After-node) → (head c).loop.to + length (cubes_of c.node.result.now) ≤ length (cubes_of (head c).loop.out)
-fits c = let l = head c in node-fits (changed l) (fewer l) (source l).room {i = l.loop.i} l.loop.inv.1 (omega arith) c.node.ensures.0
+fits : (c : After-node) → c.loop-i.to + length (cubes_of c.node.result.now) ≤ length (cubes_of c.loop-i.out)
+fits c =
+    let x = c.args.x.0 in
+    let d = divisor_of c.args.d in
+    node-fits (rewrite x d) (rewrite-length x d) c.requires.fact_1.0.room {i = c.loop-i.i} c.loop-i.invariant.1 (omega arith) c.node.ensures.0
 
 -- which stands in cube order
 node-ordered : (c : After-node) → ordered (cubes_of c.node.result.now) ≡ true
 node-ordered c =
-    let l = head c in
-    let a = (start l).args in
-    rw (c.node.ensures.0, sym (nodes-at a.counts.now a.words.now a.e l.loop.i (omega arith)))
-    (all-out ordered (at_in (nodes_of a.e a.counts.now a.words.now) l.loop.i []
-    (omega (arith, nodes-length a.counts.now a.words.now a.e (source l).room.counted))) (source l).order)
+    let a = c.args in
+    let s = c.requires.fact_1.0 in
+    rw (c.node.ensures.0, sym (nodes-at a.counts.now a.words.now a.e c.loop-i.i (omega arith)))
+    (all-out ordered (at_in (nodes_of a.e a.counts.now a.words.now) c.loop-i.i []
+    (omega (arith, nodes-length a.counts.now a.words.now a.e s.room.counted))) s.order)
 
 pub loop-i-init : goal.loop-i-init
-loop-i-init c = (omega arith, rw (c.requires.1.0, c.requires.1.1) laid_none, refl, refl)
+loop-i-init c = (omega arith, rw (c.requires.fact_2.0, c.requires.fact_2.1) laid_none, refl, refl)
 
 pub put_node-next-requires : goal.put_node-next-requires
-put_node-next-requires c = ((node-ordered (goal.at.put_node-next-requires c).After-node, (start (head (goal.at.put_node-next-requires c).After-node)).pre.0.1), fits (goal.at.put_node-next-requires c).After-node)
+put_node-next-requires c = record {
+  fact_1 = (node-ordered (goal.at.put_node-next-requires c).After-node, c.requires.fact_1.1);
+  fact_2 = fits (goal.at.put_node-next-requires c).After-node;
+}
 
 pub bounds-sizes-i : goal.bounds-sizes-i
-bounds-sizes-i c = let l = head (goal.at.bounds-sizes-i c).After-node in omega (arith, (source l).free, l.loop.inv.3, ap length (start l).pre.1.1)
+bounds-sizes-i c = omega (arith, c.requires.fact_1.0.free, c.loop-i.invariant.3, ap length c.requires.fact_2.1)
 
 pub loop-i-preserved : goal.loop-i-preserved
 loop-i-preserved c =
     let w = c.put_node-next.ensures in
-    let l = head (goal.at.loop-i-preserved c).After-node in
+    let l = (goal.at.loop-i-preserved c).At-loop-i in
     let t = c.put_node-next.result in
-    let k : t - l.loop.to ≡ length (changed l (cubes_of c.node.result.now)) = omega (arith, w.next) in
-    let e : l.loop.to + (t - l.loop.to) ≡ t = omega (arith, w.next) in (
+    let k : t - c.loop-i.to ≡ length (changed l (cubes_of c.node.result.now)) = omega (arith, w.next) in
+    let e : c.loop-i.to + (t - c.loop-i.to) ≡ t = omega (arith, w.next) in (
       omega arith,
-      node-laid (changed l) (fewer l) (source l).room {i = l.loop.i} l.loop.inv.1 (omega arith) c.node.ensures.0 k e w.placed,
+      node-laid (changed l) (fewer l) c.requires.fact_1.0.room {i = c.loop-i.i} c.loop-i.invariant.1 (omega arith) c.node.ensures.0 k e w.placed,
       search rules,
       search rules,
     )
 
 pub returns : goal.returns
-returns c = nodes-laid (changed (goal.at.returns c).At-loop-i) (fewer (goal.at.returns c).At-loop-i) (source (goal.at.returns c).At-loop-i).room {i = c.loop-i.i} c.loop-i.invariant.1 (omega arith)
+returns c =
+    let l = (goal.at.returns c).At-loop-i in
+    nodes-laid (changed l) (fewer l) c.requires.fact_1.0.room {i = c.loop-i.i} c.loop-i.invariant.1 (omega arith)
 
 pub shape_of-out : goal.shape_of-out
 shape_of-out c = c.loop-i.invariant.2

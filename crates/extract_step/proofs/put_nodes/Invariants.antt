@@ -1,19 +1,11 @@
 -- `extract_step::put_nodes` meets its contract. The loop's invariant: the nodes passed stand rewritten one after the other. Assumes nothing.
-use Prim.Native.Nat.{ℕ, ◌+◌, ◌-◌, ◌≤◌}
-use mathlib.Core.Path.{◌≡◌, refl, sym, ap}
-use mathlib.Core.Bool.{true}
-use mathlib.Core.List.{List, [], map}
-use native.Mathlib.Omega.{arith}
+use Prim.Native.Nat.{◌-◌, ◌≤◌}
+use mathlib.Core.Path.{◌≡◌}
+use mathlib.Core.List.{map}
 use lib.ListN.{length, take}
-use Rattle.sets.proofs.{Lists.all-out, Places.at_in}
-use Rattle.expression.specs.{Words.cubes_of, Expression.ordered}
-use Rattle.network.{specs.Handed.LaidNodes, specs.Parts.nodes_of, proofs.Laying.laid_none, proofs.Parts.nodes-length, proofs.Parts.nodes-at}
+use Rattle.network.{specs.Handed.LaidNodes, specs.Parts.nodes_of}
 use Rattle.extract_laws.specs.Divisor.{rewrite}
-use Rattle.extract_tidy.proofs.Laid.{nodes-laid, node-fits, node-laid}
 use Rattle.extract_divisor.specs.Divisor.{divisor_of}
-use Rattle.extract_step.specs.Parts.{SourceNodes}
-use Rattle.extract_step.proofs.{Becoming.rewrite-length}
-use borrow.Author.Rules.{rules}
 use Rattle.extract_step.proofs.put_nodes.Given as goal
 
 abbrev pub invariant-loop-i : goal.invariant-loop-i

@@ -9,7 +9,6 @@ use Rattle.extract_laws.specs.Divisor.{own, part}
 use Rattle.extract_divisor.specs.{Divisor.divisor_of, declared.Divisor.Divisor, declared.Divisor.TheVariants.Pair, declared.Divisor.TheVariants.Sum}
 use Rattle.expression.proofs.Words.{cubes-few}
 use Rattle.expression.proofs.Placing.{appends-none, appends-as, appends-put}
-use borrow.Author.Rules.{rules}
 use Rattle.extract_step.proofs.put_own.Goals as goal
 
 -- one cube at least

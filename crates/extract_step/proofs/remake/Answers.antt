@@ -9,7 +9,6 @@ use Rattle.extract_laws.specs.Divisor.{hit, swap}
 use Rattle.extract_divisor.specs.Divisor.{divisor_of}
 use Rattle.expression.specs.Words.{cubes_of}
 use Rattle.extract_step.specs.Parts.{fate}
-use borrow.Author.Rules.{rules}
 use Rattle.extract_step.proofs.remake.Goals as goal
 use Rattle.extract_step.proofs.remake.Goals.{Else-is_hit}
 

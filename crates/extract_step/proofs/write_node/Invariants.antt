@@ -1,16 +1,10 @@
 -- `extract_step::write_node` meets its contract. The loop's invariant: what the cubes passed become stands from place `at` on. Assumes nothing.
-use Prim.Native.Nat.{ℕ, ◌+◌, ◌-◌, ◌≤◌}
-use mathlib.Core.Path.{◌≡◌, refl, sym, ap, ◌∙◌}
-use mathlib.Core.{List.List, List.[], Option.Option}
-use native.Mathlib.Omega.{arith}
-use lib.ListN.{length, get_or, take}
-use lib.Seq.{take_all}
-use Rattle.expression.{specs.Words.cubes_of, specs.Words.Appends, proofs.Words.cubes-few}
+use Prim.Native.Nat.{◌-◌, ◌≤◌}
+use mathlib.Core.Path.{◌≡◌}
+use lib.ListN.{length, take}
+use Rattle.expression.{specs.Words.cubes_of, specs.Words.Appends}
 use Rattle.extract_divisor.specs.Divisor.{divisor_of}
-use Rattle.extract_step.specs.Parts.{fate, fate_of, become}
-use Rattle.extract_step.proofs.Becoming.{become-few, become-none, become-one}
-use Rattle.expression.proofs.Placing.{appends-none, appends-as, appends-put}
-use borrow.Author.Rules.{rules}
+use Rattle.extract_step.specs.Parts.{fate, become}
 use Rattle.extract_step.proofs.write_node.Given as goal
 
 abbrev pub invariant-loop-i : goal.invariant-loop-i

@@ -8,7 +8,7 @@ use Rattle.network.proofs.{Limits.rules-sized, Ruling.accepted-rules, Ruling.ref
 use Rattle.network.proofs.Telling.{told-gives, told-refuses}
 use Rattle.extract_laws.specs.Run.{in_order}
 use Rattle.extract_tidy.proofs.{Laid.limited-room, Laid.laid-order}
-use borrow.Author.Rules.{rules}
+use borrow.Author.Rules.{rules as kit_rules}
 use Rattle.extract_tidy.proofs.in_order.Goals as goal
 use Rattle.extract_tidy.proofs.in_order.Goals.{In-Accepted, Start}
 
@@ -18,10 +18,10 @@ kept : (c : In-Accepted) → rules c.args.n ≡ true
 kept c = accepted-rules _ (sym c.judge-answer.ensures ∙ c.in-Accepted.is)
 
 shape : (s : Start) → Shaped s.args.n
-shape s = shape_of _ (search rules) (search rules)
+shape s = shape_of _ (search kit_rules) (search kit_rules)
 
 limited : (c : In-Accepted) → Limited c.args.n
-limited c = rules-sized c.args.n ((let it : Shaped c.args.n = shape_of _ (search rules) (search rules) in it)) (kept c)
+limited c = rules-sized c.args.n (shape_of _ (search kit_rules) (search kit_rules)) (kept c)
 
 pub returns-in_default : goal.returns-in_default
 returns-in_default c =
@@ -32,7 +32,7 @@ pub overflow_add-n : goal.overflow_add-n
 overflow_add-n c = let z = limited (goal.at.overflow_add-n c).In-Accepted in omega (arith, z.narrow, z.variables)
 
 pub lay_nodes-requires : goal.lay_nodes-requires
-lay_nodes-requires c = (limited-room c.args.n (limited (goal.at.lay_nodes-requires c).In-Accepted), (refl, refl))
+lay_nodes-requires c = record { fact_1 = limited-room c.args.n (limited (goal.at.lay_nodes-requires c).In-Accepted); fact_2 = (refl, refl) }
 
 pub returns : goal.returns
 returns c =

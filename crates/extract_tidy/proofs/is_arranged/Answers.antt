@@ -1,5 +1,4 @@
 -- `extract_tidy::is_arranged` meets its contract: the struct's own words and counts are tested. Assumes nothing.
-use borrow.Author.Rules.{rules}
 use Rattle.extract_tidy.proofs.is_arranged.Goals as goal
 
 pub returns : goal.returns

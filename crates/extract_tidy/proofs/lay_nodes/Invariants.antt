@@ -1,13 +1,10 @@
 -- `extract_tidy::lay_nodes` meets its contract. The loop's invariant: the nodes passed stand in cube order one after the other. Assumes nothing.
-use Prim.Native.Nat.{ℕ, ◌+◌, ◌-◌, ◌≤◌}
-use mathlib.Core.Path.{◌≡◌, refl, sym, ap, ◌∙◌, subst}
-use mathlib.Core.List.{List, map}
-use native.Mathlib.Omega.{arith}
-use borrow.Author.Rules.{rules}
+use Prim.Native.Nat.{◌-◌, ◌≤◌}
+use mathlib.Core.Path.{◌≡◌}
+use mathlib.Core.List.{map}
 use lib.ListN.{length, take}
-use Rattle.expression.{specs.Words.cubes_of, specs.Expression.sort, proofs.Sorting.sort-length, proofs.Words.cubes-few}
-use Rattle.network.{specs.Handed.LaidNodes, specs.Parts.nodes_of, proofs.Laying.laid_none}
-use Rattle.extract_tidy.proofs.Laid.{nodes-laid, node-fits, node-laid, sorted-copy}
+use Rattle.expression.{specs.Expression.sort}
+use Rattle.network.{specs.Handed.LaidNodes, specs.Parts.nodes_of}
 use Rattle.extract_tidy.proofs.lay_nodes.Given as goal
 
 abbrev pub invariant-loop-i : goal.invariant-loop-i

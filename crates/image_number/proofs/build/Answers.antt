@@ -1,13 +1,13 @@
 -- The answers of `image_number::build`.
-use Prim.Native.Nat.{ℕ, ◌+◌, ◌-◌, ◌<◌, ◌≤◌}
+use Prim.Native.Nat.{ℕ, ◌+◌, ◌<◌, ◌≤◌}
 use mathlib.Core.Path.{◌≡◌, sym, ◌∙◌, ap}
 use mathlib.Core.List.{List, []}
 use native.Mathlib.Omega.{arith}
 use borrow.Author.Rules.{rules}
-use lib.ListN.{length, get_or, take, length-replicate}
+use lib.ListN.{length, get_or, length-replicate}
 use Rattle.expression.{specs.Words.cubes_of, proofs.Words.room-cubes}
 use Rattle.network.specs.{Net.nodes, Parts.net_at}
-use Rattle.network.specs.Handed.{LaidNodes, node_slots, cube_slots, word_slots}
+use Rattle.network.specs.Handed.{node_slots, cube_slots, word_slots}
 use Rattle.network.proofs.Laying.{laid_none, laid_more, laid-all}
 use Rattle.image_laws.specs.Renumber.{renumbered}
 use Rattle.image_number.specs.Parts.{node_by}
@@ -84,7 +84,7 @@ pub offset_bounds-sizes-i : goal.offset_bounds-sizes-i
 offset_bounds-sizes-i c = omega (arith, few (goal.at.offset_bounds-sizes-i c).At-loop-i)
 
 pub bounds-sizes-i : goal.bounds-sizes-i
-bounds-sizes-i c = omega ( arith, few (goal.at.bounds-sizes-i c).At-loop-i, )
+bounds-sizes-i c = omega (arith, few (goal.at.bounds-sizes-i c).At-loop-i)
 
 pub overflow_add-at : goal.overflow_add-at
 overflow_add-at c = omega (arith, roomy (goal.at.overflow_add-at c).After-out-1, as_many (goal.at.overflow_add-at c).After-out-1)

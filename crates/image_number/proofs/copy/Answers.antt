@@ -1,13 +1,13 @@
 -- The answers of `image_number::copy`.
 use borrow.Author.Rules.{rules}
-use Prim.Native.Nat.{ℕ, ◌-◌, ◌<◌, ◌≤◌}
-use mathlib.Core.Path.{◌≡◌, refl, sym, ap, ◌∙◌}
+use Prim.Native.Nat.{ℕ, ◌<◌}
+use mathlib.Core.Path.{refl, sym, ap, ◌∙◌}
 use mathlib.Core.List.{List, [], map}
 use native.Mathlib.Omega.{arith}
-use lib.ListN.{length, take, length-map}
+use lib.ListN.{length, length-map}
 use lib.Seq.{take_all}
 use Rattle.sets.proofs.Rows.{get_d_map}
-use Rattle.expression.{proofs.Words.cubes-few, specs.Words.cubes_of, specs.Words.Placed}
+use Rattle.expression.{proofs.Words.cubes-few, specs.Words.cubes_of}
 use Rattle.expression.proofs.Placing.{placed-none, placed-as, copied_next}
 use Rattle.image_number.specs.Parts.{cube_by}
 use Rattle.image_number.proofs.copy.Goals as goal

@@ -1,14 +1,9 @@
 -- `image_number::copy` meets its contract. The loop's invariant: the cubes passed stand renumbered from place `at` on. Assumes nothing.
-use borrow.Author.Rules.{rules}
-use Prim.Native.Nat.{ℕ, ◌-◌, ◌<◌, ◌≤◌}
-use mathlib.Core.Path.{◌≡◌, refl, sym, ap, ◌∙◌}
-use mathlib.Core.List.{List, [], map}
-use native.Mathlib.Omega.{arith}
-use lib.ListN.{length, take, length-map}
-use lib.Seq.{take_all}
-use Rattle.sets.proofs.Rows.{get_d_map}
-use Rattle.expression.{proofs.Words.cubes-few, specs.Words.cubes_of, specs.Words.Placed}
-use Rattle.expression.proofs.Placing.{placed-none, placed-as, copied_next}
+use Prim.Native.Nat.{◌-◌, ◌≤◌}
+use mathlib.Core.Path.{◌≡◌}
+use mathlib.Core.List.{map}
+use lib.ListN.{length, take}
+use Rattle.expression.{specs.Words.cubes_of, specs.Words.Placed}
 use Rattle.image_number.specs.Parts.{cube_by}
 use Rattle.image_number.proofs.copy.Given as goal
 

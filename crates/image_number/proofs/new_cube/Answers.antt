@@ -2,11 +2,8 @@
 use mathlib.Core.Path.{◌≡◌, sym, ◌∙◌, ap}
 use mathlib.Core.List.{◌∷◌}
 use native.Mathlib.Omega.{arith}
-use borrow.Author.Rules.{rules}
 use lib.ListN.{length}
-use Rattle.sets.specs.Sets.{union}
 use Rattle.cube.{proofs.Lits.lits-asc, specs.Cube.lits, specs.Cube.joined}
-use Rattle.image_number.specs.Parts.{cube_by}
 use Rattle.cube_order.proofs.Taking.{taken_none, taken-small, taken_next}
 use Rattle.image_number.proofs.Taking.{by-none, by-more, by_all}
 use Rattle.image_number.proofs.new_cube.Goals as goal
@@ -34,4 +31,4 @@ loop-l-preserved c =
     (c.with-r.ensures ∙ ap (λ x. joined x (lits c.loop-l.r)) c.new_literal.ensures) ∙ c.loop-l.invariant
 
 pub loop-l-smaller : goal.loop-l-smaller
-loop-l-smaller c = omega ( arith, ap length (others c), )
+loop-l-smaller c = omega (arith, ap length (others c))

@@ -1,15 +1,10 @@
 -- `image_number::new_cube` meets its contract. The loop's invariant: the new literals of what is left, joined to those that are there, are
 -- those of the cube. Assumes nothing.
-use mathlib.Core.Path.{◌≡◌, sym, ◌∙◌, ap}
-use mathlib.Core.List.{◌∷◌}
-use native.Mathlib.Omega.{arith}
-use borrow.Author.Rules.{rules}
+use mathlib.Core.Path.{◌≡◌}
 use lib.ListN.{length}
 use Rattle.sets.specs.Sets.{union}
-use Rattle.cube.{proofs.Lits.lits-asc, specs.Cube.lits, specs.Cube.joined}
+use Rattle.cube.{specs.Cube.lits}
 use Rattle.image_number.specs.Parts.{cube_by}
-use Rattle.cube_order.proofs.Taking.{taken_none, taken-small, taken_next}
-use Rattle.image_number.proofs.Taking.{by-none, by-more, by_all}
 use Rattle.image_number.proofs.new_cube.Given as goal
 
 abbrev pub invariant-loop-l : goal.invariant-loop-l

@@ -1,5 +1,4 @@
 -- `image_number::new_literal` meets its contract. Assumes nothing.
-use borrow.Author.Rules.{rules}
 use Rattle.image_number.proofs.{Taking.literal-negated, Taking.literal-plain}
 use Rattle.image_number.proofs.new_literal.Goals as goal
 

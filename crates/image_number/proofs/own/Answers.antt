@@ -1,10 +1,7 @@
 -- The answers of `image_number::own`.
-use borrow.Author.Rules.{rules}
-use Prim.Native.Nat.{◌-◌, ◌≤◌}
 use mathlib.Core.Path.{◌≡◌}
 use native.Mathlib.Omega.{arith}
 use Rattle.network.specs.Held.{most_variables}
-use Rattle.image_number.specs.Parts.{Itself}
 use Rattle.image_number.proofs.{Placing.itself-none, Placing.itself-next}
 use Rattle.image_number.proofs.own.Goals as goal
 

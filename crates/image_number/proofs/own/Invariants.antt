@@ -1,11 +1,7 @@
 -- `image_number::own` meets its contract. The loop's invariant: each variable passed is at its own number. Assumes nothing.
-use borrow.Author.Rules.{rules}
 use Prim.Native.Nat.{◌-◌, ◌≤◌}
-use mathlib.Core.Path.{◌≡◌}
-use native.Mathlib.Omega.{arith}
 use Rattle.network.specs.Held.{most_variables}
 use Rattle.image_number.specs.Parts.{Itself}
-use Rattle.image_number.proofs.{Placing.itself-none, Placing.itself-next}
 use Rattle.image_number.proofs.own.Given as goal
 
 abbrev pub invariant-loop-v : goal.invariant-loop-v

@@ -1,11 +1,9 @@
 -- The answers of `image_number::places_of`.
-use borrow.Author.Rules.{rules}
-use Prim.Native.Nat.{◌-◌, ◌<◌, ◌≤◌}
+use Prim.Native.Nat.{◌<◌}
 use mathlib.Core.Path.{◌≡◌}
 use native.Mathlib.Omega.{arith}
 use lib.ListN.{get_or}
 use Rattle.network.specs.Held.{most_variables}
-use Rattle.image_number.specs.Parts.{Placing}
 use Rattle.image_number.proofs.{Placing.placing-none, Placing.placing-next}
 use Rattle.image_number.proofs.places_of.Goals as goal
 use Rattle.image_number.proofs.places_of.Goals.{In-loop-i}

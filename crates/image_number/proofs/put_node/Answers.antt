@@ -1,6 +1,5 @@
 -- `image_number::put_node` meets its contract: the cubes put are sorted in place. Assumes nothing.
 use native.Mathlib.Omega.{arith}
-use borrow.Author.Rules.{rules}
 use lib.ListN.{length-map}
 use Rattle.expression.{specs.Words.cubes_of, proofs.Words.cubes-few, proofs.Placing.placed-sort}
 use Rattle.image_number.specs.Parts.{cube_by}

@@ -1,7 +1,7 @@
 -- `image_number::renumber` meets its contract: a network by the rules is built anew along its listing. Assumes nothing.
 use mathlib.Core.Path.{◌≡◌, sym, ◌∙◌, subst}
 use mathlib.Core.Bool.{true}
-use borrow.Author.Rules.{rules}
+use borrow.Author.Rules.{rules as steps}
 use Rattle.network.{specs.Held.net_of, specs.Held.rules, specs.Handed.Holds, proofs.Ruling.accepted-rules, proofs.Ruling.refused-rules}
 use Rattle.network.proofs.{Handing.shape_of, Telling.told-gives, Telling.told-refuses}
 use Rattle.image_laws.specs.Renumber.{renumbered}
@@ -19,7 +19,7 @@ lawful c = accepted-rules _ (sym c.judge-answer.ensures ∙ c.in-Accepted.is)
 pub build-requires : goal.build-requires
 build-requires c =
     let h = lawful (goal.at.build-requires c).In-Accepted in
-    record { lawful = h; shape = shape_of _ (search rules) (search rules); listed = rules-order _ h _ c.listing-l.ensures }
+    record { lawful = h; shape = shape_of _ (search steps) (search steps); listed = rules-order _ h _ c.listing-l.ensures }
 
 pub returns : goal.returns
 returns c =

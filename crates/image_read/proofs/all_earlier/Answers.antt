@@ -1,11 +1,10 @@
 -- The answers of `image_read::all_earlier`.
-use Prim.Native.Nat.{ℕ, ◌+◌, ◌-◌, ◌≤◌}
+use Prim.Native.Nat.{ℕ, ◌+◌}
 use mathlib.Core.Path.{◌≡◌, sym, ap, ◌∙◌}
 use mathlib.Core.{Bool.Bool, Bool.◌&&◌, List.List}
 use native.Mathlib.Omega.{arith}
 use lib.ListN.{length, drop}
 use borrow.Author.Rules.{rules}
-use borrow.Author.Tests.{not-true, not-false}
 use Rattle.expression.specs.Words.{cubes_of}
 use Rattle.network.specs.Held.{reach}
 use Rattle.network_nodes.proofs.Cutting.{cut-length}

@@ -1,17 +1,9 @@
 -- `image_read::all_earlier` meets its contract. The loop's invariant: the test of the divisors from i on is the test of all. Assumes nothing.
-use Prim.Native.Nat.{ℕ, ◌+◌, ◌-◌, ◌≤◌}
-use mathlib.Core.Path.{◌≡◌, sym, ap, ◌∙◌}
-use mathlib.Core.{Bool.Bool, Bool.◌&&◌, List.List}
-use native.Mathlib.Omega.{arith}
+use Prim.Native.Nat.{◌+◌, ◌-◌, ◌≤◌}
+use mathlib.Core.Path.{◌≡◌}
 use lib.ListN.{length, drop}
-use borrow.Author.Rules.{rules}
-use borrow.Author.Tests.{not-true, not-false}
-use Rattle.expression.specs.Words.{cubes_of}
-use Rattle.network.specs.Held.{reach}
-use Rattle.network_nodes.proofs.Cutting.{cut-length}
 use Rattle.image_laws.specs.Reading.{reads_earlier}
 use Rattle.image_read.specs.Parts.{nodes_in}
-use Rattle.image_read.proofs.{Testing.earlier-next, Testing.earlier-done}
 use Rattle.image_read.proofs.all_earlier.Given as goal
 
 abbrev pub invariant-loop-i : goal.invariant-loop-i

@@ -1,15 +1,8 @@
 -- `image_read::all_tidy` meets its contract. The loop's invariant: the test of the nodes from i on is the test of all. Assumes nothing.
-use Prim.Native.Nat.{ℕ, ◌-◌, ◌≤◌}
-use mathlib.Core.Path.{◌≡◌, sym, ap, ◌∙◌}
-use mathlib.Core.List.{List, []}
-use native.Mathlib.Omega.{arith}
-use lib.ListN.{length, get_or, drop}
-use borrow.Author.Rules.{rules}
-use borrow.Author.Tests.{not-true, not-false}
+use Prim.Native.Nat.{◌-◌, ◌≤◌}
+use mathlib.Core.Path.{◌≡◌}
+use lib.ListN.{length, drop}
 use Rattle.sets.specs.Lists.{all}
-use Rattle.sets.proofs.Places.{all-stop, all-on, all_done}
-use Rattle.expression.specs.Words.{cubes_of}
-use Rattle.network_nodes.proofs.Cutting.{cut-length}
 use Rattle.image_read.specs.Parts.{tidy, nodes_in}
 use Rattle.image_read.proofs.all_tidy.Given as goal
 

@@ -2,7 +2,6 @@
 use mathlib.Core.{Bool.Bool, List.List}
 use native.Mathlib.Omega.{arith}
 use lib.ListN.{drop}
-use borrow.Author.Rules.{rules}
 use Rattle.image_fields.specs.Fields.{bits_in}
 use Rattle.image_laws.specs.Widths.{edition_field, edition1}
 use Rattle.image_read.specs.{Parts.FieldIs, declared.fields.Field.TheVariants.Value}

@@ -1,8 +1,6 @@
 -- `image_read::in_order` meets its contract. Assumes nothing.
 use mathlib.Core.Path.{◌≡◌, sym, ◌∙◌}
 use mathlib.Core.Bool.{true}
-use borrow.Author.Tests.{not-true, not-false}
-use borrow.Author.Rules.{rules}
 use Rattle.image_read.proofs.in_order.Goals as goal
 use Rattle.image_read.proofs.in_order.Goals.{After-all_tidy}
 

@@ -1,7 +1,5 @@
 -- `image_read::is_tidy` meets its contract. Assumes nothing.
 use mathlib.Core.Path.{sym, ◌∙◌}
-use borrow.Author.Rules.{rules}
-use borrow.Author.Tests.{not-true, not-false}
 use Rattle.image_read.proofs.is_tidy.Goals as goal
 
 pub returns-then-not-is_expression : goal.returns-then-not-is_expression

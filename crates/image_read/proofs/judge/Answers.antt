@@ -4,8 +4,6 @@ use mathlib.Core.Path.{◌≡◌, sym, ◌∙◌}
 use mathlib.Core.Bool.{Bool, true, ◌&&◌}
 use native.Mathlib.Omega.{arith}
 use lib.ListN.{drop, length-take}
-use borrow.Author.Rules.{rules}
-use borrow.Author.Tests.{not-true, not-false}
 use Rattle.image_fields.specs.Fields.{bits_in}
 use Rattle.image_laws.specs.Reading.{padding}
 use Rattle.image_read.specs.Parts.{few_in, nodes_in, ordered_in, output_counts, divisor_counts}

@@ -1,5 +1,4 @@
 -- `image_read::read` meets its contract. The fields before the nodes, and then the nodes. Assumes nothing.
-use borrow.Author.Rules.{rules}
 use Rattle.image_read.proofs.{Telling.read-refused, Telling.read-on}
 use Rattle.image_read.proofs.read.Goals as goal
 

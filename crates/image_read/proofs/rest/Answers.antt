@@ -1,12 +1,11 @@
 -- `image_read::rest` meets its contract. The outputs are those of the definition. Assumes nothing.
 use mathlib.Core.Path.{refl}
-use borrow.Author.Rules.{rules}
 use Rattle.image_read.proofs.{Telling.outputs-refused}
 use Rattle.image_read.proofs.rest.Goals as goal
 
 pub finish-requires : goal.finish-requires
 finish-requires c =
-    record { (goal.at.finish-requires c).Start = c.args.s; given = c.args.given; half = c.requires; cubes = refl; outputs = rw c.in-On.is at c.nodes-o.ensures }
+    record { s = c.args.s; given = c.args.given; half = c.requires; cubes = refl; outputs = rw c.in-On.is at c.nodes-o.ensures }
 
 pub returns-in-Bad : goal.returns-in-Bad
 returns-in-Bad c =

@@ -1,5 +1,4 @@
 -- `image_read::sizes_of` meets its contract. Assumes nothing.
-use borrow.Author.Rules.{rules}
 use borrow.Author.Tests.{lt-leb, le-leb}
 use Rattle.image_read.proofs.sizes_of.Goals as goal
 

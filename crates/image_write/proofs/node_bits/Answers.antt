@@ -2,7 +2,6 @@
 use Prim.Native.Nat.{ℕ}
 use mathlib.Core.{Path.◌≡◌, Path.◌∙◌, List.List}
 use native.Mathlib.Omega.{arith}
-use borrow.Author.Rules.{rules}
 use borrow.Author.Tests.{lt-ltb}
 use Rattle.expression.{specs.Words.cubes_of, specs.Expression.literals_of, proofs.Words.literals-most}
 use Rattle.image_laws.proofs.Fielding.{node-bits-length}

@@ -1,13 +1,10 @@
 -- The answers of `image_write::nodes_bits`.
-use Prim.Native.Nat.{◌+◌, ◌*◌, ◌-◌, ◌≤◌}
-use mathlib.Core.Path.{◌≡◌, ◌∙◌, ap}
+use mathlib.Core.Path.{◌∙◌, ap}
 use native.Mathlib.Omega.{arith}
 use lib.ListN.{length, length-append}
-use borrow.Author.Rules.{rules}
 use Rattle.expression.specs.Words.{cubes_of}
 use Rattle.image_fields.specs.Fields.{field_bits}
 use Rattle.image_laws.specs.Image.{node_fields}
-use Rattle.image_write.specs.Parts.{bits_from, most_held_bits}
 use Rattle.image_write.proofs.Following.{nodes-next, nodes-none, node-few}
 use Rattle.image_write.proofs.nodes_bits.Goals as goal
 

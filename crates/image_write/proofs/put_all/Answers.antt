@@ -2,7 +2,6 @@
 use Prim.Native.Nat.{ℕ, ◌+◌}
 use mathlib.Core.{Bool.Bool, List.List, List.◌++◌}
 use native.Mathlib.Omega.{arith}
-use borrow.Author.Rules.{rules}
 use Rattle.image_fields.specs.Fields.{field_bits}
 use Rattle.image_laws.specs.Image.{head_fields}
 use Rattle.image_write.specs.Parts.{bits_from, all_bits}

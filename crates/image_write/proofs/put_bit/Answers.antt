@@ -1,6 +1,5 @@
 -- `image_write::put_bit` meets its contract: a new byte, or one more bit in the last. Assumes nothing.
 use mathlib.Core.Path.{refl}
-use borrow.Author.Rules.{rules}
 use Rattle.image_write.proofs.Laying.{bit-new, bit-old, bit-fits}
 use Rattle.image_write.proofs.put_bit.Goals as goal
 

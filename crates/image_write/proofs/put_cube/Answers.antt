@@ -3,7 +3,6 @@ use mathlib.Core.{Path.◌≡◌, Path.ap, Bool.Bool}
 use mathlib.Core.List.{List, ◌∷◌, ◌++◌}
 use Prim.Native.Nat.{ℕ}
 use native.Mathlib.Omega.{arith}
-use borrow.Author.Rules.{rules}
 use lib.ListN.{length}
 use Rattle.cube.specs.Cube.{lits}
 use Rattle.image_fields.specs.Fields.{field_bits}

@@ -1,5 +1,5 @@
 -- The answers of `image_write::put_field`.
-use Prim.Native.Nat.{◌-◌, ◌/◌, ◌^◌, ◌≤◌}
+use Prim.Native.Nat.{◌-◌, ◌/◌, ◌^◌}
 use mathlib.Core.List.{[], ◌∷◌, ◌++◌}
 use lib.Bits.{bit_and}
 use lib.Dec.{eqb}

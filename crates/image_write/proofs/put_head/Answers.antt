@@ -2,7 +2,6 @@
 use Prim.Native.Nat.{ℕ}
 use mathlib.Core.{Bool.Bool, List.List, List.◌++◌}
 use native.Mathlib.Omega.{arith}
-use borrow.Author.Rules.{rules}
 use Rattle.image_fields.specs.Fields.{bits_of, field_bits}
 use Rattle.image_laws.specs.{Widths.edition_field, Widths.edition1, Image.head_fields}
 use Rattle.image_laws.proofs.Fielding.{inputs_bits, outputs_bits, divisors_bits}

@@ -1,8 +1,7 @@
 -- The answers of `image_write::put_node`.
 use mathlib.Core.{Bool.Bool, List.List, List.◌++◌}
-use Prim.Native.Nat.{ℕ, ◌+◌, ◌-◌, ◌≤◌}
+use Prim.Native.Nat.{ℕ, ◌+◌}
 use native.Mathlib.Omega.{arith}
-use borrow.Author.Rules.{rules}
 use Rattle.cube.specs.Cube.{lits}
 use Rattle.expression.specs.Words.{cubes_of}
 use Rattle.image_fields.specs.Fields.{field_bits}

@@ -1,8 +1,7 @@
 -- The answers of `image_write::put_nodes`.
 use mathlib.Core.List.{◌++◌}
-use Prim.Native.Nat.{◌+◌, ◌-◌, ◌≤◌}
+use Prim.Native.Nat.{◌+◌}
 use native.Mathlib.Omega.{arith}
-use borrow.Author.Rules.{rules}
 use Rattle.expression.specs.Words.{cubes_of}
 use Rattle.image_fields.specs.Fields.{field_bits}
 use Rattle.image_laws.specs.Image.{node_fields}

@@ -1,14 +1,7 @@
 -- `image_write::put_nodes` meets its contract. The loop's invariant: the fields of the nodes from i on are due. Assumes nothing.
-use mathlib.Core.List.{◌++◌}
-use Prim.Native.Nat.{◌+◌, ◌-◌, ◌≤◌}
-use native.Mathlib.Omega.{arith}
-use borrow.Author.Rules.{rules}
-use Rattle.expression.specs.Words.{cubes_of}
-use Rattle.image_fields.specs.Fields.{field_bits}
-use Rattle.image_laws.specs.Image.{node_fields}
+use Prim.Native.Nat.{◌-◌, ◌≤◌}
 use Rattle.image_write.specs.Parts.{bits_from}
-use Rattle.image_write.proofs.Laying.{Going, going-all, going-as, going_next, going-ready, going_done}
-use Rattle.image_write.proofs.{Following.nodes-next, Following.nodes-none}
+use Rattle.image_write.proofs.Laying.{Going}
 use Rattle.image_write.proofs.put_nodes.Given as goal
 
 abbrev pub invariant-loop-i : goal.invariant-loop-i

@@ -1,7 +1,6 @@
 -- `image_write::worth` meets its contract. Assumes nothing.
 use Prim.Native.Nat.{◌-◌, ◌<◌}
 use native.Mathlib.Omega.{arith}
-use borrow.Author.Rules.{rules}
 use Rattle.sets.proofs.Digits.{shifted_one}
 use Rattle.image_write.proofs.worth.Goals as goal
 

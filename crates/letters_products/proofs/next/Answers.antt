@@ -1,6 +1,5 @@
 -- `letters_products::next` meets its contract. Assumes nothing.
 use mathlib.Core.Path.{sym, ◌∙◌, ap}
-use borrow.Author.Rules.{rules}
 use Rattle.cube.specs.Cube.{answer}
 use Rattle.letters_products.specs.Products.{number_of}
 use Rattle.letters_products.proofs.next.Goals as goal

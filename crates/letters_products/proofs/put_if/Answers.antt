@@ -1,7 +1,6 @@
 -- `letters_products::put_if` meets its contract. Assumes nothing.
 use mathlib.Core.Path.{refl}
 use native.Mathlib.Omega.{arith}
-use borrow.Author.Rules.{rules}
 use Rattle.letters.proofs.Laying.{due_all, due-done}
 use Rattle.letters_products.proofs.put_if.Goals as goal
 

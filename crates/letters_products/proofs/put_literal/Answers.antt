@@ -2,7 +2,6 @@
 use mathlib.Core.Path.{sym, ap, ◌∙◌}
 use mathlib.Core.List.{◌++◌}
 use native.Mathlib.Omega.{arith}
-use borrow.Author.Rules.{rules}
 use Rattle.letters.specs.Letters.{name_text}
 use Rattle.letters.proofs.Laying.{Due, due_all, due-as, due-next, due-last}
 use Rattle.letters_products.specs.Products.{literal_text}

@@ -1,17 +1,10 @@
 -- `letters_products::put_product` meets its contract. The loop's invariant: the literals from a number on are due. Assumes nothing.
-use Prim.Native.Nat.{ℕ, ◌+◌, ◌-◌, ◌*◌}
-use mathlib.Core.Path.{◌≡◌, refl, ◌∙◌}
-use mathlib.Core.Bool.{cond}
-use mathlib.Core.List.{List, [], ◌∷◌, ◌++◌}
-use native.Mathlib.Omega.{arith}
-use borrow.Author.Rules.{rules}
-use lib.Dec.{ltb, leb}
+use Prim.Native.Nat.{◌-◌, ◌*◌}
+use mathlib.Core.Path.{◌≡◌}
 use lib.ListN.{length}
-use Rattle.sets.specs.Sets.{first_from}
 use Rattle.cube.specs.Cube.{width, lits}
-use Rattle.letters.proofs.Laying.{Due, due_all, due-as, due-next, due-done, due-trans, laid_next}
-use Rattle.letters_products.specs.Products.{literal_text, cube_text, number_of}
-use Rattle.letters_products.proofs.Turns.{text_from, text-done, text-start, text-next, next_past}
+use Rattle.letters.proofs.Laying.{Due}
+use Rattle.letters_products.proofs.Turns.{text_from}
 use Rattle.letters_products.proofs.put_product.Given as goal
 
 abbrev pub invariant-loop-l : goal.invariant-loop-l

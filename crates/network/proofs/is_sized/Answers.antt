@@ -1,5 +1,4 @@
 -- `network::is_sized` meets its contract: the struct's own numbers and counts are tested. Assumes nothing.
-use borrow.Author.Rules.{rules}
 use Rattle.network.proofs.is_sized.Goals as goal
 
 pub returns : goal.returns

@@ -2,13 +2,11 @@
 use mathlib.Core.Path.{◌≡◌, sym, ◌∙◌, ap}
 use mathlib.Core.{Bool.true, List.[]}
 use native.Mathlib.Omega.{arith}
-use borrow.Author.Tests.{not-true, not-false}
 use lib.Dec.{leb}
 use Rattle.network.specs.{Parts.held_in, declared.Network.Network}
 use Rattle.network.specs.Held.{up_to, most_cubes, most_inputs, most_outputs}
 use Rattle.network.proofs.{Holding.up-out}
 use Rattle.network.proofs.Limits.{sized-inputs, sized-outputs, sized-variables, sized-cubes}
-use borrow.Author.Rules.{rules}
 use Rattle.network.proofs.is_within.Goals as goal
 use Rattle.network.proofs.is_within.Goals.{After-up_to, Else-not-up_to, Else-not-up_to-2}
 

@@ -42,20 +42,18 @@ pub overflow_mul-r-else-within : goal.overflow_mul-r-else-within
 overflow_mul-r-else-within c = omega (arith, small (goal.at.overflow_mul-r-else-within c).At-loop-j)
 
 pub loop-j-preserved-then-within : goal.loop-j-preserved-then-within
-loop-j-preserved-then-within c =
-    (
-      omega arith,
-      collected-more _ (held (goal.at.loop-j-preserved-then-within c).At-loop-j) [] c.loop-j.j (c.loop-j.j - 1) c.loop-j.r _ true (omega arith) (omega (arith, many (goal.at.loop-j-preserved-then-within c).Start))
-          c.loop-j.invariant.1 (tested (goal.at.loop-j-preserved-then-within c).After-within ∙ c.if-within.true) (omega arith),
-    )
+loop-j-preserved-then-within c = (
+  omega arith,
+  collected-more _ (held (goal.at.loop-j-preserved-then-within c).At-loop-j) [] c.loop-j.j (c.loop-j.j - 1) c.loop-j.r _ true (omega arith) (omega (arith, many (goal.at.loop-j-preserved-then-within c).Start))
+      c.loop-j.invariant.1 (tested (goal.at.loop-j-preserved-then-within c).After-within ∙ c.if-within.true) (omega arith),
+)
 
 pub loop-j-preserved : goal.loop-j-preserved
-loop-j-preserved c =
-    (
-      omega arith,
-      collected-more _ (held (goal.at.loop-j-preserved c).At-loop-j) [] c.loop-j.j (c.loop-j.j - 1) c.loop-j.r _ false (omega arith) (omega (arith, many (goal.at.loop-j-preserved c).Start))
-          c.loop-j.invariant.1 (tested (goal.at.loop-j-preserved c).After-within ∙ c.if-within.false) (omega arith),
-    )
+loop-j-preserved c = (
+  omega arith,
+  collected-more _ (held (goal.at.loop-j-preserved c).At-loop-j) [] c.loop-j.j (c.loop-j.j - 1) c.loop-j.r _ false (omega arith) (omega (arith, many (goal.at.loop-j-preserved c).Start))
+      c.loop-j.invariant.1 (tested (goal.at.loop-j-preserved c).After-within ∙ c.if-within.false) (omega arith),
+)
 
 pub returns : goal.returns
 returns c = collected-all _ (held (goal.at.returns c).At-loop-j) c.loop-j.r

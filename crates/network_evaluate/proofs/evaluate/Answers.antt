@@ -1,7 +1,6 @@
 -- `network_evaluate::evaluate` meets its contract: it answers by the rules, and then as the definition. Assumes nothing.
 use mathlib.Core.Path.{◌≡◌, sym, ◌∙◌}
 use mathlib.Core.Bool.{true}
-use borrow.Author.Rules.{rules}
 use Rattle.network.{specs.Held.rules, proofs.Ruling.accepted-rules, proofs.Ruling.refused-rules}
 use Rattle.network_evaluate.proofs.Answering.{evaluated-no, evaluated-is}
 use Rattle.network_evaluate.proofs.evaluate.Goals as goal

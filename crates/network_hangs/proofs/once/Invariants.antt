@@ -20,8 +20,8 @@ use Rattle.network_hangs.proofs.once.Given as goal
 
 abbrev pub invariant-loop-i : goal.invariant-loop-i
 invariant-loop-i l =
-    (l.i ≤ l.k) × ((l : List ℕ) → Marks (lits l.set) l → Gathers (lits l.all) (λ v. any (asks l v) (drop l.i (net_at l.n l.m l.k l.counts l.words).divisors))
-    (λ v. mem v (union l (read_by (net_at l.n l.m l.k l.counts l.words) l))))
+    (l.i ≤ l.k) × ((x : List ℕ) → Marks (lits l.set) x → Gathers (lits l.all) (λ v. any (asks x v) (drop l.i (net_at l.n l.m l.k l.counts l.words).divisors))
+    (λ v. mem v (union x (read_by (net_at l.n l.m l.k l.counts l.words) x))))
 
 abbrev pub decreases-loop-i : goal.decreases-loop-i
 decreases-loop-i l = l.k - l.i

@@ -44,12 +44,11 @@ returns-then-contains-every c =
     (tested (goal.at.returns-then-contains-every c).After-contains ∙ unlike _ _ c.if-contains-every.true)) ∙ c.loop-i.invariant.1
 
 pub loop-i-preserved : goal.loop-i-preserved
-loop-i-preserved c =
-    (
-      search rules,
-      sym (test_on (cubes (goal.at.loop-i-preserved c).At-loop-i) c.loop-i.i (λ x. sub x (all_of (goal.at.loop-i-preserved c).At-loop-i)) [] (omega arith) _ (tested (goal.at.loop-i-preserved c).After-contains ∙ alike _ _ c.if-contains-every.false))
-          ∙ c.loop-i.invariant.1,
-    )
+loop-i-preserved c = (
+  search rules,
+  sym (test_on (cubes (goal.at.loop-i-preserved c).At-loop-i) c.loop-i.i (λ x. sub x (all_of (goal.at.loop-i-preserved c).At-loop-i)) [] (omega arith) _ (tested (goal.at.loop-i-preserved c).After-contains ∙ alike _ _ c.if-contains-every.false))
+      ∙ c.loop-i.invariant.1,
+)
 
 pub returns : goal.returns
 returns c =

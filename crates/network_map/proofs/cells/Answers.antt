@@ -9,11 +9,8 @@ use Rattle.network.specs.{Held.most_outputs, Held.most_variables, declared.Netwo
 use Rattle.network_reads.{specs.Reading.Marks, proofs.Marking.marks-plain}
 use Rattle.network_map.specs.{Cells.row_of, Parts.RowSet}
 use borrow.Author.Rules.{rules}
+use Rattle.network_map.proofs.cells.Invariants.{Rows}
 use Rattle.network_map.proofs.cells.Goals as goal
-
--- the rows before row j
-abbrev Rows : Network → List Bool → ℕ → Type 0
-Rows n l j = (k v : ℕ) → k < j → v < most_variables → get_or l (k * most_variables + v) false ≡ mem v (row_of n k)
 
 -- a row more
 next : (n : Network) (l m : List Bool) (j : ℕ) (set : List ℕ) → Marks set (row_of n j) → RowSet l m j set → Rows n l j → Rows n m (j + 1)

@@ -11,6 +11,10 @@ use Rattle.network_map.specs.{Cells.row_of, Parts.RowSet}
 use borrow.Author.Rules.{rules}
 use Rattle.network_map.proofs.cells.Given as goal
 
+-- the rows before row j
+abbrev pub Rows : Network → List Bool → ℕ → Type 0
+Rows n l j = (k v : ℕ) → k < j → v < most_variables → get_or l (k * most_variables + v) false ≡ mem v (row_of n k)
+
 abbrev pub invariant-loop-j : goal.invariant-loop-j
 invariant-loop-j l = (l.j ≤ most_outputs) × (length l.all ≡ most_outputs * most_variables) × Rows l.n l.all l.j
 

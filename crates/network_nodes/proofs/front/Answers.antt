@@ -1,5 +1,4 @@
 -- `network_nodes::front` meets its contract: the cubes up to a start. Assumes nothing.
-use borrow.Author.Rules.{rules}
 use Rattle.network_nodes.proofs.{Starting.front-is}
 use Rattle.network_nodes.proofs.front.Goals as goal
 

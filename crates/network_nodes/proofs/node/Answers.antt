@@ -2,7 +2,6 @@
 use Prim.Native.Nat.{◌<◌, min}
 use mathlib.Core.Path.{◌∙◌, ap}
 use native.Mathlib.Omega.{arith}
-use borrow.Author.Rules.{rules}
 use lib.ListN.{length}
 use Rattle.network_nodes.proofs.{Starting.node-is, Starting.node-past}
 use Rattle.network_nodes.proofs.node.Goals as goal

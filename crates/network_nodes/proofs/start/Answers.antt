@@ -2,7 +2,6 @@
 use Prim.Native.Nat.{min}
 use mathlib.Core.Path.{◌∙◌, ap}
 use native.Mathlib.Omega.{arith}
-use borrow.Author.Rules.{rules}
 use Rattle.network_nodes.proofs.{Starting.start-all}
 use Rattle.network_nodes.proofs.start.Goals as goal
 

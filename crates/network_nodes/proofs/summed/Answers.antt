@@ -1,8 +1,7 @@
 -- The answers of `network_nodes::summed`.
-use Prim.Native.Nat.{◌+◌, ◌-◌, ◌≤◌}
+use Prim.Native.Nat.{◌+◌}
 use mathlib.Core.Path.{◌≡◌, ap}
 use native.Mathlib.Omega.{arith}
-use borrow.Author.Rules.{rules}
 use lib.ListN.{take}
 use Rattle.sets.{specs.Lists.total, proofs.Lists.total-take-le}
 use Rattle.network_nodes.proofs.{Starting.start-next}

@@ -1,11 +1,8 @@
 -- `network_nodes::summed` meets its contract. The loop's invariant: the sum is that of the counts passed, and not past the most. Assumes nothing.
-use Prim.Native.Nat.{◌+◌, ◌-◌, ◌≤◌}
-use mathlib.Core.Path.{◌≡◌, ap}
-use native.Mathlib.Omega.{arith}
-use borrow.Author.Rules.{rules}
+use Prim.Native.Nat.{◌-◌, ◌≤◌}
+use mathlib.Core.Path.{◌≡◌}
 use lib.ListN.{take}
-use Rattle.sets.{specs.Lists.total, proofs.Lists.total-take-le}
-use Rattle.network_nodes.proofs.{Starting.start-next}
+use Rattle.sets.{specs.Lists.total}
 use Rattle.network_nodes.proofs.summed.Given as goal
 
 abbrev pub invariant-loop-j : goal.invariant-loop-j

@@ -21,7 +21,7 @@ loop-i-preserved c =
     let i = c.loop-i.i in
     let r : Marks (lits c.variables.result) (variables_of (get_or f i [])) =
     subst (λ x. Marks (lits c.variables.result) (variables_of x)) c.cube_at.ensures c.variables.ensures in
-    (omega arith, gather-more (variables_of (get_or f i [])) _ _ _ (λ c. reads-next f i (goal.at.loop-i-preserved c).After-variables (omega arith)) c.union-r.ensures r c.loop-i.invariant.1)
+    (omega arith, gather-more (variables_of (get_or f i [])) _ _ _ (λ v. reads-next f i v (omega arith)) c.union-r.ensures r c.loop-i.invariant.1)
 
 pub returns : goal.returns
 returns c =

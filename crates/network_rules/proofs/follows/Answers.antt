@@ -35,4 +35,4 @@ is_lawful-requires c = (small (goal.at.is_lawful-requires c).Else-not-is_listabl
 pub returns : goal.returns
 returns c =
     let n = c.args.n in
-    c.is_lawful.ensures ∙ sym (rules-as n (shape (goal.at.returns c).Else-not-is_listable) (allowed (goal.at.returns c).Else-not-is_listable) ∙ rw (sym c.is_acyclic.ensures ∙ not-false _ c.if-not-is_acyclic.left))
+    c.is_lawful.ensures ∙ sym (rules-as n (shape (goal.at.returns c).Else-not-is_listable) (allowed (goal.at.returns c).Else-not-is_listable) ∙ rw (sym c.is_acyclic.ensures ∙ c.if-not-is_acyclic.false))

@@ -4,7 +4,7 @@ use mathlib.Core.Bool.{true}
 use borrow.Author.Tests.{not-true, not-false}
 use Rattle.network.{specs.Held.rules, specs.Handed.Shaped, proofs.Handing.shape_of}
 use Rattle.network_rules.proofs.{Ruling.counted-no, Ruling.counted_is}
-use borrow.Author.Rules.{rules}
+use borrow.Author.Rules.{rules as steps}
 use Rattle.network_rules.proofs.literals.Goals as goal
 use Rattle.network_rules.proofs.literals.Goals.{Else-not-follows}
 
@@ -12,7 +12,7 @@ kept : (c : Else-not-follows) → rules c.args.n ≡ true
 kept c = sym c.follows.ensures ∙ c.if-not-follows.false
 
 shape : (c : Else-not-follows) → Shaped c.args.n
-shape c = shape_of _ (search rules) (search rules)
+shape c = shape_of _ (search steps) (search steps)
 
 pub returns-then-not-follows : goal.returns-then-not-follows
 returns-then-not-follows c = counted-no c.args.n (sym c.follows.ensures ∙ c.if-not-follows.true)

@@ -1,6 +1,5 @@
 -- `table::add_line` meets its contract: what the reading of a cube line says is what the table does with it. Assumes nothing.
 use Rattle.table.proofs.Adding.{cube-early, cube-early-too, cube-other, cube-behind, cube-over, cube-within}
-use borrow.Author.Rules.{rules}
 use Rattle.table.proofs.add_line.Goals as goal
 
 pub returns-then-s-eq0 : goal.returns-then-s-eq0

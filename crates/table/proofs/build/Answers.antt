@@ -1,13 +1,11 @@
 -- The answers of `table::build`.
-use mathlib.Core.{List.map, Path.◌≡◌}
-use Prim.Native.Nat.{ℕ, ◌-◌, ◌≤◌}
+use Prim.Native.Nat.{ℕ}
 use native.Mathlib.Omega.{arith}
-use lib.ListN.{length, length-replicate}
+use lib.ListN.{length-replicate}
 use Rattle.sets.specs.Lists.{from}
 use Rattle.expression.proofs.Words.{room-cubes}
-use Rattle.network.specs.Handed.{cube_slots, word_slots, LaidNodes}
+use Rattle.network.specs.Handed.{cube_slots, word_slots}
 use Rattle.network.proofs.Laying.{laid_none}
-use Rattle.table.specs.Parts.{formed}
 use Rattle.table.proofs.Building.{laid-room, laid-output, laid-outputs}
 use borrow.Author.Rules.{rules}
 use Rattle.table.proofs.build.Goals as goal
@@ -28,4 +26,4 @@ pub returns : goal.returns
 returns c = laid-outputs c.requires _ (omega arith) c.loop-j.invariant.2
 
 pub overflow_sub-counts : goal.overflow_sub-counts
-overflow_sub-counts c = omega ( arith, c.fill_output-to.ensures.next, )
+overflow_sub-counts c = omega (arith, c.fill_output-to.ensures.next)

@@ -1,9 +1,7 @@
 -- The answers of `table::collect`.
 use mathlib.Core.Path.{◌≡◌, refl, sym, ◌∙◌, subst}
-use mathlib.Core.Logic.{inl, inr}
-use Prim.Native.Nat.{ℕ, ◌-◌, ◌≤◌}
+use Prim.Native.Nat.{ℕ}
 use native.Mathlib.Omega.{arith}
-use lib.ListN.{length}
 use Rattle.expression.{specs.Words.Appends, proofs.Words.spare-length}
 use Rattle.table.specs.Parts.{pick}
 use Rattle.table.proofs.Picking.{pick-none, pick-skip, pick_put, pick-room}
@@ -21,15 +19,15 @@ overflow_add-to c =
 pub loop-i-preserved : goal.loop-i-preserved
 loop-i-preserved c =
     elim c.if-is_marked.branch [
-      | inl (w, p, q, r, o, k, e, n) ↦ rw (e, n) (
+      | goal.then-is_marked w ↦ rw (w.out-is, w.to-is) (
         omega arith,
-        pick_put _ c.requires.source c.loop-i.i (omega arith) c.loop-i.invariant.1 (sym c.is_marked.ensures ∙ w.taken) c.requires.fits q.ensures
-            r.ensures,
+        pick_put _ c.requires.source c.loop-i.i (omega arith) c.loop-i.invariant.1 (sym c.is_marked.ensures ∙ w.if-is_marked.true) c.requires.fits
+            w.cube_at.ensures w.put_cube.ensures,
         search rules,
       )
-      | inr (w, e, n) ↦ rw (e, n) (
+      | goal.else-is_marked w ↦ rw (w.out-is, w.to-is) (
         omega arith,
-        pick-skip _ c.requires.source c.loop-i.i (omega arith) c.loop-i.invariant.1 (sym c.is_marked.ensures ∙ w.left),
+        pick-skip _ c.requires.source c.loop-i.i (omega arith) c.loop-i.invariant.1 (sym c.is_marked.ensures ∙ w.if-is_marked.false),
         c.loop-i.invariant.2,
       )
     ]

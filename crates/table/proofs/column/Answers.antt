@@ -2,7 +2,6 @@
 use Prim.Native.Nat.{◌≤◌}
 use native.Mathlib.Omega.{arith}
 use lib.ListN.{length}
-use borrow.Author.Rules.{rules}
 use Rattle.table_columns.proofs.Faults.{place-bound}
 use Rattle.table.proofs.column.Goals as goal
 use Rattle.table.proofs.column.Goals.{After-place_of}

@@ -5,7 +5,6 @@ use borrow.Author.Tests.{eq-eqb, ne_eqb}
 use Rattle.table.specs.Table.{State, missing, finish}
 use Rattle.table.specs.{Meaning.Bounded, Parts.Stands}
 use Rattle.table.proofs.Standing.{wide-stored, tall-stored, agrees-unstated, agrees-not, agrees-so}
-use borrow.Author.Rules.{rules}
 use Rattle.table.proofs.finish.Goals as goal
 use Rattle.table.proofs.finish.Goals.{Else-s-eq0-2}
 

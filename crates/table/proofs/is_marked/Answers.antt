@@ -1,6 +1,5 @@
 -- `table::is_marked` meets its contract. Assumes nothing.
 use Rattle.sets.proofs.Digits.{bit_test}
-use borrow.Author.Rules.{rules}
 use Rattle.table.proofs.is_marked.Goals as goal
 
 pub returns : goal.returns

@@ -21,7 +21,7 @@ returns-in_default c =
 -- what was read, of which the outcome is made
 read-in : (q : In-Read) → (t : State) × (read_text q.args.text.now ≡ accepted t)
     × Stands t q.scan-scanned.result.state q.scan-scanned.new.words q.scan-scanned.new.marks
-read-in q = text-read _ _ q.args.text.now q.if-text-gt-MOST_BYTES.left q.scan-scanned.result q.scan-scanned.ensures q.in-Read.is
+read-in q = text-read _ _ q.args.text.now q.if-text-gt-MOST_BYTES.false q.scan-scanned.result q.scan-scanned.ensures q.in-Read.is
 
 pub build-requires : goal.build-requires
 build-requires c =

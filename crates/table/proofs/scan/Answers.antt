@@ -1,17 +1,14 @@
 -- The answers of `table::scan`.
-use Prim.Native.Nat.{◌+◌, ◌-◌, ◌≤◌}
-use mathlib.Core.Path.{◌≡◌, refl, sym, ◌∙◌, ap, subst}
-use mathlib.Core.Logic.{◌⊎◌, inl, inr}
+use Prim.Native.Nat.{◌-◌, ◌≤◌}
+use mathlib.Core.Path.{refl, sym, ◌∙◌, subst}
 use native.Mathlib.Omega.{arith}
 use lib.ListN.{length, drop, length-take}
-use denote.Enum.Declared.{tag_of}
 use Rattle.expression.proofs.Words.{same-room}
 use Rattle.table_lines.{specs.Text.lines_of, proofs.Lining.line-ends}
 use Rattle.table.specs.Table as table
-use Rattle.table.specs.{Table.read_lines, Parts.Scans, declared.State.State, declared.Scanned.Scanned}
-use Rattle.table.specs.declared.{Turn.Turn, Turn.TheVariants.Next}
-use Rattle.table.proofs.{Turn.the_type, Scanning.Remains, Scanning.left_there}
-use Rattle.table.proofs.Scanning.{Reading, reading-first, reading-rows, reading-roomy, reading-over, reading-next, reading-stop}
+use Rattle.table.specs.{Table.read_lines, Parts.Scans, declared.Scanned.Scanned}
+use Rattle.table.proofs.{Scanning.Remains, Scanning.left_there}
+use Rattle.table.proofs.Scanning.{reading-first, reading-rows, reading-roomy, reading-over, reading-next, reading-stop}
 use borrow.Author.Rules.{rules}
 use Rattle.table.proofs.scan.Goals as goal
 use Rattle.table.proofs.scan.Goals.{After-content_of-span, After-line_end-e}
@@ -31,26 +28,24 @@ left c = left_there _ _ c.loop-at-test.true c.line_end-e.ensures c.content_of-sp
 
 pub take_line-turn-requires : goal.take_line-turn-requires
 take_line-turn-requires c =
-    reading-roomy c.loop-at.invariant.4 (omega (arith, c.requires.short, c.loop-at-test.taken))
+    reading-roomy c.loop-at.invariant.4 (omega (arith, c.requires.short, c.loop-at-test.true))
     (same-room c.loop-at.words c.args.words.now c.loop-at.invariant.2 ∙ c.requires.places) (c.loop-at.invariant.3 ∙ c.requires.masks)
 
 pub stopped-requires : goal.stopped-requires
 stopped-requires c =
     let l = drop c.loop-at.at c.args.text.now in
-    (omega (arith, length-take (c.line_end-e.result - c.loop-at.at) l, ends (goal.at.stopped-requires c).After-line_end-e, c.requires.short), reading-rows c.loop-at.invariant.4)
-
--- a line that is not the first variant does not go on
-not-next : (p : Turn) → (tag_of the_type p ≡ 1) ⊎ (tag_of the_type p ≡ 2) → (s : State) → p ≡ Next s → ⊥
-not-next p (inl k) s i = omega (arith, ap (tag_of the_type) i)
-not-next p (inr k) s i = omega (arith, ap (tag_of the_type) i)
+    record {
+      l_len_bound = omega (arith, length-take (c.line_end-e.result - c.loop-at.at) l, ends (goal.at.stopped-requires c).After-line_end-e, c.requires.short);
+      rows_le_most_rows = reading-rows c.loop-at.invariant.4;
+    }
 
 pub returns-in_default : goal.returns-in_default
 returns-in_default c =
     subst (λ (x : Scanned). Scans (read_lines 1 (lines_of c.args.text.now) table.start) x c.take_line-turn.new.words
     c.take_line-turn.new.marks)
     (sym c.stopped.ensures)
-    (reading-stop c.loop-at.invariant.4 _ _ c.take_line-turn.result c.loop-at-test.taken c.line_end-e.ensures (left (goal.at.returns-in_default c).After-content_of-span).part c.take_line-turn.ensures
-    (not-next c.take_line-turn.result c.in_default.keys2))
+    (reading-stop c.loop-at.invariant.4 _ _ c.take_line-turn.result c.loop-at-test.true c.line_end-e.ensures (left (goal.at.returns-in_default c).After-content_of-span).part c.take_line-turn.ensures
+    (λ s. c.in_default.not-Next s))
 
 pub overflow_add-at : goal.overflow_add-at
 overflow_add-at c = record { fits = omega (arith, (ends (goal.at.overflow_add-at c).After-line_end-e).1, c.requires.short) }
@@ -59,15 +54,14 @@ pub overflow_add-line : goal.overflow_add-line
 overflow_add-line c = record { fits = omega (arith, ends (goal.at.overflow_add-line c).After-line_end-e, c.requires.short, c.loop-at.invariant.1) }
 
 pub loop-at-preserved : goal.loop-at-preserved
-loop-at-preserved c =
-    (
-      omega (arith, ends (goal.at.loop-at-preserved c).After-line_end-e),
-      omega (arith, ends (goal.at.loop-at-preserved c).After-line_end-e, c.loop-at.invariant.1),
-      search rules,
-      search rules,
-      reading-next c.loop-at.invariant.4 _ _ c.take_line-turn.result c.loop-at-test.taken c.line_end-e.ensures (left (goal.at.loop-at-preserved c).After-content_of-span).part c.take_line-turn.ensures _
-          c.in-Next.is,
-    )
+loop-at-preserved c = (
+  omega (arith, ends (goal.at.loop-at-preserved c).After-line_end-e),
+  omega (arith, ends (goal.at.loop-at-preserved c).After-line_end-e, c.loop-at.invariant.1),
+  search rules,
+  search rules,
+  reading-next c.loop-at.invariant.4 _ _ c.take_line-turn.result c.loop-at-test.true c.line_end-e.ensures (left (goal.at.loop-at-preserved c).After-content_of-span).part c.take_line-turn.ensures _
+      c.in-Next.is,
+)
 
 pub returns : goal.returns
 returns c = rw c.whole.ensures (reading-over c.loop-at.invariant.4 c.loop-at-test.false)

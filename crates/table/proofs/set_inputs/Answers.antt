@@ -2,7 +2,6 @@
 use mathlib.Core.Path.{refl}
 use Rattle.table.specs.Table.{with_wide, set_wide}
 use Rattle.table.proofs.{Standing.wide-stored}
-use borrow.Author.Rules.{rules}
 use Rattle.table.proofs.set_inputs.Goals as goal
 
 pub returns : goal.returns

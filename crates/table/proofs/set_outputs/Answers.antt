@@ -2,7 +2,6 @@
 use mathlib.Core.Path.{refl}
 use Rattle.table.specs.Table.{with_tall, set_tall}
 use Rattle.table.proofs.{Standing.tall-stored}
-use borrow.Author.Rules.{rules}
 use Rattle.table.proofs.set_outputs.Goals as goal
 
 pub returns : goal.returns

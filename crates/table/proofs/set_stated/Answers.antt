@@ -3,7 +3,6 @@ use mathlib.Core.Path.{refl}
 use lib.Dec.{leb-zero}
 use Rattle.table.specs.Table.{with_stated, set_stated}
 use Rattle.table.proofs.{Standing.stated-missing}
-use borrow.Author.Rules.{rules}
 use Rattle.table.proofs.set_stated.Goals as goal
 
 pub returns : goal.returns

@@ -1,5 +1,4 @@
 -- `table::stopped` meets its contract. Assumes nothing.
-use borrow.Author.Rules.{rules}
 use Rattle.table.proofs.stopped.Goals as goal
 
 pub returns-in-Next : goal.returns-in-Next

@@ -1,6 +1,5 @@
 -- `table::take_line` meets its contract: each kind of line has its function. Assumes nothing.
 use mathlib.Core.Path.{◌∙◌, sym}
-use borrow.Author.Rules.{rules}
 use Rattle.table.proofs.take_line.Goals as goal
 
 pub returns-in-Empty : goal.returns-in-Empty

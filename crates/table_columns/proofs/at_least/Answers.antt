@@ -1,6 +1,5 @@
 -- `table_columns::at_least` meets its contract: the larger of the two. Assumes nothing.
 use native.Mathlib.Omega.{arith}
-use borrow.Author.Rules.{rules}
 use Rattle.table_columns.proofs.at_least.Goals as goal
 
 pub returns-then-r-k : goal.returns-then-r-k

@@ -1,6 +1,5 @@
 -- `table_columns::cubes_reach` meets its contract: a cube line where both numbers are known, none else. Assumes nothing.
 use mathlib.Core.Path.{sym}
-use borrow.Author.Rules.{rules}
 use Rattle.table_columns.specs.Columns.{unless_zero}
 use Rattle.table_columns.proofs.Counting.{far-next, far_none, cubes-less, cubes-known}
 use Rattle.table_columns.proofs.cubes_reach.Goals as goal

@@ -1,5 +1,4 @@
 -- `table_columns::farthest` meets its contract: the forms one by one, from the last. Assumes nothing.
-use borrow.Author.Rules.{rules}
 use Rattle.table_columns.proofs.{Counting.far-next}
 use Rattle.table_columns.proofs.farthest.Goals as goal
 

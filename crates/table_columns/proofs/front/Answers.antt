@@ -1,11 +1,9 @@
 -- The answers of `table_columns::front`.
-use Prim.Native.Nat.{◌+◌, ◌-◌, ◌<◌, ◌≤◌}
-use mathlib.Core.Path.{◌≡◌, sym, ◌∙◌}
+use Prim.Native.Nat.{◌<◌}
+use mathlib.Core.Path.{sym, ◌∙◌}
 use native.Mathlib.Omega.{arith}
 use lib.ListN.{length, drop}
-use borrow.Author.Tests.{not-true, not-false, ltb-true, ltb-false}
-use borrow.Author.Rules.{rules}
-use Rattle.table_columns.specs.{Forms.front, Parts.test_of}
+use Rattle.table_columns.specs.{Parts.test_of}
 use Rattle.table_columns.proofs.Counting.{front-start, front-stop, front-on, front-full, front-done}
 use Rattle.table_columns.proofs.front.Goals as goal
 use Rattle.table_columns.proofs.front.Goals.{Then-i-c}

@@ -1,12 +1,8 @@
 -- `table_columns::front` meets its contract. The loop's invariant: k bytes are counted, and the count goes on at i. Assumes nothing.
-use Prim.Native.Nat.{◌+◌, ◌-◌, ◌<◌, ◌≤◌}
-use mathlib.Core.Path.{◌≡◌, sym, ◌∙◌}
-use native.Mathlib.Omega.{arith}
-use lib.ListN.{length, drop}
-use borrow.Author.Tests.{not-true, not-false, ltb-true, ltb-false}
-use borrow.Author.Rules.{rules}
+use Prim.Native.Nat.{◌+◌, ◌-◌, ◌≤◌}
+use mathlib.Core.Path.{◌≡◌}
+use lib.ListN.{drop}
 use Rattle.table_columns.specs.{Forms.front, Parts.test_of}
-use Rattle.table_columns.proofs.Counting.{front-start, front-stop, front-on, front-full, front-done}
 use Rattle.table_columns.proofs.front.Given as goal
 
 abbrev pub invariant-loop-k : goal.invariant-loop-k

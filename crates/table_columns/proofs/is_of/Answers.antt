@@ -1,6 +1,5 @@
 -- `table_columns::is_of` meets its contract: each sort has its test. Assumes nothing.
 use mathlib.Core.{Path.ap, Bool.not}
-use borrow.Author.Rules.{rules}
 use Rattle.table_columns.proofs.is_of.Goals as goal
 
 pub returns-in-Blank : goal.returns-in-Blank

@@ -1,6 +1,5 @@
 -- `table_columns::is_place` meets its contract: a mark, or `-`. Assumes nothing.
 use mathlib.Core.Path.{sym, ◌∙◌}
-use borrow.Author.Rules.{rules}
 use Rattle.table_columns.proofs.{Bytes.place-mark}
 use Rattle.table_columns.proofs.is_place.Goals as goal
 

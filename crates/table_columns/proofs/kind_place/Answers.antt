@@ -1,8 +1,5 @@
 -- `table_columns::kind_place` meets its contract: only a line of no kind goes anywhere. Assumes nothing.
-use mathlib.Core.{Path.◌≡◌, Path.sym, Logic.inl, Logic.inr}
-use native.Mathlib.Omega.{arith}
-use borrow.Author.Rules.{rules}
-use Rattle.table_kinds.specs.declared.Kind.TheVariants.{Other}
+use mathlib.Core.{Path.sym}
 use Rattle.table_columns.specs.Columns.{unless_zero}
 use Rattle.table_columns.proofs.{Counting.kind-none}
 use Rattle.table_columns.proofs.kind_place.Goals as goal
@@ -13,11 +10,4 @@ returns-in-Other c = rw c.in-Other.is c.farthest.ensures
 pub returns-in_default : goal.returns-in_default
 returns-in_default c =
     let a = c.args in
-    let other : a.kind ≡ Other → ⊥ = λ q. elim (rw q at c.in_default.keys2) [
-      | inl w ↦ omega arith
-      | inr (inl w) ↦ omega arith
-      | inr (inr (inl w)) ↦ omega arith
-      | inr (inr (inr (inl w))) ↦ omega arith
-      | inr (inr (inr (inr w))) ↦ omega arith
-    ] in
-    sym (kind-none a.kind (unless_zero a.n) (unless_zero a.m) a.c.now other)
+    sym (kind-none a.kind (unless_zero a.n) (unless_zero a.m) a.c.now c.in_default.not-Other)

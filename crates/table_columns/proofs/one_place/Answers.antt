@@ -1,10 +1,8 @@
 -- The answers of `table_columns::one_place`.
-use Prim.Native.Nat.{◌+◌, ◌-◌, ◌≤◌}
+use Prim.Native.Nat.{◌+◌}
 use mathlib.Core.Path.{◌≡◌, sym, ◌∙◌}
-use mathlib.Core.Logic.{inl, inr}
 use native.Mathlib.Omega.{arith}
-use lib.ListN.{length, drop}
-use borrow.Author.Rules.{rules}
+use lib.ListN.{drop}
 use Rattle.table_columns.specs.Columns.{one_place}
 use Rattle.table_columns.proofs.Counting.{one-stop, one-passed, one_on, one-done}
 use Rattle.table_columns.proofs.one_place.Goals as goal
@@ -18,8 +16,8 @@ loop-i-preserved c =
     let o = c.args.o.now in
     let i = c.loop-i.i in
     let e : (i + 1) + one_place c.if-o-i-eq49.left (drop (i + 1) o) ≡ i + one_place c.loop-i.left (drop i o) = elim c.if-o-i-eq49.branch [
-      | inl (t, z, q) ↦ rw q (sym (one-passed o i c.loop-i.left c.loop-i-test.true t.taken z.left))
-      | inr (t, q) ↦ rw q (sym (one_on o i c.loop-i.left c.loop-i-test.true t.left))
+      | goal.then-o-i-eq49+else-left-eq0 w ↦ rw w.left-is (sym (one-passed o i c.loop-i.left c.loop-i-test.true w.if-o-i-eq49.true w.if-left-eq0.false))
+      | goal.else-o-i-eq49 w ↦ rw w.left-is (sym (one_on o i c.loop-i.left c.loop-i-test.true w.if-o-i-eq49.false))
     ] in
     (omega arith, e ∙ c.loop-i.invariant.1)
 

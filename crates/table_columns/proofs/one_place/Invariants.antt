@@ -1,12 +1,8 @@
 -- `table_columns::one_place` meets its contract. The loop's invariant: the place sought is the same from i on. Assumes nothing.
 use Prim.Native.Nat.{◌+◌, ◌-◌, ◌≤◌}
-use mathlib.Core.Path.{◌≡◌, sym, ◌∙◌}
-use mathlib.Core.Logic.{inl, inr}
-use native.Mathlib.Omega.{arith}
+use mathlib.Core.Path.{◌≡◌}
 use lib.ListN.{length, drop}
-use borrow.Author.Rules.{rules}
 use Rattle.table_columns.specs.Columns.{one_place}
-use Rattle.table_columns.proofs.Counting.{one-stop, one-passed, one_on, one-done}
 use Rattle.table_columns.proofs.one_place.Given as goal
 
 abbrev pub invariant-loop-i : goal.invariant-loop-i

@@ -1,6 +1,5 @@
 -- `table_columns::place_in` meets its contract: by the number of the refusal. Assumes nothing.
 use borrow.Author.Tests.{eq-eqb, ne_eqb}
-use borrow.Author.Rules.{rules}
 use Rattle.table_columns.specs.Columns.{place_in}
 use Rattle.table_columns.proofs.{Counting.or-zero}
 use Rattle.table_columns.proofs.place_in.Goals as goal

@@ -3,7 +3,6 @@ use Prim.Native.Nat.{◌+◌, ◌-◌, ◌≤◌}
 use mathlib.Core.Path.{◌≡◌}
 use native.Mathlib.Omega.{arith}
 use lib.ListN.{length}
-use borrow.Author.Rules.{rules}
 use Rattle.table_columns.specs.Columns.{unless_zero, place_of}
 use Rattle.table_columns.proofs.{Counting.span-within, Counting.place_found}
 use Rattle.table_columns.proofs.place_of.Goals as goal

@@ -5,7 +5,6 @@ use mathlib.Core.List.{List, ◌∷◌}
 use native.Mathlib.Omega.{arith}
 use lib.ListN.{length, take, drop, get_or, length-map, drop_of_length-le}
 use lib.Seq.{length-take-le}
-use borrow.Author.Rules.{rules}
 use Rattle.table_columns.specs.Forms as good
 use Rattle.table_columns.specs.{Forms.front, Forms.limit, Forms.reach, Parts.part_of, Parts.form_of, Parts.places}
 use Rattle.table_columns.proofs.Counting.{no_part, part-next, reach-stop, reach-on, reach-inside, reach-done}
@@ -14,7 +13,7 @@ use Rattle.table_columns.proofs.reach.Goals.{After-front-k, Start}
 
 -- the form, and the room for its parts
 room : (s : Start) → length s.args.form.parts ≡ places
-room s = sym (length-map s.args.form.parts _) ∙ s.well_formed.0.1.1.1.0.1.0.1
+room s = s.well_formed.0.1.1.1.0.1.0.1
 
 -- the part that begins at a place, and those that follow it
 module _ (c : After-front-k) where
@@ -36,7 +35,7 @@ module _ (c : After-front-k) where
   onward : at + reach (part ∷ others) (drop at text) ≡ reach form text
   onward =
       let f = c.args.form in
-      let next = part-next f.parts f.count c.loop-i.i c.loop-i-test.taken (omega (arith, (let it : length c.args.form.parts ≡ places = sym (length-map c.args.form.parts _) ∙ c.well_formed.0.1.1.1.0.1.0.1 in it), c.requires)) in
+      let next = part-next f.parts f.count c.loop-i.i c.loop-i-test.true (omega (arith, (let it : length c.args.form.parts ≡ places = c.well_formed.0.1.1.1.0.1.0.1 in it), c.requires)) in
       ap (λ l. at + reach l (drop at text)) (sym next) ∙ c.loop-i.invariant.2
 
   counted : c.front-k.result ≡ front part.test (limit part.most (length text - at)) (drop at text)

@@ -3,7 +3,6 @@ use Prim.Native.Nat.{◌≤◌}
 use mathlib.Core.Path.{◌≡◌, sym, ◌∙◌, ap}
 use native.Mathlib.Omega.{arith}
 use lib.ListN.{length, drop, length-drop}
-use borrow.Author.Rules.{rules}
 use Rattle.table_lines.{specs.Text.trim_front, proofs.Ends.rest-whole, proofs.Ends.front-le}
 use Rattle.table_columns.proofs.{Counting.one-bound, Counting.row-short}
 use Rattle.table_columns.proofs.row_place.Goals as goal

@@ -3,7 +3,6 @@ use mathlib.Core.Path.{sym, ◌∙◌, ap}
 use lib.ListN.{length}
 use Rattle.table_kinds.specs.Kinds.{number_of}
 use Rattle.table_kinds.proofs.{Reading.argument-solid, Reading.argument-read}
-use borrow.Author.Rules.{rules}
 use Rattle.table_kinds.proofs.argument_of.Goals as goal
 
 pub returns-then-r-t : goal.returns-then-r-t

@@ -1,21 +1,21 @@
 -- The answers of `table_kinds::decimal_of`.
 use mathlib.Core.Path.{◌≡◌, refl, sym, ◌∙◌, ap}
-use mathlib.Core.{Logic.inl, Logic.inr, Option.some}
-use Prim.Native.Nat.{◌-◌, ◌^◌, ◌<◌, ◌≤◌}
+use mathlib.Core.{Option.some}
+use Prim.Native.Nat.{◌-◌, ◌<◌, ◌≤◌}
 use native.Mathlib.Omega.{arith}
-use borrow.Author.Tests.{ltb-true, ltb-false}
-use lib.ListN.{length, get_or, drop}
-use Rattle.sets.specs.Lists.{all}
+use lib.ListN.{length, get_or}
 use Rattle.sets.proofs.Places.{all-stop, all-on, all_done}
-use Rattle.letters.specs.Meaning.{read_back, is_digit}
+use Rattle.letters.specs.Meaning.{is_digit}
 use Rattle.table_kinds.proofs.Reading.{value-short, value-long, value-stray, value_read, read-on, read_done, digit_low, digit-high, digit-in}
 use Rattle.table_kinds.proofs.{Reading.digits_lt, Reading.digits-few}
-use borrow.Author.Rules.{rules}
 use Rattle.table_kinds.proofs.decimal_of.Goals as goal
 
 pub returns-then-t-eq0 : goal.returns-then-t-eq0
 returns-then-t-eq0 c = let t = c.args.t.now in
-    elim c.then-t-eq0.branch [ inl w ↦ value-short t w.taken | inr (w, x) ↦ value-long t (ltb-true 5 (length t) x.taken) ]
+    elim c.then-t-eq0.branch [
+      | goal.then-t-eq0-via-then-t-eq0 w ↦ value-short t w.if-t-eq0.true
+      | goal.then-t-eq0-via-else-t-eq0+then-t-gt-DIGITS w ↦ value-long t w.if-t-gt-DIGITS.true
+    ]
 
 pub loop-i-init : goal.loop-i-init
 loop-i-init c = let t = c.args.t.now in
@@ -26,8 +26,8 @@ returns-then-b-lt48 c = let t = c.args.t.now in
     let i = c.loop-i.i in
     let inside : i < length t = omega arith in
     elim c.then-b-lt48.branch [
-      | inl w ↦ value-stray t (sym c.loop-i.invariant.5 ∙ all-stop t i 0 inside is_digit (digit_low (get_or t i 0) w.taken))
-      | inr (w, x) ↦ value-stray t (sym c.loop-i.invariant.5 ∙ all-stop t i 0 inside is_digit (digit-high (get_or t i 0) (ltb-true 57 (get_or t i 0) x.taken)))
+      | goal.then-b-lt48-via-then-b-lt48 w ↦ value-stray t (sym c.loop-i.invariant.5 ∙ all-stop t i 0 inside is_digit (digit_low (get_or t i 0) w.if-b-lt48.true))
+      | goal.then-b-lt48-via-else-b-lt48+then-b-gt57 w ↦ value-stray t (sym c.loop-i.invariant.5 ∙ all-stop t i 0 inside is_digit (digit-high (get_or t i 0) w.if-b-gt57.true))
     ]
 
 pub overflow_mul-n : goal.overflow_mul-n

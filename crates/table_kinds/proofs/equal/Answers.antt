@@ -1,11 +1,7 @@
 -- The answers of `table_kinds::equal`.
-use mathlib.Core.Path.{◌≡◌, refl, sym, ◌∙◌}
-use Prim.Native.Nat.{◌-◌, ◌≤◌}
+use mathlib.Core.Path.{refl, sym, ◌∙◌}
 use native.Mathlib.Omega.{arith}
-use lib.ListN.{length, drop}
-use Rattle.sets.specs.Sets.{same}
 use Rattle.table_kinds.proofs.Reading.{same-other-length, same_stop_lem, same-on, same-done}
-use borrow.Author.Rules.{rules}
 use Rattle.table_kinds.proofs.equal.Goals as goal
 
 pub returns-then-a-b : goal.returns-then-a-b

@@ -1,11 +1,8 @@
 -- `table_kinds::equal` meets its contract. The loop's invariant: what is left is the same exactly when all is. Assumes nothing.
-use mathlib.Core.Path.{◌≡◌, refl, sym, ◌∙◌}
+use mathlib.Core.Path.{◌≡◌}
 use Prim.Native.Nat.{◌-◌, ◌≤◌}
-use native.Mathlib.Omega.{arith}
 use lib.ListN.{length, drop}
 use Rattle.sets.specs.Sets.{same}
-use Rattle.table_kinds.proofs.Reading.{same-other-length, same_stop_lem, same-on, same-done}
-use borrow.Author.Rules.{rules}
 use Rattle.table_kinds.proofs.equal.Given as goal
 
 abbrev pub invariant-loop-i : goal.invariant-loop-i

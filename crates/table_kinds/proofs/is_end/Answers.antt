@@ -1,7 +1,6 @@
 -- `table_kinds::is_end` meets its contract: the two names in turn. Assumes nothing.
 use mathlib.Core.Path.{sym, ◌∙◌}
 use Rattle.table_kinds.proofs.{Reading.ends-short, Reading.ends-long}
-use borrow.Author.Rules.{rules}
 use Rattle.table_kinds.proofs.is_end.Goals as goal
 
 pub returns-then-equal : goal.returns-then-equal

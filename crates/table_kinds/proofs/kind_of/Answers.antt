@@ -1,7 +1,6 @@
 -- `table_kinds::kind_of` meets its contract: the tests in turn. Assumes nothing.
 use mathlib.Core.Path.{sym, ◌∙◌}
 use Rattle.table_kinds.proofs.Reading.{kind-empty, kind-end, kind-named}
-use borrow.Author.Rules.{rules}
 use Rattle.table_kinds.proofs.kind_of.Goals as goal
 
 pub returns-then-c-eq0 : goal.returns-then-c-eq0

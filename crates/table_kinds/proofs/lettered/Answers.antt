@@ -4,7 +4,6 @@ use mathlib.Core.Path.{◌≡◌, sym, ◌∙◌, ap}
 use mathlib.Core.Option.{some}
 use Rattle.table_kinds.specs.Parts.{number_in, lettered}
 use Rattle.table_kinds.proofs.Reading.{lettered-none, lettered-inputs, lettered-outputs, lettered-products, lettered-other}
-use borrow.Author.Rules.{rules}
 use Rattle.table_kinds.proofs.lettered.Goals as goal
 use Rattle.table_kinds.proofs.lettered.Goals.{In-Of}
 

@@ -4,7 +4,6 @@ use lib.ListN.{get_or}
 use Rattle.table_lines.proofs.Ends.{rest-whole}
 use Rattle.table_kinds.specs.{Kinds.argument, Parts.lettered}
 use Rattle.table_kinds.proofs.Reading.{named-short, named-plain, named-dotted}
-use borrow.Author.Rules.{rules}
 use Rattle.table_kinds.proofs.named_of.Goals as goal
 
 pub returns-then-c-lt2 : goal.returns-then-c-lt2

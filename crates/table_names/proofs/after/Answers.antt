@@ -3,7 +3,6 @@ use mathlib.Core.Path.{◌∙◌}
 use native.Mathlib.Omega.{arith}
 use Rattle.table_lines.proofs.Ends.{rest-whole}
 use Rattle.table_names.proofs.Naming.{after_none, after-there, after-other}
-use borrow.Author.Rules.{rules}
 use Rattle.table_names.proofs.after.Goals as goal
 
 pub returns-then-text-eq0 : goal.returns-then-text-eq0

@@ -2,7 +2,6 @@
 use mathlib.Core.Path.{◌∙◌, ap}
 use borrow.Author.Tests.{lt-ltb, le-ltb}
 use Rattle.table_names.specs.Names.{after, after_number}
-use borrow.Author.Rules.{rules}
 use Rattle.table_names.proofs.after_number.Goals as goal
 
 pub returns-then-i-lt10 : goal.returns-then-i-lt10

@@ -6,7 +6,6 @@ use borrow.Author.Tests.{eq-eqb, ne_eqb}
 use Rattle.table_rows.specs.Lines.{is_place}
 use Rattle.table_names.specs.Names.{starts_place, begins_cube}
 use Rattle.table_names.proofs.{Naming.place_none, Naming.place-first}
-use borrow.Author.Rules.{rules}
 use Rattle.table_names.proofs.begins_cube.Goals as goal
 use Rattle.table_names.proofs.begins_cube.Goals.{Else-content-eq0}
 

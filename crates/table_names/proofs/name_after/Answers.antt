@@ -1,7 +1,6 @@
 -- `table_names::name_after` meets its contract. Assumes nothing.
 use mathlib.Core.Path.{◌∙◌}
 use Rattle.table_names.proofs.{Naming.name-there, Naming.name-missing}
-use borrow.Author.Rules.{rules}
 use Rattle.table_names.proofs.name_after.Goals as goal
 
 pub returns-then-name-text : goal.returns-then-name-text

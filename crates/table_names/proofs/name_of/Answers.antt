@@ -1,5 +1,5 @@
 -- The answers of `table_names::name_of`.
-use Prim.Native.Nat.{ℕ, ◌+◌, ◌-◌, ◌<◌, ◌≤◌}
+use Prim.Native.Nat.{ℕ, ◌+◌, ◌-◌, ◌≤◌}
 use mathlib.Core.Path.{◌≡◌, sym, ◌∙◌, ap}
 use mathlib.Core.List.{List, [], ◌∷◌}
 use native.Mathlib.Omega.{arith}
@@ -8,7 +8,6 @@ use Rattle.table_lines.specs.Text.{line_of, lines_of}
 use Rattle.table_lines.proofs.Lining.{line-part, line-ends}
 use Rattle.table_names.specs.Names.{named, begins_cube, first_name, name_of}
 use Rattle.table_names.proofs.Naming.{no_bytes, name-found, name-closed, name-later, names-from, names-over, name-few, name-many}
-use borrow.Author.Rules.{rules}
 use Rattle.table_names.proofs.name_of.Goals as goal
 use Rattle.table_names.proofs.name_of.Goals.{After-line_end-e, After-named-name, At-loop-at, Else-name-gt0}
 

@@ -1,14 +1,9 @@
 -- `table_names::name_of` meets its contract. The loop's invariant: the name is that of the lines from `at` on. Assumes nothing.
-use Prim.Native.Nat.{ℕ, ◌+◌, ◌-◌, ◌<◌, ◌≤◌}
-use mathlib.Core.Path.{◌≡◌, sym, ◌∙◌, ap}
-use mathlib.Core.List.{List, [], ◌∷◌}
-use native.Mathlib.Omega.{arith}
-use lib.ListN.{length, take, drop}
-use Rattle.table_lines.specs.Text.{line_of, lines_of}
-use Rattle.table_lines.proofs.Lining.{line-part, line-ends}
-use Rattle.table_names.specs.Names.{named, begins_cube, first_name, name_of}
-use Rattle.table_names.proofs.Naming.{no_bytes, name-found, name-closed, name-later, names-from, names-over, name-few, name-many}
-use borrow.Author.Rules.{rules}
+use Prim.Native.Nat.{◌+◌, ◌-◌, ◌<◌, ◌≤◌}
+use mathlib.Core.Path.{◌≡◌}
+use lib.ListN.{length, drop}
+use Rattle.table_lines.specs.Text.{lines_of}
+use Rattle.table_names.specs.Names.{first_name, name_of}
 use Rattle.table_names.proofs.name_of.Given as goal
 
 abbrev pub invariant-loop-at : goal.invariant-loop-at

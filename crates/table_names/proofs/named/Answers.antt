@@ -2,7 +2,6 @@
 use mathlib.Core.Path.{◌∙◌, ap}
 use Rattle.table_lines.specs.Text.{trim_front}
 use Rattle.table_names.specs.Names.{after, after_number, name_after, named}
-use borrow.Author.Rules.{rules}
 use Rattle.table_names.proofs.named.Goals as goal
 
 pub returns : goal.returns

@@ -2,7 +2,6 @@
 use Prim.Native.Nat.{◌-◌, ◌%◌}
 use mathlib.Core.Path.{sym, ap, ◌∙◌}
 use mathlib.Core.Bool.{cond}
-use borrow.Author.Rules.{rules}
 use borrow.Author.Tests.{eq-eqb, ne_eqb}
 use Rattle.sets.{specs.Masks.bit, proofs.Digits.bit_test}
 use Rattle.image_read.proofs.fields.bit_at.Goals as goal

@@ -1,6 +1,5 @@
 -- `image_read::both` meets its contract. Assumes nothing.
 use mathlib.Core.{Path.sym, Path.ap, Bool.Bool, Bool.◌&&◌}
-use borrow.Author.Tests.{not-true, not-false}
 use Rattle.image_read.proofs.fields.both.Goals as goal
 
 pub returns-then-not-a : goal.returns-then-not-a

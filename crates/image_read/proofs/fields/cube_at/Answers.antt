@@ -1,5 +1,4 @@
 -- `image_read::cube_at` meets its contract. Assumes nothing.
-use borrow.Author.Rules.{rules}
 use Rattle.image_fields.specs.Fields.{bits_in}
 use Rattle.image_read.proofs.Gathering.{cube-cut, cube-bad, cube-is}
 use Rattle.image_read.proofs.fields.cube_at.Goals as goal

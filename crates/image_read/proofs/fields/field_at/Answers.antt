@@ -2,7 +2,6 @@
 use Prim.Native.Nat.{◌<◌}
 use native.Mathlib.Omega.{arith}
 use lib.ListN.{length, drop}
-use borrow.Author.Rules.{rules}
 use Rattle.image_fields.{specs.Fields.bits_in, proofs.Bytes.left-length}
 use Rattle.image_read.proofs.fields.field_at.Goals as goal
 

@@ -2,7 +2,6 @@
 use Prim.Native.Nat.{◌/◌}
 use mathlib.Core.{Path.ap, Path.◌∙◌, Bool.not}
 use native.Mathlib.Omega.{arith}
-use borrow.Author.Rules.{rules}
 use borrow.Author.Tests.{lt-ltb, le-ltb}
 use Rattle.sets.specs.Sets.{mem}
 use Rattle.cube.specs.Cube.{lits}

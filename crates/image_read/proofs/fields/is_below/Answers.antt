@@ -1,7 +1,6 @@
 -- `image_read::is_below` meets its contract. Assumes nothing.
 use mathlib.Core.Path.{sym, ap, ◌∙◌}
 use mathlib.Core.Bool.{not}
-use borrow.Author.Rules.{rules}
 use Rattle.cube.specs.Cube.{answer}
 use Rattle.sets.specs.Lists.{is_some}
 use Rattle.image_read.proofs.{Testing.first_below}

@@ -1,17 +1,14 @@
 -- The answers of `image_read::fields::literals`.
-use Prim.Native.Nat.{ℕ, ◌+◌, ◌-◌, ◌*◌, ◌≤◌}
-use mathlib.Core.Path.{◌≡◌, refl, sym, ap, ◌∙◌}
+use Prim.Native.Nat.{ℕ}
+use mathlib.Core.Path.{refl, sym, ap, ◌∙◌}
 use mathlib.Core.{Bool.Bool, Bool.◌&&◌, List.List}
 use native.Mathlib.Omega.{arith}
 use lib.ListN.{drop}
-use borrow.Author.Rules.{rules}
-use borrow.Author.Tests.{not-true, not-false}
-use Rattle.cube.specs.Cube.{lits}
 use Rattle.image_fields.specs.Fields.{bits_in}
 use Rattle.image_laws.specs.Widths.{edition1}
 use Rattle.image_read.specs.{Parts.FieldIs, declared.fields.Field.TheVariants.Value}
 use Rattle.image_read.proofs.{Heading.field_below}
-use Rattle.image_read.proofs.Gathering.{Gathering, gather_none, gather-cut, gather-bad, gather-next, gather-end}
+use Rattle.image_read.proofs.Gathering.{gather_none, gather-cut, gather-bad, gather-next, gather-end}
 use Rattle.image_read.proofs.fields.literals.Goals as goal
 use Rattle.image_read.proofs.fields.literals.Goals.{At-loop-i, In-Value}
 

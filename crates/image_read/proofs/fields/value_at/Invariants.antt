@@ -1,14 +1,8 @@
 -- `image_read::value_at` meets its contract. The loop's invariant: the number is that of the bits passed. Assumes nothing.
-use Prim.Native.Nat.{◌+◌, ◌-◌, ◌*◌, ◌/◌, ◌%◌, ◌≤◌}
-use mathlib.Core.Path.{◌≡◌, sym, ap, ◌∙◌}
-use mathlib.Core.Bool.{cond}
-use native.Mathlib.Omega.{arith}
-use native.Mathlib.Numerals.{add-one}
-use lib.ListN.{get_or, take, drop}
-use borrow.Author.Rules.{rules}
-use Rattle.sets.specs.Masks.{bit}
-use Rattle.image_fields.{specs.Fields.value_of, specs.Fields.bits_in, proofs.Bytes.value-next}
-use Rattle.image_read.proofs.{Bits.value-small, Bits.bit-small}
+use Prim.Native.Nat.{◌-◌, ◌≤◌}
+use mathlib.Core.Path.{◌≡◌}
+use lib.ListN.{take, drop}
+use Rattle.image_fields.{specs.Fields.value_of, specs.Fields.bits_in}
 use Rattle.image_read.proofs.fields.value_at.Given as goal
 
 abbrev pub invariant-loop-i : goal.invariant-loop-i

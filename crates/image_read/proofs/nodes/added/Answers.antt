@@ -1,5 +1,4 @@
 -- `image_read::added` meets its contract. Assumes nothing.
-use borrow.Author.Rules.{rules}
 use Rattle.image_read.proofs.nodes.added.Goals as goal
 
 pub returns : goal.returns

@@ -1,11 +1,8 @@
 -- The answers of `image_read::nodes::cubes`.
-use Prim.Native.Nat.{◌-◌, ◌≤◌}
-use mathlib.Core.Path.{◌≡◌, refl, ◌∙◌}
+use mathlib.Core.Path.{refl, ◌∙◌}
 use native.Mathlib.Omega.{arith}
-use lib.ListN.{length}
 use borrow.Author.Rules.{rules}
-use Rattle.image_fields.specs.Fields.{bits_in}
-use Rattle.image_read.proofs.Filling.{Filling, fill_none, fill-next, fill_end}
+use Rattle.image_read.proofs.Filling.{fill_none, fill-next, fill_end}
 use Rattle.image_read.proofs.{Going.going-bad}
 use Rattle.image_read.proofs.nodes.cubes.Goals as goal
 
@@ -22,13 +19,12 @@ added-s-requires c =
     (search rules, omega (arith, r.literals, r.few))
 
 pub loop-i-preserved : goal.loop-i-preserved
-loop-i-preserved c =
-    (
-      search rules,
-      c.put_cube.auto.s ∙ c.loop-i.invariant.1,
-      fill-next c.loop-i.invariant.2 c.loop-i-test.true _ (rw c.in-On.is at c.cube_at-t.ensures) _ c.put_cube.ensures _
-          c.added-s.ensures,
-    )
+loop-i-preserved c = (
+  search rules,
+  c.put_cube.auto.s ∙ c.loop-i.invariant.1,
+  fill-next c.loop-i.invariant.2 c.loop-i-test.true _ (rw c.in-On.is at c.cube_at-t.ensures) _ c.put_cube.ensures _
+      c.added-s.ensures,
+)
 
 pub returns : goal.returns
 returns c = fill_end c.loop-i.invariant.2 c.loop-i-test.false (omega (arith, c.requires.2))

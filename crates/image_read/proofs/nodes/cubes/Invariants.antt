@@ -1,13 +1,10 @@
 -- `image_read::cubes` meets its contract. The loop's invariant: the cubes read so far are put and counted, and with those to come are those
 -- of the definition. Assumes nothing.
 use Prim.Native.Nat.{◌-◌, ◌≤◌}
-use mathlib.Core.Path.{◌≡◌, refl, ◌∙◌}
-use native.Mathlib.Omega.{arith}
+use mathlib.Core.Path.{◌≡◌}
 use lib.ListN.{length}
-use borrow.Author.Rules.{rules}
 use Rattle.image_fields.specs.Fields.{bits_in}
-use Rattle.image_read.proofs.Filling.{Filling, fill_none, fill-next, fill_end}
-use Rattle.image_read.proofs.{Going.going-bad}
+use Rattle.image_read.proofs.Filling.{Filling}
 use Rattle.image_read.proofs.nodes.cubes.Given as goal
 
 abbrev pub invariant-loop-i : goal.invariant-loop-i

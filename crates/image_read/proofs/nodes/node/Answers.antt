@@ -1,5 +1,4 @@
 -- `image_read::node` meets its contract. Assumes nothing.
-use borrow.Author.Rules.{rules}
 use Rattle.image_fields.specs.Fields.{bits_in}
 use Rattle.image_read.proofs.Filling.{node-cut, node-bad, node-are}
 use Rattle.image_read.proofs.nodes.node.Goals as goal

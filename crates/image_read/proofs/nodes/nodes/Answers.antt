@@ -1,11 +1,9 @@
 -- The answers of `image_read::nodes::nodes`.
-use Prim.Native.Nat.{◌-◌, ◌≤◌}
-use mathlib.Core.Path.{◌≡◌, refl, ◌∙◌}
+use mathlib.Core.Path.{refl, ◌∙◌}
 use native.Mathlib.Omega.{arith}
-use lib.ListN.{length, length-set}
+use lib.ListN.{length-set}
 use borrow.Author.Rules.{rules}
-use Rattle.image_fields.specs.Fields.{bits_in}
-use Rattle.image_read.proofs.Filling.{Counting, count_none, count_next, count-end}
+use Rattle.image_read.proofs.Filling.{count_none, count_next, count-end}
 use Rattle.image_read.proofs.{Going.going-bad}
 use Rattle.image_read.proofs.nodes.nodes.Goals as goal
 
@@ -22,13 +20,12 @@ overflow_sub-counts c =
     omega (arith, (rw c.in-On.is at c.node-t.ensures).put.cubes)
 
 pub loop-i-preserved : goal.loop-i-preserved
-loop-i-preserved c =
-    (
-      search rules,
-      c.node-t.auto.words ∙ c.loop-i.invariant.1,
-      length-set c.loop-i.counts _ _ ∙ c.loop-i.invariant.2,
-      count_next c.loop-i.invariant.3 c.loop-i-test.true _ _ (rw c.in-On.is at c.node-t.ensures),
-    )
+loop-i-preserved c = (
+  search rules,
+  c.node-t.auto.words ∙ c.loop-i.invariant.1,
+  length-set c.loop-i.counts _ _ ∙ c.loop-i.invariant.2,
+  count_next c.loop-i.invariant.3 c.loop-i-test.true _ _ (rw c.in-On.is at c.node-t.ensures),
+)
 
 pub returns : goal.returns
 returns c =

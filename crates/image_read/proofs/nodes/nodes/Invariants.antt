@@ -1,13 +1,10 @@
 -- `image_read::nodes` meets its contract. The loop's invariant: the nodes read so far are put and counted, and with those to come are those
 -- of the definition. Assumes nothing.
 use Prim.Native.Nat.{◌-◌, ◌≤◌}
-use mathlib.Core.Path.{◌≡◌, refl, ◌∙◌}
-use native.Mathlib.Omega.{arith}
-use lib.ListN.{length, length-set}
-use borrow.Author.Rules.{rules}
+use mathlib.Core.Path.{◌≡◌}
+use lib.ListN.{length}
 use Rattle.image_fields.specs.Fields.{bits_in}
-use Rattle.image_read.proofs.Filling.{Counting, count_none, count_next, count-end}
-use Rattle.image_read.proofs.{Going.going-bad}
+use Rattle.image_read.proofs.Filling.{Counting}
 use Rattle.image_read.proofs.nodes.nodes.Given as goal
 
 abbrev pub invariant-loop-i : goal.invariant-loop-i
