@@ -1,7 +1,7 @@
 -- `drive::nets::read_net` meets its contract: what the three groups fill is the network, and their tests join. Assumes nothing.
 use Rattle.std.proofs.Common.{◌≡◌, ℕ, eqb, leb, get_or, replicate, sym, ap, ◌∙◌, inl, inr}
 use mathlib.Core.{Bool.Bool, Bool.◌&&◌, List.List}
-use borrow.Author.Tests.{eqb-true}
+use borrow.Author.Tests.{eq-eqb, ne_eqb, le-leb, lt-leb}
 use lib.ListN.{length-replicate}
 use Rattle.sets.proofs.Truth.{refuted}
 use Rattle.drive_request.specs.{Words.first_group, Words.after_group, Numbers.numbers_of, Reading.count_of}
@@ -9,7 +9,7 @@ use Rattle.network.specs.Handed.{node_slots, word_slots}
 use Rattle.drive.specs.{Rooms.many_of, Rooms.Filled, declared.nets.Given.Given}
 use Rattle.drive.specs.Nets.{read_of, given_of, given_in}
 use Rattle.drive.proofs.nets.read_net.Goals as goal
-use Rattle.drive.proofs.nets.read_net.Goals.{Joined-s-eq3}
+use Rattle.drive.proofs.nets.read_net.Goals.{then-s-eq3, else-s-eq3}
 
 -- how many were read into so many zeros
 counted : (room : ℕ) (t : List ℕ) {r : ℕ} {new : List ℕ} → Filled (replicate room 0) new r (numbers_of t) → r ≡ read_of room t
@@ -39,35 +39,21 @@ made t {h = h} {g = g} {f = f} p q x y z a b d e u =
     } in
     read ∙ (λ i. given_of (x i) (second i) (third i))
 
--- the tests of the first two
-tested : (j : Joined-s-eq3) → j.if-s-eq3.if2 ≡ (eqb j.read_numbers-s.result 3 && leb j.read_numbers-c.result node_slots)
-tested j =
-    let s = j.read_numbers-s.result in
-    let k = leb j.read_numbers-c.result node_slots in
-    elim j.if-s-eq3.branch [
-      | inl q ↦ q.1 ∙ sym (ap (λ x. eqb x 3 && k) q.0.taken)
-      | inr q ↦ let e = refuted (λ h. q.0.left (eqb-true s 3 h)) in q.1 ∙ e ∙ sym (ap (◌&& k) e)
-    ]
-
--- what is handed back, with any such answer to the tests
-handed : (j : Joined-s-eq3) {ok : Bool} → ok ≡ (j.if-s-eq3.if2 && leb j.read_numbers-w.result word_slots) → ◌≡◌ {A = Given} record {
-  ok = ok;
-  network =
-      record {
-        inputs = get_or j.read_numbers-s.new.pool 0 0;
-        outputs = get_or j.read_numbers-s.new.pool 1 0;
-        divisors = get_or j.read_numbers-s.new.pool 2 0;
-        counts = j.narrow.result;
-        words = j.read_numbers-w.new.pool;
-      };
-} (given_in j.args.text.now)
-handed j e =
-    made j.args.text.now j.tail-after.ensures j.tail.ensures j.head.ensures
-    j.head-2.ensures j.head-3.ensures j.read_numbers-s.ensures j.read_numbers-c.ensures
-    j.read_numbers-w.ensures j.narrow.ensures (e ∙ ap (◌&& leb j.read_numbers-w.result word_slots) (tested j))
-
 pub returns-then-c-le-NODE_SLOTS : goal.returns-then-c-le-NODE_SLOTS
-returns-then-c-le-NODE_SLOTS c = handed (goal.at.returns-then-c-le-NODE_SLOTS c).Joined-s-eq3 (sym (ap (◌&& leb c.read_numbers-w.result word_slots) c.if-c-le-NODE_SLOTS.true))
+returns-then-c-le-NODE_SLOTS c =
+    let e = c.if-c-le-NODE_SLOTS.true in
+    made c.args.text.now c.tail-after.ensures c.tail.ensures c.head.ensures c.head-2.ensures c.head-3.ensures
+    c.read_numbers-s.ensures c.read_numbers-c.ensures c.read_numbers-w.ensures c.narrow.ensures
+    (rw (eq-eqb c.read_numbers-s.result 3 e.0, le-leb c.read_numbers-c.result node_slots e.1))
 
 pub returns-else-c-le-NODE_SLOTS : goal.returns-else-c-le-NODE_SLOTS
-returns-else-c-le-NODE_SLOTS c = let l = c.if-c-le-NODE_SLOTS.false in handed (goal.at.returns-else-c-le-NODE_SLOTS c).Joined-s-eq3 (l ∙ sym (ap (◌&& leb c.read_numbers-w.result word_slots) l))
+returns-else-c-le-NODE_SLOTS c =
+    made c.args.text.now c.tail-after.ensures c.tail.ensures c.head.ensures c.head-2.ensures c.head-3.ensures
+    c.read_numbers-s.ensures c.read_numbers-c.ensures c.read_numbers-w.ensures c.narrow.ensures
+    (elim c.if-s-eq3.branch [
+      then-s-eq3 w ↦ elim c.if-c-le-NODE_SLOTS.either [
+        inl q ↦ w.t-41-is ∙ rw (eq-eqb c.read_numbers-s.result 3 q.0, lt-leb c.read_numbers-c.result node_slots q.1)
+      | inr n ↦ absurd (n w.if-s-eq3.true)
+      ]
+    | else-s-eq3 w ↦ w.t-41-is ∙ rw (ne_eqb c.read_numbers-s.result 3 w.if-s-eq3.false)
+    ])
