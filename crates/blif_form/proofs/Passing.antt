@@ -15,7 +15,6 @@ use Rattle.blif_lines.specs.Lining.{numbers_in, NamesGot, NamesNot, NamesIs, Nam
 use Rattle.blif_form.specs.Surveying.{BlockOf, BlocksOf, SmallBlocks}
 use Rattle.blif_scan.specs.declared.Ended.{Ended}
 use Rattle.blif_lines.{specs.declared.Names.Names, specs.declared.Rows.Rows, proofs.Lining.names-one, proofs.Rowing.rows-one}
-use Rattle.blif_scan.specs.declared.Ended.TheVariants as Ended
 use Rattle.blif_form.proofs.Ending.{Closes}
 use Rattle.blif_form.proofs.Blocking.{named_for, signs_for, numbers-named, Blocked, block-blocked, block-begins, block-ascends, blocks-first, small-first}
 

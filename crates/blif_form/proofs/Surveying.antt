@@ -16,8 +16,6 @@ use Rattle.blif_scan.{proofs.Scanning.word-longer, specs.declared.Next.Next, spe
 use Rattle.blif_lines.{specs.Lining.top_of, proofs.Lining.top-append}
 use Rattle.blif_form.specs.Surveying.{BlockOf, BlockGot, BlockNot, EndingIs, BlocksOf, named_by, SmallBlocks, rows_by, BlocksBy, BlocksNot}
 use Rattle.blif_form.specs.declared.Found.{Found}
-use Rattle.blif_scan.specs.declared.Next.TheVariants as Next
-use Rattle.blif_scan.specs.declared.Ended.TheVariants as Ended
 use Rattle.blif_form.proofs.Ending.{Closes}
 use Rattle.blif_form.proofs.Blocking.{block-begins, block_one, blocks-first, blocks_more, small-first, small-others}
 use Rattle.blif_form.proofs.Passing.{names-begin, end-names, names-other}

@@ -22,9 +22,6 @@ use Rattle.blif_lines.specs.{Marking.Raised, declared.Turn.Turn}
 use Rattle.blif_lines.specs.Lining.{words_of, variable_in, numbers_in, top_of, Ascends, NamesGot, NamesNot, is_next, read_turn, last_turn, turn_by, turn_of}
 use Rattle.blif_lines.specs.Lining.{Follows, Comes, LineFrom, TurnIs, top_after, LastMarked}
 use Rattle.blif_scan.specs.declared.{Ended.Ended, Label.Label, Called.Called}
-use Rattle.blif_scan.specs.declared.Ended.TheVariants as Ended
-use Rattle.blif_scan.specs.declared.Label.TheVariants as Label
-use Rattle.blif_lines.specs.declared.Turn.TheVariants as Turn
 use Rattle.blif_lines.proofs.Marking.{raised-none, raised-on}
 
 -- ---- words

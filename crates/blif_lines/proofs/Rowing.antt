@@ -23,9 +23,6 @@ use Rattle.blif_scan.{proofs.Heading.ended-apart, specs.declared.Next.Next, spec
 use Rattle.blif_lines.specs.{Marking.Raised, declared.Row.Row}
 use Rattle.blif_lines.specs.Lining.{Signs, row_line, row_end, signed, signed_in, SignIs, SignsGot, SignsNot, space_after, SpaceIs, EndIs}
 use Rattle.blif_lines.specs.Lining.{RowGot, RowNot, RowIs, RowsOf, RowsGot, RowsNot}
-use Rattle.blif_scan.specs.declared.Next.TheVariants as Next
-use Rattle.blif_scan.specs.declared.Ended.TheVariants as Ended
-use Rattle.blif_lines.specs.declared.Row.TheVariants as Row
 use Rattle.blif_lines.proofs.Marking.{raised-none, raised-on}
 
 -- ---- words of a length

@@ -11,12 +11,7 @@ use Rattle.blif_laws.specs.Reading.{Named, pointed}
 use Rattle.blif_scan.specs.Scanning.{left, Forth, label_of, Small}
 use Rattle.blif_lines.specs.{Marking.Raised, declared.Names.Names, declared.Row.Row, declared.Rows.Rows}
 use Rattle.blif_scan.specs.declared.{Next.Next, Ended.Ended, Label.Label, Called.Called}
-use Rattle.blif_scan.specs.declared.Next.TheVariants as Next
-use Rattle.blif_scan.specs.declared.Ended.TheVariants as Ended
-use Rattle.blif_scan.specs.declared.Label.TheVariants as Label
 use Rattle.blif_lines.specs.declared.Turn.{Turn}
-use Rattle.blif_lines.specs.declared.Turn.TheVariants as Turn
-use Rattle.blif_lines.specs.declared.Row.TheVariants as Row
 
 -- ---- names
 

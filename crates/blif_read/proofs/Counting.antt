@@ -14,7 +14,6 @@ use Rattle.blif_read.specs.Defining.{FirstIs, PassedGot, PassedNot, PassedIs}
 use Rattle.blif_lines.specs.Lining.{NamesGot, NamesNot, RowsGot, RowsNot}
 use Rattle.blif_scan.specs.declared.{Label.Label, Ended.Ended}
 use Rattle.blif_read.specs.declared.defining.Passed.{Passed}
-use Rattle.blif_scan.specs.declared.Ended.TheVariants as Ended
 use Rattle.blif_form.proofs.Passing.{pass-none, pass-some, pass-unnamed, pass-rowless, pass-forth, pass-name, pass-numbers, pass-rest}
 
 -- ---- one pass

@@ -15,8 +15,6 @@ use Rattle.blif_read.specs.Defining.{FirstIs, PassedGot, PassedNot}
 use Rattle.blif_read.specs.Building.{BeginsAt, StandsAt, FoundIs}
 use Rattle.blif_scan.specs.declared.{Label.Label, Ended.Ended}
 use Rattle.blif_read.specs.declared.{defining.Passed.Passed, build.Place.Place}
-use Rattle.blif_scan.specs.declared.Ended.TheVariants as Ended
-use Rattle.blif_read.specs.declared.build.Place.TheVariants as Place
 use Rattle.blif_form.proofs.Blocking.{block-begins, blocks-first}
 use Rattle.blif_read.proofs.Counting.{Partway, partway-first, partway-one, partway-next, partway-done}
 

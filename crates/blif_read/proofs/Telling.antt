@@ -24,7 +24,6 @@ use Rattle.blif_laws.proofs.{Beginning.blif-iff, Forming.model-iff}
 use Rattle.letters_products.specs.Spelled.{spelled}
 use Rattle.blif_scan.specs.Scanning.{left, EndedIs, by_space, by_line, by_end}
 use Rattle.blif_scan.specs.declared.Ended.{Ended}
-use Rattle.blif_scan.specs.declared.Ended.TheVariants as Ended
 use Rattle.blif_form.specs.Surveying.{SurveyGot, SurveyNot, SurveyBy, SurveyIs}
 use Rattle.blif_read.specs.Defining.{model_by, GaplessIs, OnceIs}
 use Rattle.blif_read.specs.{Building.Buildable, Reading.few, Reading.FinishedIs}

@@ -16,7 +16,6 @@ use Rattle.blif_lines.specs.Lining.{RowsOf}
 use Rattle.blif_form.specs.Surveying.{BlockOf, BlocksOf, SmallBlock, SmallBlocks}
 use Rattle.blif_read.specs.{Defining.model_by, declared.build.Place.Place}
 use Rattle.blif_scan.specs.declared.Label.{Label}
-use Rattle.blif_read.specs.declared.build.Place.TheVariants as Place
 
 -- ---- finding a block
 

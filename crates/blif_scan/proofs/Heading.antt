@@ -18,12 +18,7 @@ use Rattle.blif_laws.specs.Text.{spaced, ended, first_names, head_lines}
 use Rattle.blif_scan.specs.Scanning.{left, NextIs, Starts, by_space, by_line, EndedIs}
 use Rattle.blif_scan.specs.Heading.{led, TurnsAre, ListIs, is_plain, Titled, Lined, WordIs, model_line, ModelIs, Headed, HeadIs}
 use Rattle.blif_scan.specs.declared.{Next.Next, Ended.Ended, Count.Count, Place.Place}
-use Rattle.blif_scan.specs.declared.Next.TheVariants as Next
-use Rattle.blif_scan.specs.declared.Ended.TheVariants as Ended
 use Rattle.blif_scan.specs.declared.Head.{Head}
-use Rattle.blif_scan.specs.declared.Count.TheVariants as Count
-use Rattle.blif_scan.specs.declared.Place.TheVariants as Place
-use Rattle.blif_scan.specs.declared.Head.TheVariants as Head
 use Rattle.blif_scan.proofs.Scanning.{word-longer}
 
 -- ---- words with a space before each

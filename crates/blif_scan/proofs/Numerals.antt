@@ -13,9 +13,6 @@ use Rattle.blif_laws.specs.{Text.Name, Text.variable, Text.output, Text.name_wor
 use Rattle.blif_laws.proofs.{Cutting.clear_in, Naming.decimal-lacks}
 use Rattle.blif_scan.specs.Scanning.{left, NextIs, Starts, by_space, by_line, by_end, EndedIs, DigitIs, NumeralBy, Small, CalledBy}
 use Rattle.blif_scan.specs.declared.{Next.Next, Ended.Ended, Digit.Digit}
-use Rattle.blif_scan.specs.declared.Next.TheVariants as Next
-use Rattle.blif_scan.specs.declared.Ended.TheVariants as Ended
-use Rattle.blif_scan.specs.declared.Digit.TheVariants as Digit
 use Rattle.blif_scan.proofs.Scanning.{starts-tail, starts_none, starts-empty, starts-as, starts-past, ended-past}
 
 -- ---- digits

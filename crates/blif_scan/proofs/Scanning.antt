@@ -12,8 +12,6 @@ use Rattle.sets.proofs.{Truth.both, Truth.together, Truth.decided, Truth.clash, 
 use Rattle.blif_laws.{specs.Meaning.is_clear, proofs.Breaking.joined-break, proofs.Breaking.joined-byte}
 use Rattle.blif_scan.specs.Scanning.{left, is_joint, NextIs, Starts, by_space, by_line, by_end, EndedIs}
 use Rattle.blif_scan.specs.declared.{Next.Next, Ended.Ended}
-use Rattle.blif_scan.specs.declared.Next.TheVariants as Next
-use Rattle.blif_scan.specs.declared.Ended.TheVariants as Ended
 
 -- ---- bytes
 

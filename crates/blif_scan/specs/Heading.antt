@@ -6,9 +6,6 @@ use Rattle.blif_laws.specs.Text.{spaced, ended, first_names, head_lines}
 pub use Rattle.blif_laws.specs.Meaning.{Titled}
 use Rattle.blif_scan.specs.{Scanning.left, Scanning.Forth, declared.Count.Count, declared.Place.Place}
 use Rattle.blif_scan.specs.declared.Head.{Head}
-use Rattle.blif_scan.specs.declared.Count.TheVariants as Count
-use Rattle.blif_scan.specs.declared.Place.TheVariants as Place
-use Rattle.blif_scan.specs.declared.Head.TheVariants as Head
 
 -- words with a space before each
 abbrev pub led : List (List ℕ) → List ℕ

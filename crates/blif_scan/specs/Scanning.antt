@@ -8,10 +8,6 @@ use Rattle.blif_laws.specs.Reading.{joined}
 pub use Rattle.blif_laws.specs.Meaning.{Starts, by_space, by_line, by_end}
 use Rattle.blif_scan.specs.declared.{Next.Next, Ended.Ended, Label.Label}
 use Rattle.blif_scan.specs.declared.{Called.Called, Digit.Digit, Numeral.Numeral}
-use Rattle.blif_scan.specs.declared.Next.TheVariants as Next
-use Rattle.blif_scan.specs.declared.Ended.TheVariants as Ended
-use Rattle.blif_scan.specs.declared.Label.TheVariants as Label
-use Rattle.blif_scan.specs.declared.Digit.TheVariants as Digit
 
 -- what is left of the joined text from a place on
 abbrev pub left : List ℕ → ℕ → List ℕ

@@ -1,5 +1,5 @@
 -- The gains by key in all nodes of a network are those that the weights count. Assumes nothing.
-use Prim.Native.Nat.{ℕ, ◌+◌, ◌*◌, ◌<◌}
+use Prim.Native.Nat.{ℕ, ◌*◌, ◌<◌}
 use mathlib.Core.{Path.◌≡◌, Logic.inl, Logic.inr, Bool.true}
 use mathlib.Core.List.{List, ◌++◌}
 use mathlib.Core.List.Memᴰ

@@ -1,6 +1,6 @@
 -- A cube that comes to a node, or goes from it, changes the gains by its own pairs and by what it makes with each cube that is there. Assumes
 -- nothing.
-use Prim.Native.Nat.{ℕ, ◌+◌, ◌-◌}
+use Prim.Native.Nat.{ℕ, ◌+◌}
 use mathlib.Core.Path.{◌≡◌, refl, sym, ◌∙◌}
 use mathlib.Core.{Logic.inl, Logic.inr, Bool.true, Bool.and_comm}
 use mathlib.Core.List.{List, [], ◌∷◌, ◌++◌}
@@ -46,7 +46,7 @@ module _ (k : ℕ) where
   unfolding node_gain row_gain
   node-middle c [] b h g = omega arith
   node-middle c (x ∷ a) b h g =
-      let (i, j) = both _ _ g in
+      let (i, j) = both (asc x) (all asc a) g in
       omega (arith, row-middle x c a b, node-middle c a b h j, two-flip x c i h)
 
   -- a node: its cubes one by one, and every two of them

@@ -1,11 +1,8 @@
 -- The answers of `blif_form::all_used`.
-use Prim.Native.Nat.{ℕ, ◌+◌, ◌-◌, ◌<◌, ◌≤◌}
+use Prim.Native.Nat.{ℕ, ◌+◌, ◌<◌, ◌≤◌}
 use mathlib.Core.Path.{◌≡◌, refl, ◌∙◌, subst}
 use mathlib.Core.Bool.{Bool, true, false}
 use native.Mathlib.Omega.{arith}
-use borrow.Author.Rules.{rules}
-use borrow.Author.Tests.{not-true, not-false}
-use lib.ListN.{length}
 use Rattle.blif_form.specs.Surveying.{UsedFrom}
 use Rattle.blif_form.proofs.Columns.{used-none, used-more, used-less, used_all}
 use Rattle.blif_form.proofs.all_used.Goals as goal

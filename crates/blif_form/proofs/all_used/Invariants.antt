@@ -1,14 +1,10 @@
 -- `blif_form::all_used` meets its contract. The loop's invariant: the columns before `base` are used. The measure is how many are left.
 -- Assumes nothing.
-use Prim.Native.Nat.{ℕ, ◌+◌, ◌-◌, ◌<◌, ◌≤◌}
-use mathlib.Core.Path.{◌≡◌, refl, ◌∙◌, subst}
-use mathlib.Core.Bool.{Bool, true, false}
-use native.Mathlib.Omega.{arith}
-use borrow.Author.Rules.{rules}
-use borrow.Author.Tests.{not-true, not-false}
+use Prim.Native.Nat.{◌-◌, ◌≤◌}
+use mathlib.Core.Path.{◌≡◌}
+use mathlib.Core.Bool.{true}
 use lib.ListN.{length}
 use Rattle.blif_form.specs.Surveying.{UsedFrom}
-use Rattle.blif_form.proofs.Columns.{used-none, used-more, used-less, used_all}
 use Rattle.blif_form.proofs.all_used.Given as goal
 
 abbrev pub invariant-loop-base : goal.invariant-loop-base

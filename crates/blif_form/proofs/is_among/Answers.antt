@@ -1,6 +1,5 @@
 -- `blif_form::is_among` meets its contract: an output is compared with m. Assumes nothing.
 use mathlib.Core.Path.{sym, ap}
-use borrow.Author.Rules.{rules}
 use Rattle.blif_laws.specs.Reading.{among}
 use Rattle.blif_scan.specs.Scanning.{label_of}
 use Rattle.blif_form.proofs.is_among.Goals as goal

@@ -1,7 +1,6 @@
 -- `blif_form::is_end` meets its contract: the word `.end` and what comes after it tell. Assumes nothing.
 use Prim.Native.Nat.{ℕ}
 use mathlib.Core.{Path.◌≡◌, Path.subst, List.List}
-use borrow.Author.Rules.{rules}
 use Rattle.letters_products.specs.Spelled.{spelled}
 use Rattle.blif_scan.specs.{Scanning.NextIs, Scanning.EndedIs, declared.Ended.Ended}
 use Rattle.blif_form.proofs.Surveying.{end-space, end-byte, end_line, end-finish, end-other}

@@ -5,7 +5,6 @@ use mathlib.Core.Path.{◌≡◌, sym, ◌∙◌, subst}
 use mathlib.Core.Bool.{Bool, true, false}
 use mathlib.Core.List.{List, [], ◌++◌}
 use native.Mathlib.Omega.{arith}
-use borrow.Author.Rules.{rules}
 use borrow.Author.Tests.{not-true, not-false}
 use lib.ListN.{length, length-append}
 use Rattle.sets.specs.Word.{largest}
@@ -44,11 +43,11 @@ after-names a = omega (arith, length-append a.read_names-d.new.marks a.args.mark
 
 after-rows : (r : After-read_rows-rows) → length (r.read_rows-rows.new.marks ++ (r.read_names-d.new.marks ++ r.args.marks.now)) ≡ length r.args.marks.now
 after-rows r = omega (
-      arith,
-      length-append r.read_rows-rows.new.marks (r.read_names-d.new.marks ++ r.args.marks.now),
-      r.read_rows-rows.auto.marks,
-      (let it : length (r.read_names-d.new.marks ++ r.args.marks.now) ≡ length r.args.marks.now = omega (arith, length-append r.read_names-d.new.marks r.args.marks.now, r.read_names-d.auto.marks) in it),
-    )
+  arith,
+  length-append r.read_rows-rows.new.marks (r.read_names-d.new.marks ++ r.args.marks.now),
+  r.read_rows-rows.auto.marks,
+  (let it : length (r.read_names-d.new.marks ++ r.args.marks.now) ≡ length r.args.marks.now = omega (arith, length-append r.read_names-d.new.marks r.args.marks.now, r.read_names-d.auto.marks) in it),
+)
 
 -- an answer that there is none
 none : {s : List ℕ} {at m : ℕ} (r : Found) → r.is ≡ false → BlockNot s at m → BlockBy r.is s at m r
@@ -72,11 +71,10 @@ returns-then-not-rows c =
     (none c.no_block-then-not-rows.result c.no_block-then-not-rows.ensures (rowless (names (goal.at.returns-then-not-rows c).After-read_names-d true (there (goal.at.returns-then-not-rows c).After-is_among)) (rows (goal.at.returns-then-not-rows c).After-read_rows-rows false (not-true _ c.if-not-rows.true))), after-rows (goal.at.returns-then-not-rows c).After-read_rows-rows)
 
 pub returns-then-not-all_used : goal.returns-then-not-all_used
-returns-then-not-all_used c =
-    (
-      none c.no_block-then-not-all_used.result c.no_block-then-not-all_used.ensures (unused (names (goal.at.returns-then-not-all_used c).After-read_names-d true (there (goal.at.returns-then-not-all_used c).After-is_among)) (columns (goal.at.returns-then-not-all_used c).After-all_used false (c.if-not-all_used.true))),
-      c.all_used.ensures.1 ∙ after-rows (goal.at.returns-then-not-all_used c).After-read_rows-rows,
-    )
+returns-then-not-all_used c = (
+  none c.no_block-then-not-all_used.result c.no_block-then-not-all_used.ensures (unused (names (goal.at.returns-then-not-all_used c).After-read_names-d true (there (goal.at.returns-then-not-all_used c).After-is_among)) (columns (goal.at.returns-then-not-all_used c).After-all_used false (c.if-not-all_used.true))),
+  c.all_used.ensures.1 ∙ after-rows (goal.at.returns-then-not-all_used c).After-read_rows-rows,
+)
 
 pub returns : goal.returns
 returns c =

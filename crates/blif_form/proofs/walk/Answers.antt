@@ -1,17 +1,14 @@
 -- The answers of `blif_form::walk`.
-use Prim.Native.Nat.{ℕ, ◌-◌}
+use Prim.Native.Nat.{ℕ}
 use mathlib.Core.Path.{◌≡◌, refl, ◌∙◌, subst}
-use mathlib.Core.{Logic.inl, Logic.inr, List.List}
+use mathlib.Core.{List.List}
 use mathlib.Core.Bool.{Bool, true, false}
 use native.Mathlib.Omega.{arith}
-use borrow.Author.Rules.{rules}
 use borrow.Author.Tests.{not-true, not-false}
-use lib.ListN.{length}
 use Rattle.letters_products.specs.Spelled.{spelled}
 use Rattle.blif_scan.specs.{Scanning.EndedIs, declared.Ended.Ended}
 use Rattle.blif_form.specs.Surveying.{BlockBy}
-use Rattle.blif_scan.specs.declared.Ended.TheVariants as Ended
-use Rattle.blif_form.proofs.Surveying.{Passed, passed_none, passed-more, passed-few, walked, walked-not}
+use Rattle.blif_form.proofs.Surveying.{passed_none, passed-more, passed-few, walked, walked-not}
 use Rattle.blif_form.proofs.walk.Goals as goal
 use Rattle.blif_form.proofs.walk.Goals.{After-keyword-e, After-read_block-b, At-loop-q}
 
@@ -54,12 +51,11 @@ loop-q-smaller c =
     omega (arith, (block (goal.at.loop-q-smaller c).After-read_block-b true (not-false _ c.if-not-b.false)).forth, (begins (goal.at.loop-q-smaller c).After-read_block-b).1)
 
 pub loop-q-preserved : goal.loop-q-preserved
-loop-q-preserved c =
-    (
-      passed-more c.loop-q.invariant.0 _ (begins (goal.at.loop-q-preserved c).After-read_block-b).0 c.read_block-b.result (block (goal.at.loop-q-preserved c).After-read_block-b true (not-false _ c.if-not-b.false)) _ _
-          c.more_rows-rows.ensures c.larger-top.ensures,
-      c.read_block-b.ensures.1 ∙ c.loop-q.invariant.1,
-    )
+loop-q-preserved c = (
+  passed-more c.loop-q.invariant.0 _ (begins (goal.at.loop-q-preserved c).After-read_block-b).0 c.read_block-b.result (block (goal.at.loop-q-preserved c).After-read_block-b true (not-false _ c.if-not-b.false)) _ _
+      c.more_rows-rows.ensures c.larger-top.ensures,
+  c.read_block-b.ensures.1 ∙ c.loop-q.invariant.1,
+)
 
 pub more_rows-rows-requires : goal.more_rows-rows-requires
 more_rows-rows-requires c = passed-few c.loop-q.invariant.0

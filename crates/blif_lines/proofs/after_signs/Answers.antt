@@ -1,5 +1,4 @@
 -- `blif_lines::after_signs` meets its contract. Assumes nothing.
-use borrow.Author.Rules.{rules}
 use Rattle.blif_lines.proofs.Rowing.{space-none, space-got, space-other, space-end}
 use Rattle.blif_lines.proofs.after_signs.Goals as goal
 

@@ -1,11 +1,9 @@
 -- The answers of `blif_lines::all_met`.
-use Prim.Native.Nat.{◌-◌}
 use mathlib.Core.Path.{refl}
 use native.Mathlib.Omega.{arith}
-use borrow.Author.Rules.{rules}
 use borrow.Author.Tests.{lt-leb, le-leb}
 use lib.Dec.{leb}
-use Rattle.blif_lines.proofs.Marking.{Tested, test-stop, test_on, test-done}
+use Rattle.blif_lines.proofs.Marking.{test-stop, test_on, test-done}
 use Rattle.blif_lines.proofs.all_met.Goals as goal
 
 pub returns-then-marks-i-lt1 : goal.returns-then-marks-i-lt1

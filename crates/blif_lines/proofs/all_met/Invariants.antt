@@ -1,11 +1,7 @@
 -- `blif_lines::all_met` meets its contract. The loop's invariant: the test of what is left is the test of all. Assumes nothing.
 use Prim.Native.Nat.{◌-◌}
-use mathlib.Core.Path.{refl}
-use native.Mathlib.Omega.{arith}
-use borrow.Author.Rules.{rules}
-use borrow.Author.Tests.{lt-leb, le-leb}
 use lib.Dec.{leb}
-use Rattle.blif_lines.proofs.Marking.{Tested, test-stop, test_on, test-done}
+use Rattle.blif_lines.proofs.Marking.{Tested}
 use Rattle.blif_lines.proofs.all_met.Given as goal
 
 abbrev pub invariant-loop-i : goal.invariant-loop-i

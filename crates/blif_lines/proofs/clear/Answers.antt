@@ -1,8 +1,5 @@
 -- The answers of `blif_lines::clear`.
-use Prim.Native.Nat.{◌≤◌, ◌-◌}
 use native.Mathlib.Omega.{arith}
-use borrow.Author.Rules.{rules}
-use Rattle.blif_lines.specs.Marking.{Cleared}
 use Rattle.blif_lines.proofs.Marking.{cleared-none, cleared-next, cleared-all}
 use Rattle.blif_lines.proofs.clear.Goals as goal
 

@@ -1,9 +1,6 @@
 -- `blif_lines::clear` meets its contract. The loop's invariant: the marks passed are cleared, the others as they were. Assumes nothing.
 use Prim.Native.Nat.{◌≤◌, ◌-◌}
-use native.Mathlib.Omega.{arith}
-use borrow.Author.Rules.{rules}
 use Rattle.blif_lines.specs.Marking.{Cleared}
-use Rattle.blif_lines.proofs.Marking.{cleared-none, cleared-next, cleared-all}
 use Rattle.blif_lines.proofs.clear.Given as goal
 
 abbrev pub invariant-loop-i : goal.invariant-loop-i

@@ -1,5 +1,4 @@
 -- `blif_lines::end_row` meets its contract. Assumes nothing.
-use borrow.Author.Rules.{rules}
 use Rattle.blif_lines.proofs.Rowing.{end-spaceless, end-got, end-other}
 use Rattle.blif_lines.proofs.end_row.Goals as goal
 

@@ -1,5 +1,4 @@
 -- `blif_lines::is_point` meets its contract. Assumes nothing.
-use borrow.Author.Rules.{rules}
 use Rattle.blif_lines.proofs.{Rowing.point-byte, Rowing.point-end}
 use Rattle.blif_lines.proofs.is_point.Goals as goal
 

@@ -1,6 +1,5 @@
 -- `blif_lines::last_turn` meets its contract. Assumes nothing.
 use mathlib.Core.Path.{sym, ◌∙◌}
-use borrow.Author.Rules.{rules}
 use Rattle.blif_lines.proofs.last_turn.Goals as goal
 
 pub returns-in_default : goal.returns-in_default

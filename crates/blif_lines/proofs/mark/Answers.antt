@@ -1,6 +1,5 @@
 -- `blif_lines::mark` meets its contract: a number outside the window, or met twice, changes nothing; another raises its mark. Assumes nothing.
 use native.Mathlib.Omega.{arith}
-use borrow.Author.Rules.{rules}
 use mathlib.Core.Path.{◌≡◌, refl}
 use Prim.Native.Nat.{◌-◌}
 use Rattle.blif_lines.proofs.{Marking.raised-kept, Marking.raised-one}

@@ -1,7 +1,6 @@
 -- `blif_lines::mark_last` meets its contract. Assumes nothing.
 use mathlib.Core.Path.{refl}
 use native.Mathlib.Omega.{arith}
-use borrow.Author.Rules.{rules}
 use Rattle.blif_lines.proofs.{Marking.raised-none}
 use Rattle.blif_lines.proofs.mark_last.Goals as goal
 

@@ -1,5 +1,4 @@
 -- `blif_lines::mark_sign` meets its contract. Assumes nothing.
-use borrow.Author.Rules.{rules}
 use Rattle.blif_lines.proofs.{Rowing.sign-none, Rowing.sign-some}
 use Rattle.blif_lines.proofs.mark_sign.Goals as goal
 

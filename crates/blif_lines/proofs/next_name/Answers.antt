@@ -1,5 +1,4 @@
 -- `blif_lines::next_name` meets its contract. Assumes nothing.
-use borrow.Author.Rules.{rules}
 use Rattle.blif_lines.proofs.{Lining.turn_is}
 use Rattle.blif_lines.proofs.next_name.Goals as goal
 

@@ -1,13 +1,10 @@
 -- The answers of `blif_lines::read_names`.
-use Prim.Native.Nat.{◌-◌}
 use mathlib.Core.Path.{refl, ◌∙◌}
 use native.Mathlib.Omega.{arith}
-use lib.ListN.{length}
-use borrow.Author.Rules.{rules}
 use Rattle.blif_laws.specs.Text.{variable}
 use Rattle.blif_scan.specs.Scanning.{label_of}
 use Rattle.blif_lines.specs.Lining.{Comes}
-use Rattle.blif_lines.proofs.Lining.{Passing, passing-none, passing-next, passing-last, passing-no}
+use Rattle.blif_lines.proofs.Lining.{passing-none, passing-next, passing-last, passing-no}
 use Rattle.blif_lines.proofs.read_names.Goals as goal
 use Rattle.blif_lines.proofs.read_names.Goals.{In-Last, In-Read}
 

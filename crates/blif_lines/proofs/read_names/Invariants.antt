@@ -1,14 +1,8 @@
 -- `blif_lines::read_names` meets its contract. The loop's invariant: the names passed are those that stand from `at` on, ascending, each ended by
 -- a space and marked; the next one ends the line, goes on, or shows that there is none. Assumes nothing.
 use Prim.Native.Nat.{◌-◌}
-use mathlib.Core.Path.{refl, ◌∙◌}
-use native.Mathlib.Omega.{arith}
 use lib.ListN.{length}
-use borrow.Author.Rules.{rules}
-use Rattle.blif_laws.specs.Text.{variable}
-use Rattle.blif_scan.specs.Scanning.{label_of}
-use Rattle.blif_lines.specs.Lining.{Comes}
-use Rattle.blif_lines.proofs.Lining.{Passing, passing-none, passing-next, passing-last, passing-no}
+use Rattle.blif_lines.proofs.Lining.{Passing}
 use Rattle.blif_lines.proofs.read_names.Given as goal
 
 abbrev pub invariant-loop-v : goal.invariant-loop-v

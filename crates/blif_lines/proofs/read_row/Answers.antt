@@ -1,5 +1,4 @@
 -- `blif_lines::read_row` meets its contract. Assumes nothing.
-use borrow.Author.Rules.{rules}
 use Rattle.blif_lines.proofs.{Rowing.row-signless, Rowing.row_is}
 use Rattle.blif_lines.proofs.read_row.Goals as goal
 

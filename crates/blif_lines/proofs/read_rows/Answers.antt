@@ -1,12 +1,8 @@
 -- The answers of `blif_lines::read_rows`.
-use Prim.Native.Nat.{◌-◌}
 use mathlib.Core.Path.{sym, ◌∙◌}
 use native.Mathlib.Omega.{arith}
-use lib.ListN.{length}
-use borrow.Author.Rules.{rules}
-use borrow.Author.Tests.{not-true, not-false}
 use Rattle.blif_lines.specs.Lining.{RowGot, RowNot}
-use Rattle.blif_lines.proofs.Rowing.{Rowing, rowing-none, rowing-next, rowing-got, rowing-no}
+use Rattle.blif_lines.proofs.Rowing.{rowing-none, rowing-next, rowing-got, rowing-no}
 use Rattle.blif_lines.proofs.read_rows.Goals as goal
 use Rattle.blif_lines.proofs.read_rows.Goals.{In-At, In_default}
 

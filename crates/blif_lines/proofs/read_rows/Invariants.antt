@@ -1,12 +1,7 @@
 -- `blif_lines::read_rows` meets its contract. The loop's invariant: the rows passed stand from `at` on, and their signs are marked. Assumes nothing.
 use Prim.Native.Nat.{◌-◌}
-use mathlib.Core.Path.{sym, ◌∙◌}
-use native.Mathlib.Omega.{arith}
 use lib.ListN.{length}
-use borrow.Author.Rules.{rules}
-use borrow.Author.Tests.{not-true, not-false}
-use Rattle.blif_lines.specs.Lining.{RowGot, RowNot}
-use Rattle.blif_lines.proofs.Rowing.{Rowing, rowing-none, rowing-next, rowing-got, rowing-no}
+use Rattle.blif_lines.proofs.Rowing.{Rowing}
 use Rattle.blif_lines.proofs.read_rows.Given as goal
 
 abbrev pub invariant-loop-marks : goal.invariant-loop-marks

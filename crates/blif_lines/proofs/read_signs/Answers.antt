@@ -1,8 +1,7 @@
 -- The answers of `blif_lines::read_signs`.
-use Prim.Native.Nat.{ℕ, ◌≤◌, ◌-◌}
+use Prim.Native.Nat.{ℕ}
 use mathlib.Core.Path.{subst}
 use native.Mathlib.Omega.{arith}
-use borrow.Author.Rules.{rules}
 use Rattle.blif_lines.specs.Lining.{SignsGot}
 use Rattle.blif_lines.proofs.Rowing.{signs-none, signs-next, signs-stop}
 use Rattle.blif_lines.proofs.read_signs.Goals as goal
@@ -18,12 +17,11 @@ returns-in_default c =
     signs-stop c.loop-i.invariant.1 _ c.loop-i-test.true (rw c.in_default.is at c.sign_at-n.ensures)
 
 pub loop-i-preserved : goal.loop-i-preserved
-loop-i-preserved c =
-    (
-      omega (arith, c.loop-i-test.true),
-      signs-next c.loop-i.invariant.1 c.in-Byte.b c.in-Byte.q (rw c.in-Byte.is at c.sign_at-n.ensures)
-          c.mark_sign.ensures,
-    )
+loop-i-preserved c = (
+  omega (arith, c.loop-i-test.true),
+  signs-next c.loop-i.invariant.1 c.in-Byte.b c.in-Byte.q (rw c.in-Byte.is at c.sign_at-n.ensures)
+      c.mark_sign.ensures,
+)
 
 pub shape_of-marks : goal.shape_of-marks
 shape_of-marks c = c.loop-i.invariant.1.marks.size

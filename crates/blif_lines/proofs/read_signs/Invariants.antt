@@ -1,10 +1,6 @@
 -- `blif_lines::read_signs` meets its contract. The loop's invariant: the signs passed stand from `at` on, and are marked. Assumes nothing.
-use Prim.Native.Nat.{ℕ, ◌≤◌, ◌-◌}
-use mathlib.Core.Path.{subst}
-use native.Mathlib.Omega.{arith}
-use borrow.Author.Rules.{rules}
+use Prim.Native.Nat.{◌≤◌, ◌-◌}
 use Rattle.blif_lines.specs.Lining.{SignsGot}
-use Rattle.blif_lines.proofs.Rowing.{signs-none, signs-next, signs-stop}
 use Rattle.blif_lines.proofs.read_signs.Given as goal
 
 abbrev pub invariant-loop-i : goal.invariant-loop-i

@@ -1,6 +1,5 @@
 -- `blif_lines::read_turn` meets its contract. Assumes nothing.
 use mathlib.Core.Path.{sym, ◌∙◌}
-use borrow.Author.Rules.{rules}
 use Rattle.blif_lines.proofs.read_turn.Goals as goal
 
 pub returns-then-is_next : goal.returns-then-is_next

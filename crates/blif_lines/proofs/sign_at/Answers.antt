@@ -1,6 +1,5 @@
 -- `blif_lines::sign_at` meets its contract. Assumes nothing.
 use mathlib.Core.Path.{sym, ◌∙◌}
-use borrow.Author.Rules.{rules}
 use Rattle.blif_lines.proofs.Rowing.{sign-byte, sign-other, sign-end}
 use Rattle.blif_lines.proofs.sign_at.Goals as goal
 

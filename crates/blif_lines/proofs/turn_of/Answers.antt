@@ -1,6 +1,5 @@
 -- `blif_lines::turn_of` meets its contract. Assumes nothing.
 use mathlib.Core.Path.{sym, ◌∙◌, ap}
-use borrow.Author.Rules.{rules}
 use Rattle.blif_lines.specs.Lining.{turn_by}
 use Rattle.blif_lines.proofs.turn_of.Goals as goal
 

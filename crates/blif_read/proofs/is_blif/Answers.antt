@@ -1,7 +1,6 @@
 -- `blif_read::is_blif` meets its contract: whether the keyword was found tells. Assumes nothing.
 use mathlib.Core.{Path.◌≡◌, Path.subst, List.List}
 use Prim.Native.Nat.{ℕ}
-use borrow.Author.Rules.{rules}
 use Rattle.letters_products.specs.Spelled.{spelled}
 use Rattle.blif_laws.specs.Reading.{is_blif}
 use Rattle.blif_scan.specs.{Scanning.EndedIs, declared.Ended.Ended}

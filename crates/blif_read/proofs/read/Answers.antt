@@ -10,7 +10,7 @@ use Rattle.blif_read.proofs.read.Goals as goal
 use Rattle.blif_read.proofs.read.Goals.{Else-not-is_few, Else-not-is_gapless, Else-not-is_once, Else-not-v}
 
 got : (e : Else-not-v) → SurveyGot e.args.text.now e.take_survey-v.result
-got e = survey-got _ _ e.take_survey-v.ensures (e.if-not-v.false)
+got e = survey-got _ _ e.take_survey-v.ensures (not-false _ e.if-not-v.false)
 
 small : (e : Else-not-v) → e.take_survey-v.result.outputs ≤ largest
 small e = search rules
@@ -26,7 +26,7 @@ few e = e.if-not-is_few.false
 
 pub returns-then-not-v : goal.returns-then-not-v
 returns-then-not-v c =
-    formless-told (survey-not _ c.take_survey-v.result c.take_survey-v.ensures (c.if-not-v.true)) c.refuse.ensures
+    formless-told (survey-not _ c.take_survey-v.result c.take_survey-v.ensures (not-true _ c.if-not-v.true)) c.refuse.ensures
 
 pub returns-then-not-is_gapless : goal.returns-then-not-is_gapless
 returns-then-not-is_gapless c =

@@ -1,5 +1,4 @@
 -- `blif_scan::end_of_word` meets its contract: by the next byte. Assumes nothing.
-use borrow.Author.Rules.{rules}
 use Rattle.blif_scan.specs.Scanning.{NextIs}
 use Rattle.blif_scan.specs.declared.Next.TheVariants as Next
 use Rattle.blif_scan.proofs.Scanning.{ended-space, ended-line, ended-not}

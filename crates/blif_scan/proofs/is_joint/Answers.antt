@@ -2,7 +2,6 @@
 use mathlib.Core.Bool.{and-false}
 use lib.ListN.{get_or-eq_default}
 use Prim.Native.Nat.{ℕ}
-use borrow.Author.Rules.{rules}
 use borrow.Author.Tests.{ne_eqb, eq-eqb}
 use Rattle.blif_scan.proofs.is_joint.Goals as goal
 

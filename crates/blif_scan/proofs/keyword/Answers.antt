@@ -1,11 +1,10 @@
 -- The answers of `blif_scan::keyword`.
-use Prim.Native.Nat.{ℕ, ◌-◌, ◌<◌, ◌≤◌}
-use mathlib.Core.Path.{◌≡◌, refl, ◌∙◌, ap}
+use Prim.Native.Nat.{ℕ, ◌<◌}
+use mathlib.Core.Path.{refl, ◌∙◌, ap}
 use mathlib.Core.List.{List, ◌++◌}
 use native.Mathlib.Omega.{arith}
-use lib.ListN.{length, take}
+use lib.ListN.{length}
 use lib.Seq.{take_all}
-use borrow.Author.Rules.{rules}
 use Rattle.blif_scan.specs.Scanning.{left, NextIs}
 use Rattle.blif_scan.specs.declared.Next.TheVariants as Next
 use Rattle.blif_scan.proofs.Scanning.{word_cut, word-other, word_next, ended-past}
@@ -42,12 +41,11 @@ returns-then-b-w c =
     word-other (text (goal.at.returns-then-b-w c).At-loop-i) (word (goal.at.returns-then-b-w c).At-loop-i) (start (goal.at.returns-then-b-w c).At-loop-i) c.loop-i.p c.loop-i.i (inside (goal.at.returns-then-b-w c).In-Byte) c.loop-i.invariant.2 _ _ (byte-here (goal.at.returns-then-b-w c).In-Byte) c.if-b-w.true
 
 pub loop-i-preserved : goal.loop-i-preserved
-loop-i-preserved c =
-    (
-      omega (arith, inside (goal.at.loop-i-preserved c).In-Byte),
-      omega (arith, (byte-here (goal.at.loop-i-preserved c).In-Byte).1.on, c.loop-i.invariant.1),
-      word_next (text (goal.at.loop-i-preserved c).At-loop-i) (word (goal.at.loop-i-preserved c).At-loop-i) (start (goal.at.loop-i-preserved c).At-loop-i) c.loop-i.p c.loop-i.i (inside (goal.at.loop-i-preserved c).In-Byte) c.loop-i.invariant.2 _ _ (byte-here (goal.at.loop-i-preserved c).In-Byte) c.if-b-w.false,
-    )
+loop-i-preserved c = (
+  omega (arith, inside (goal.at.loop-i-preserved c).In-Byte),
+  omega (arith, (byte-here (goal.at.loop-i-preserved c).In-Byte).1.on, c.loop-i.invariant.1),
+  word_next (text (goal.at.loop-i-preserved c).At-loop-i) (word (goal.at.loop-i-preserved c).At-loop-i) (start (goal.at.loop-i-preserved c).At-loop-i) c.loop-i.p c.loop-i.i (inside (goal.at.loop-i-preserved c).In-Byte) c.loop-i.invariant.2 _ _ (byte-here (goal.at.loop-i-preserved c).In-Byte) c.if-b-w.false,
+)
 
 pub returns : goal.returns
 returns c =

@@ -1,5 +1,4 @@
 -- `blif_scan::list` meets its contract: the keyword, then the names. Assumes nothing.
-use borrow.Author.Rules.{rules}
 use Rattle.blif_scan.proofs.Heading.{list-names, list-none, list-cut, list-other}
 use Rattle.blif_scan.proofs.list.Goals as goal
 

@@ -1,5 +1,4 @@
 -- `blif_scan::model` meets its contract: the keyword, then the name. Assumes nothing.
-use borrow.Author.Rules.{rules}
 use Rattle.letters_products.specs.Spelled.{spelled}
 use Rattle.blif_scan.proofs.Heading.{model-named, model-line, model-cut, model-other}
 use Rattle.blif_scan.proofs.model.Goals as goal

@@ -1,5 +1,4 @@
 -- `blif_scan::name` meets its contract: the letter, then the number. Assumes nothing.
-use borrow.Author.Rules.{rules}
 use Rattle.blif_laws.specs.Text.{variable}
 use Rattle.blif_scan.specs.Scanning.{NextIs}
 use Rattle.blif_scan.specs.declared.Next.TheVariants as Next

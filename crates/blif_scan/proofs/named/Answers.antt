@@ -1,7 +1,6 @@
 -- `blif_scan::named` meets its contract: the letter, then the number. Assumes nothing.
 use Prim.Native.Nat.{◌≤◌}
 use native.Mathlib.Omega.{arith}
-use borrow.Author.Rules.{rules}
 use Rattle.sets.specs.Word.{largest}
 use Rattle.letters.specs.Letters.{decimal}
 use Rattle.blif_scan.specs.Scanning.{NextIs}

@@ -1,13 +1,11 @@
 -- The answers of `blif_scan::read_byte`.
-use Prim.Native.Nat.{ℕ, ◌+◌, ◌-◌, ◌<◌, ◌≤◌}
+use Prim.Native.Nat.{ℕ, ◌+◌, ◌<◌}
 use mathlib.Core.Path.{◌≡◌, refl, sym, ◌∙◌}
 use mathlib.Core.{Bool.true, List.List}
 use native.Mathlib.Omega.{arith}
 use lib.ListN.{length}
-use borrow.Author.Rules.{rules}
-use borrow.Author.Tests.{not-true, not-false}
 use Rattle.blif_laws.proofs.Breaking.{joined-done}
-use Rattle.blif_scan.specs.Scanning.{left, is_joint}
+use Rattle.blif_scan.specs.Scanning.{is_joint}
 use Rattle.blif_scan.proofs.Scanning.{joint-inside, left-joint, left-byte}
 use Rattle.blif_scan.proofs.read_byte.Goals as goal
 use Rattle.blif_scan.proofs.read_byte.Goals.{Else-not-is_joint}
@@ -16,11 +14,10 @@ pub loop-p-init : goal.loop-p-init
 loop-p-init c = (omega arith, refl)
 
 pub returns-then-not-is_joint : goal.returns-then-not-is_joint
-returns-then-not-is_joint c =
-    (
-      c.loop-p.invariant.1 ∙ left-byte _ _ c.loop-p-test.true (sym c.is_joint.ensures ∙ c.if-not-is_joint.true),
-      record { on = omega arith; within = omega arith },
-    )
+returns-then-not-is_joint c = (
+  c.loop-p.invariant.1 ∙ left-byte _ _ c.loop-p-test.true (sym c.is_joint.ensures ∙ c.if-not-is_joint.true),
+  record { on = omega arith; within = omega arith },
+)
 
 module _ (c : Else-not-is_joint) where
   abbrev text : List ℕ

@@ -1,6 +1,5 @@
 -- `blif_scan::read_digit` meets its contract: by the next byte. Assumes nothing.
 use native.Mathlib.Omega.{arith}
-use borrow.Author.Rules.{rules}
 use Rattle.blif_scan.specs.Scanning.{NextIs}
 use Rattle.blif_scan.specs.declared.Next.TheVariants as Next
 use Rattle.blif_scan.proofs.Numerals.{digit-is, digit_not, digit-cut}

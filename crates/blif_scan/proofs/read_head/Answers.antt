@@ -1,7 +1,6 @@
 -- `blif_scan::read_head` meets its contract: the three lines, each from where the one before it ends. Assumes nothing.
 use Prim.Native.Nat.{ℕ}
 use mathlib.Core.List.{List}
-use borrow.Author.Rules.{rules}
 use Rattle.letters_products.specs.Spelled.{spelled}
 use Rattle.blif_scan.specs.Heading.{ModelIs, ListIs}
 use Rattle.blif_scan.specs.declared.Place.TheVariants as Place

@@ -1,12 +1,9 @@
 -- The answers of `blif_scan::read_number`.
-use Prim.Native.Nat.{ℕ, ◌-◌, ◌<◌, ◌≤◌}
-use mathlib.Core.Path.{◌≡◌, sym, ◌∙◌, ap}
+use Prim.Native.Nat.{ℕ}
+use mathlib.Core.Path.{sym, ◌∙◌, ap}
 use mathlib.Core.List.{List, ◌++◌}
 use native.Mathlib.Omega.{arith}
-use lib.ListN.{length}
-use borrow.Author.Rules.{rules}
-use Rattle.sets.specs.Word.{largest}
-use Rattle.letters.{specs.Letters.decimal, proofs.Numbers.decimal-one}
+use Rattle.letters.{proofs.Numbers.decimal-one}
 use Rattle.blif_scan.specs.Scanning.{left, DigitIs}
 use Rattle.blif_scan.specs.declared.Digit.TheVariants as Digit
 use Rattle.blif_scan.proofs.Numerals.{numeral-none, numeral-zero, numeral-stop, numeral-next, numeral-large}

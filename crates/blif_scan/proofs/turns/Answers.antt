@@ -1,12 +1,10 @@
 -- The answers of `blif_scan::turns`.
-use Prim.Native.Nat.{ℕ, ◌-◌}
+use Prim.Native.Nat.{ℕ}
 use mathlib.Core.{Path.◌≡◌, Path.subst, List.List}
 use native.Mathlib.Omega.{arith}
-use lib.ListN.{length}
-use borrow.Author.Rules.{rules}
 use Rattle.letters.specs.Letters.{name_text}
 use Rattle.blif_scan.specs.{Scanning.EndedIs, declared.Ended.Ended}
-use Rattle.blif_scan.proofs.Heading.{Turned, turn-none, turn-next, turn_last, turn-cut, turn-other}
+use Rattle.blif_scan.proofs.Heading.{turn-none, turn-next, turn_last, turn-cut, turn-other}
 use Rattle.blif_scan.proofs.turns.Goals as goal
 use Rattle.blif_scan.proofs.turns.Goals.{After-named-e, At-loop-q}
 

@@ -1,13 +1,10 @@
 -- The answers of `blif_scan::word`.
-use Prim.Native.Nat.{ℕ, ◌-◌}
+use Prim.Native.Nat.{ℕ}
 use mathlib.Core.{Path.sym, Path.◌∙◌, List.List}
 use native.Mathlib.Omega.{arith}
-use lib.ListN.{length}
-use borrow.Author.Rules.{rules}
-use borrow.Author.Tests.{not-true, not-false}
 use Rattle.blif_scan.specs.Scanning.{NextIs}
 use Rattle.blif_scan.specs.declared.Next.TheVariants as Next
-use Rattle.blif_scan.proofs.Heading.{Passed, pass-none, pass-next, word-ends, word-is, word-empty, word-odd}
+use Rattle.blif_scan.proofs.Heading.{pass-none, pass-next, word-ends, word-is, word-empty, word-odd}
 use Rattle.blif_scan.proofs.word.Goals as goal
 use Rattle.blif_scan.proofs.word.Goals.{At-loop-b, In-Byte}
 

@@ -1,13 +1,7 @@
 -- `blif_scan::word` meets its contract. The loop's invariant: what was read may stand in a model's name. Assumes nothing.
-use Prim.Native.Nat.{ℕ, ◌-◌}
-use mathlib.Core.{Path.sym, Path.◌∙◌, List.List}
-use native.Mathlib.Omega.{arith}
+use Prim.Native.Nat.{◌-◌}
 use lib.ListN.{length}
-use borrow.Author.Rules.{rules}
-use borrow.Author.Tests.{not-true, not-false}
-use Rattle.blif_scan.specs.Scanning.{NextIs}
-use Rattle.blif_scan.specs.declared.Next.TheVariants as Next
-use Rattle.blif_scan.proofs.Heading.{Passed, pass-none, pass-next, word-ends, word-is, word-empty, word-odd}
+use Rattle.blif_scan.proofs.Heading.{Passed}
 use Rattle.blif_scan.proofs.word.Given as goal
 
 abbrev pub invariant-loop-b : goal.invariant-loop-b

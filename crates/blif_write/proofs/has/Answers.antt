@@ -1,7 +1,6 @@
 -- `blif_write::has` meets its contract. Assumes nothing.
 use mathlib.Core.Path.{◌≡◌, ◌∙◌, ap}
 use native.Mathlib.Omega.{arith}
-use borrow.Author.Rules.{rules}
 use Rattle.sets.specs.{Literal.plain_of, Sets.mem}
 use Rattle.cube.specs.Cube.{lits}
 use Rattle.blif_write.proofs.has.Goals as goal

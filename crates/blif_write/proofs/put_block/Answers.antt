@@ -1,7 +1,6 @@
 -- `blif_write::put_block` meets its contract: the line of names, then the rows. Assumes nothing.
 use Prim.Native.Nat.{◌≤◌}
 use native.Mathlib.Omega.{arith}
-use borrow.Author.Rules.{rules}
 use lib.ListN.{length}
 use Rattle.sets.specs.Word.{largest}
 use Rattle.letters_products.specs.Spelled.{spelled}

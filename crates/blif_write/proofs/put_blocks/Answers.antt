@@ -1,11 +1,9 @@
 -- The answers of `blif_write::put_blocks`.
 use mathlib.Core.Path.{◌≡◌, refl, sym, ◌∙◌}
-use Prim.Native.Nat.{◌+◌, ◌-◌, ◌≤◌}
 use native.Mathlib.Omega.{arith}
-use borrow.Author.Rules.{rules}
-use lib.ListN.{length, drop}
-use Rattle.letters.proofs.Laying.{Due, due_all, due-as, due-next, due-done}
-use Rattle.blif_write.specs.Parts.{blocks_text, nodes_at}
+use lib.ListN.{length}
+use Rattle.letters.proofs.Laying.{due_all, due-as, due-next, due-done}
+use Rattle.blif_write.specs.Parts.{nodes_at}
 use Rattle.blif_write.proofs.Texts.{blocks-all, blocks-next, blocks-none, nodes-length, node_at}
 use Rattle.blif_write.proofs.put_blocks.Goals as goal
 use Rattle.blif_write.proofs.put_blocks.Goals.{Start}

@@ -1,12 +1,9 @@
 -- `blif_write::put_blocks` meets its contract. The loop's invariant: the blocks of the nodes from i on are due. Assumes nothing.
-use mathlib.Core.Path.{◌≡◌, refl, sym, ◌∙◌}
+use mathlib.Core.Path.{◌≡◌}
 use Prim.Native.Nat.{◌+◌, ◌-◌, ◌≤◌}
-use native.Mathlib.Omega.{arith}
-use borrow.Author.Rules.{rules}
 use lib.ListN.{length, drop}
-use Rattle.letters.proofs.Laying.{Due, due_all, due-as, due-next, due-done}
+use Rattle.letters.proofs.Laying.{Due}
 use Rattle.blif_write.specs.Parts.{blocks_text, nodes_at}
-use Rattle.blif_write.proofs.Texts.{blocks-all, blocks-next, blocks-none, nodes-length, node_at}
 use Rattle.blif_write.proofs.put_blocks.Given as goal
 
 abbrev pub invariant-loop-i : goal.invariant-loop-i

@@ -1,7 +1,6 @@
 -- `blif_write::put_gap` meets its contract: the space is written where the set is not empty. Assumes nothing.
 use mathlib.Core.Path.{refl, sym, ◌∙◌}
 use native.Mathlib.Omega.{arith}
-use borrow.Author.Rules.{rules}
 use Rattle.letters.proofs.Laying.{due_all, due-done}
 use Rattle.blif_write.proofs.put_gap.Goals as goal
 

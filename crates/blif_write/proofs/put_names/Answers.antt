@@ -1,13 +1,8 @@
 -- The answers of `blif_write::put_names`.
-use mathlib.Core.Path.{◌≡◌, refl, ◌∙◌}
-use Prim.Native.Nat.{◌-◌, ◌≤◌}
+use mathlib.Core.Path.{refl, ◌∙◌}
 use native.Mathlib.Omega.{arith}
-use borrow.Author.Rules.{rules}
-use lib.ListN.{length}
-use Rattle.letters.proofs.Laying.{Due, due_all, due-as, due-next, due-done}
-use Rattle.blif_laws.specs.Text.{first_names}
-use Rattle.blif_write.specs.Parts.{led}
-use Rattle.blif_write.proofs.Walking.{names_from, names-all, names-next, names-none}
+use Rattle.letters.proofs.Laying.{due_all, due-as, due-next, due-done}
+use Rattle.blif_write.proofs.Walking.{names-all, names-next, names-none}
 use Rattle.blif_write.proofs.put_names.Goals as goal
 
 pub loop-i-init : goal.loop-i-init

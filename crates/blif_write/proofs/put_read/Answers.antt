@@ -1,7 +1,6 @@
 -- `blif_write::put_read` meets its contract: the name is written where the set has the variable. Assumes nothing.
 use mathlib.Core.Path.{refl, sym, ◌∙◌}
 use native.Mathlib.Omega.{arith}
-use borrow.Author.Rules.{rules}
 use Rattle.letters.proofs.Laying.{due_all, due-done}
 use Rattle.blif_write.proofs.put_read.Goals as goal
 

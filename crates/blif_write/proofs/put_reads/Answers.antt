@@ -1,15 +1,12 @@
 -- The answers of `blif_write::put_reads`.
-use mathlib.Core.Path.{◌≡◌, refl, ◌∙◌, ap}
+use mathlib.Core.Path.{refl, ◌∙◌, ap}
 use mathlib.Core.List.{List, map}
-use Prim.Native.Nat.{ℕ, ◌-◌, ◌≤◌}
+use Prim.Native.Nat.{ℕ}
 use native.Mathlib.Omega.{arith}
-use borrow.Author.Rules.{rules}
-use lib.ListN.{length}
-use Rattle.cube.specs.Cube.{width, lits}
 use Rattle.letters.specs.Letters.{name_text}
-use Rattle.letters.proofs.Laying.{Due, due_all, due-as, due-next, due-done}
-use Rattle.blif_write.specs.Parts.{led, plains_of}
-use Rattle.blif_write.proofs.Walking.{plains_from, plains_all, plains-none, read_next}
+use Rattle.letters.proofs.Laying.{due_all, due-as, due-next, due-done}
+use Rattle.blif_write.specs.Parts.{led}
+use Rattle.blif_write.proofs.Walking.{plains_all, plains-none, read_next}
 use Rattle.blif_write.proofs.put_reads.Goals as goal
 
 -- the names of variables

@@ -1,6 +1,5 @@
 -- `blif_write::put_row` meets its contract: the signs, a space where there are any, and `1`. Assumes nothing.
 use native.Mathlib.Omega.{arith}
-use borrow.Author.Rules.{rules}
 use Rattle.letters_products.specs.Spelled.{spelled}
 use Rattle.letters.proofs.Laying.{due_all, due-next, due-last}
 use Rattle.blif_write.proofs.{Texts.row-start}

@@ -1,13 +1,7 @@
 -- The answers of `blif_write::put_rows`.
-use mathlib.Core.Path.{◌≡◌, refl, ◌∙◌}
-use Prim.Native.Nat.{◌-◌, ◌≤◌}
+use mathlib.Core.Path.{refl, ◌∙◌}
 use native.Mathlib.Omega.{arith}
-use borrow.Author.Rules.{rules}
-use lib.ListN.{length, drop}
-use Rattle.cube.specs.Cube.{lits}
-use Rattle.expression.specs.Words.{cubes_of}
-use Rattle.letters.proofs.Laying.{Due, due_all, due-as, due-next, due-done}
-use Rattle.blif_write.specs.Parts.{plains_of, rows_text}
+use Rattle.letters.proofs.Laying.{due_all, due-as, due-next, due-done}
 use Rattle.blif_write.proofs.{Texts.rows_next, Texts.rows_none}
 use Rattle.blif_write.proofs.put_rows.Goals as goal
 

@@ -1,14 +1,11 @@
 -- `blif_write::put_rows` meets its contract. The loop's invariant: the rows of the cubes from i on are due. Assumes nothing.
-use mathlib.Core.Path.{◌≡◌, refl, ◌∙◌}
+use mathlib.Core.Path.{◌≡◌}
 use Prim.Native.Nat.{◌-◌, ◌≤◌}
-use native.Mathlib.Omega.{arith}
-use borrow.Author.Rules.{rules}
 use lib.ListN.{length, drop}
 use Rattle.cube.specs.Cube.{lits}
 use Rattle.expression.specs.Words.{cubes_of}
-use Rattle.letters.proofs.Laying.{Due, due_all, due-as, due-next, due-done}
+use Rattle.letters.proofs.Laying.{Due}
 use Rattle.blif_write.specs.Parts.{plains_of, rows_text}
-use Rattle.blif_write.proofs.{Texts.rows_next, Texts.rows_none}
 use Rattle.blif_write.proofs.put_rows.Given as goal
 
 abbrev pub invariant-loop-i : goal.invariant-loop-i

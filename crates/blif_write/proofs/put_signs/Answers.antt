@@ -1,15 +1,9 @@
 -- The answers of `blif_write::put_signs`.
-use mathlib.Core.Path.{◌≡◌, refl, ◌∙◌, ap}
+use mathlib.Core.Path.{refl, ◌∙◌, ap}
 use mathlib.Core.List.{map}
-use Prim.Native.Nat.{◌-◌, ◌≤◌}
 use native.Mathlib.Omega.{arith}
-use borrow.Author.Rules.{rules}
-use lib.ListN.{length}
-use Rattle.cube.specs.Cube.{width, lits}
-use Rattle.letters.proofs.Laying.{Due, due_all, due-as, due-next, due-done}
-use Rattle.blif_laws.specs.Text.{sign_of}
-use Rattle.blif_write.specs.Parts.{plains_of}
-use Rattle.blif_write.proofs.Walking.{plains_from, plains_all, plains-none, sign-next}
+use Rattle.letters.proofs.Laying.{due_all, due-as, due-next, due-done}
+use Rattle.blif_write.proofs.Walking.{plains_all, plains-none, sign-next}
 use Rattle.blif_write.proofs.put_signs.Goals as goal
 
 pub loop-v-init : goal.loop-v-init

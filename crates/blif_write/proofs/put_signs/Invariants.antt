@@ -1,15 +1,13 @@
 -- `blif_write::put_signs` meets its contract. The loop's invariant: the signs of the variables from v on are due. Assumes nothing.
-use mathlib.Core.Path.{◌≡◌, refl, ◌∙◌, ap}
+use mathlib.Core.Path.{◌≡◌}
 use mathlib.Core.List.{map}
 use Prim.Native.Nat.{◌-◌, ◌≤◌}
-use native.Mathlib.Omega.{arith}
-use borrow.Author.Rules.{rules}
 use lib.ListN.{length}
 use Rattle.cube.specs.Cube.{width, lits}
-use Rattle.letters.proofs.Laying.{Due, due_all, due-as, due-next, due-done}
+use Rattle.letters.proofs.Laying.{Due}
 use Rattle.blif_laws.specs.Text.{sign_of}
 use Rattle.blif_write.specs.Parts.{plains_of}
-use Rattle.blif_write.proofs.Walking.{plains_from, plains_all, plains-none, sign-next}
+use Rattle.blif_write.proofs.Walking.{plains_from}
 use Rattle.blif_write.proofs.put_signs.Given as goal
 
 abbrev pub invariant-loop-v : goal.invariant-loop-v

@@ -1,7 +1,6 @@
 -- `blif_write::put_word` meets its contract: the space, then the name. Assumes nothing.
 use mathlib.Core.Path.{refl}
 use native.Mathlib.Omega.{arith}
-use borrow.Author.Rules.{rules}
 use Rattle.letters.proofs.Laying.{due_all, due-next, due-last}
 use Rattle.blif_write.proofs.put_word.Goals as goal
 

@@ -1,7 +1,6 @@
 -- `blif_write::sign` meets its contract: the plain literal decides, and then the negated one. Assumes nothing.
 use mathlib.Core.Path.{◌≡◌, sym, ap, ◌∙◌}
 use native.Mathlib.Omega.{arith}
-use borrow.Author.Rules.{rules}
 use Rattle.sets.specs.{Literal.plain_of, Literal.negated_of, Sets.mem}
 use Rattle.cube.specs.Cube.{lits}
 use Rattle.blif_laws.specs.Text.{sign_of}

@@ -14,7 +14,7 @@ use Rattle.blif_laws.specs.Text.{blif_of}
 use Rattle.image_write.proofs.Telling.{Renewed}
 use Rattle.blif_write.proofs.{Renewing.renewed-limited, Renewing.renewed-text}
 use Rattle.blif_write.proofs.write.Goals as goal
-use Rattle.blif_write.proofs.write.Goals.{After-put_model-length, After-slice_known-1, In-Accepted}
+use Rattle.blif_write.proofs.write.Goals.{After-put_model-length, In-Accepted}
 
 renewed : (c : In-Accepted) → Renewed c.args.n c.renumber-r.result.network
 renewed c =
@@ -23,10 +23,7 @@ renewed c =
 
 -- the room is shorter than what can be counted
 room : (c : After-put_model-length) → length c.args.room.now < largest
-room c = small (c ⟪After-slice_known-1⟫)
-  where
-    small : (s : After-slice_known-1) → length s.before.args.room.now < largest
-    small s = omega arith
+room c = omega arith
 
 -- no byte is written into no room
 kept : (c : After-put_model-length) → c.put_model-length.new.o ++ c.args.room.now ≡ c.args.room.now

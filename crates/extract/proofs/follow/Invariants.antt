@@ -16,12 +16,10 @@ use Rattle.network.{specs.Net.nodes, specs.Held.net_of, specs.Held.most_variable
 use Rattle.extract_laws.specs.Run.{run_from}
 use Rattle.extract_step.specs.declared.Outcome.TheVariants as Outcome
 use Rattle.extract_step.specs.declared.Next.{Next}
-use contract.Lifetimes.{Lfts}
 use Rattle.extract.specs.{Answers.Told, declared.Stop.Stop, declared.Ran.Ran}
 use Rattle.extract.specs.Parts.{Leaves, ended_at, stopped_with}
 use Rattle.extract.proofs.Going.{le_not, not-le, Going, going-first, going-room, going-numbers, going_done, going-ended, going-leaves}
 use Rattle.extract.proofs.{Going.going-full, Going.going_on}
-use Rattle.extract.proofs.follow.Lts as lts
 use Rattle.extract.proofs.follow.Given as goal
 
 abbrev pub invariant-loop-left : goal.invariant-loop-left

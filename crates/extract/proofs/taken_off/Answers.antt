@@ -20,15 +20,19 @@ plain c = ap₂ ◌-ℤ◌ (to_z_pos w32 c.args.count (omega (arith, c.requires.
 pub overflow_cast-result : goal.overflow_cast-result
 overflow_cast-result c = record { sfits = omega (arith, c.requires.within) }
 
+-- which fits
+fits : (c : Start) → SFits w32 (found c)
+fits c = subst (SFits w32) (sym (plain c)) (record { sfits = omega (arith, c.requires.less) })
+
 pub overflow_sub-result : goal.overflow_sub-result
-overflow_sub-result c = subst (SFits w32) (sym (plain c)) (record { sfits = omega (arith, c.requires.less) })
+overflow_sub-result c = fits (goal.at.overflow_sub-result c).Start
 
 -- and as it is read back
 read : (c : Start) → to_z w32 (of_z w32 (found c)) ≡ pos c.requires.left
-read c = to_z-of_z w32 (found c) (sub-result c) ∙ plain c
+read c = to_z-of_z w32 (found c) (fits c) ∙ plain c
 
 pub overflow_cast-result-2 : goal.overflow_cast-result-2
-overflow_cast-result-2 c = subst (λ (z : ℤ). T (non_neg z) × Fits w64 (nat_abs z)) (sym (read c)) (tt, record { fits = omega (arith, c.requires.less) })
+overflow_cast-result-2 c = subst (λ (z : ℤ). T (non_neg z) × Fits w64 (nat_abs z)) (sym (read (goal.at.overflow_cast-result-2 c).Start)) (tt, record { fits = omega (arith, c.requires.less) })
 
 pub returns : goal.returns
-returns c = ap (λ (z : ℤ). pos (nat_abs z)) (read c) ∙ c.requires.is
+returns c = ap (λ (z : ℤ). pos (nat_abs z)) (read (goal.at.returns c).Start) ∙ c.requires.is

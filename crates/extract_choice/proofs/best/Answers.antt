@@ -7,7 +7,6 @@ use lib.Signed.{lt_z, le_z}
 use mir.Syntax.{w32}
 use mir.Val.{to_z, of_z}
 use mir.Facts.{to_z-of_z}
-use borrow.Author.Tests.{not-true, not-false}
 use Rattle.network.{specs.Handed.Shaped, proofs.Handing.shape_of}
 use Rattle.extract_tidy.specs.Tidy.{arranged}
 use Rattle.extract_counts.proofs.Arranged.{arranged-few}
@@ -15,16 +14,16 @@ use Rattle.extract_choice.proofs.{Weights.above_most}
 use Rattle.extract_choice.proofs.Deciding.{front-nodes, front-orderly, chosen-not, entries_none, entries-chosen}
 use borrow.Author.Rules.{rules}
 use Rattle.extract_choice.proofs.best.Goals as goal
-use Rattle.extract_choice.proofs.best.Goals.{After-struct_told-1, Else-s-le0, Then-s-le0}
+use Rattle.extract_choice.proofs.best.Goals.{After-scan-s, Else-s-le0, Then-s-le0}
 
-kept : (c : After-struct_told-1) → arranged c.args.n ≡ true
+kept : (c : After-scan-s) → arranged c.args.n ≡ true
 kept c = sym c.is_arranged.ensures ∙ c.if-not-is_arranged.false
 
-shape : (c : After-struct_told-1) → Shaped c.args.n
+shape : (c : After-scan-s) → Shaped c.args.n
 shape c = shape_of _ (search rules) (search rules)
 
 -- the weight that is read is the step's
-read : (c : After-struct_told-1) → let s = c.scan-s.result in to_z w32 (of_z w32 s.weight) ≡ s.weight
+read : (c : After-scan-s) → let s = c.scan-s.result in to_z w32 (of_z w32 s.weight) ≡ s.weight
 read c = to_z-of_z {w = w32} {z = c.scan-s.result.weight} (search rules)
 
 above : (c : Else-s-le0) → lt_z (pos 0) c.scan-s.result.weight ≡ true
@@ -39,17 +38,17 @@ returns-then-not-is_arranged c k = chosen-not _ _ (sym c.is_arranged.ensures ∙
 pub returns-then-s-le0 : goal.returns-then-s-le0
 returns-then-s-le0 c k =
     let s = c.scan-s in
-    entries_none _ (kept (goal.at.returns-then-s-le0 c).After-struct_told-1) _ _ (k (kept (goal.at.returns-then-s-le0 c).After-struct_told-1)) s.result s.ensures.0 (low (goal.at.returns-then-s-le0 c).Then-s-le0) _ c.no_step-then-s-le0.ensures
+    entries_none _ (kept (goal.at.returns-then-s-le0 c).After-scan-s) _ _ (k (kept (goal.at.returns-then-s-le0 c).After-scan-s)) s.result s.ensures.0 (low (goal.at.returns-then-s-le0 c).Then-s-le0) _ c.no_step-then-s-le0.ensures
 
 pub uses_of-uses-requires : goal.uses_of-uses-requires
 uses_of-uses-requires c =
-    (front-orderly _ _ c.front.ensures.0 (kept (goal.at.uses_of-uses-requires c).After-struct_told-1) (shape (goal.at.uses_of-uses-requires c).After-struct_told-1), above (goal.at.uses_of-uses-requires c).Else-s-le0, c.scan-s.ensures.1)
+    (front-orderly _ _ c.front.ensures.0 (kept (goal.at.uses_of-uses-requires c).After-scan-s) (shape (goal.at.uses_of-uses-requires c).After-scan-s), above (goal.at.uses_of-uses-requires c).Else-s-le0, c.scan-s.ensures.1)
 
 pub returns : goal.returns
 returns c k =
     let s = c.scan-s in
-    entries-chosen c.args.n (kept (goal.at.returns c).After-struct_told-1) _ _ (k (kept (goal.at.returns c).After-struct_told-1)) s.result s.ensures.0 (above (goal.at.returns c).Else-s-le0) _
-    (rw (front-nodes c.args.n _ c.front.ensures.0) c.uses_of-uses.ensures) refl (read (goal.at.returns c).After-struct_told-1)
+    entries-chosen c.args.n (kept (goal.at.returns c).After-scan-s) _ _ (k (kept (goal.at.returns c).After-scan-s)) s.result s.ensures.0 (above (goal.at.returns c).Else-s-le0) _
+    (rw (front-nodes c.args.n _ c.front.ensures.0) c.uses_of-uses.ensures) refl (read (goal.at.returns c).After-scan-s)
 
 pub overflow_add-e : goal.overflow_add-e
-overflow_add-e c = omega (arith, arranged-few _ (kept (goal.at.overflow_add-e c).After-struct_told-1) (shape (goal.at.overflow_add-e c).After-struct_told-1))
+overflow_add-e c = omega (arith, arranged-few _ (kept (goal.at.overflow_add-e c).After-scan-s) (shape (goal.at.overflow_add-e c).After-scan-s))

@@ -1,16 +1,14 @@
 -- The answers of `extract_choice::count_all`.
-use Prim.Native.Nat.{ℕ, ◌-◌, ◌≤◌}
+use Prim.Native.Nat.{ℕ}
 use mathlib.Core.Path.{◌≡◌, refl, ap, ◌∙◌}
 use mathlib.Core.List.{List, []}
 use native.Mathlib.Omega.{arith}
-use borrow.Author.Rules.{rules}
-use lib.ListN.{get_or, take}
+use lib.ListN.{get_or}
 use lib.Seq.{take_all}
 use Rattle.sets.{specs.Lists.total, proofs.Places.total-next, proofs.Places.total-room}
 use Rattle.cube.specs.Cube.{lits}
 use Rattle.expression.specs.Words.{cubes_of}
 use Rattle.network.specs.Parts.{nodes_of}
-use Rattle.network_nodes.specs.Nodes.{count_before}
 use Rattle.extract_laws.specs.Divisor.{sum, uses}
 use Rattle.extract_choice.proofs.Counting.{nodes-many, node-part, next_start, node-few, node-ordered, uses-few}
 use Rattle.extract_choice.proofs.count_all.Goals as goal
@@ -27,8 +25,8 @@ used l = uses (sum (lits l.args.a) (lits l.args.b))
 node : (c : After-part) → cubes_of c.part.result.now ≡ get_or ((nodes_of c.args.e c.args.counts.now c.args.words.now)) c.loop-i.i []
 node c = c.part.ensures.0 ∙ node-part c.requires c.loop-i.i c.loop-i.at (omega arith) c.loop-i.invariant.1
 
-node-counted : (c : After-count_in-r) → c.count_in-r.result ≡ (uses (sum (lits c.args.a) (lits c.args.b)))
-node-counted c = c.count_in-r.ensures ∙ ap (uses (sum (lits c.args.a) (lits c.args.b))) ((let it : cubes_of c.part.result.now ≡ get_or ((nodes_of c.args.e c.args.counts.now c.args.words.now)) c.loop-i.i [] = c.part.ensures.0 ∙ node-part c.requires c.loop-i.i c.loop-i.at (omega arith) c.loop-i.invariant.1 in it))
+node-counted : (c : After-count_in-r) → c.count_in-r.result ≡ uses (sum (lits c.args.a) (lits c.args.b)) (get_or (nodes_of c.args.e c.args.counts.now c.args.words.now) c.loop-i.i [])
+node-counted c = c.count_in-r.ensures ∙ ap (uses (sum (lits c.args.a) (lits c.args.b))) (c.part.ensures.0 ∙ node-part c.requires c.loop-i.i c.loop-i.at (omega arith) c.loop-i.invariant.1)
 
 pub overflow_add-next : goal.overflow_add-next
 overflow_add-next c = omega (arith, next_start c.requires c.loop-i.i c.loop-i.at (omega arith) c.loop-i.invariant.1)

@@ -1,18 +1,12 @@
 -- `extract_choice::count_all` meets its contract. The loop's invariant: the uses in the nodes before node i are counted. Assumes nothing.
-use Prim.Native.Nat.{ℕ, ◌-◌, ◌≤◌}
-use mathlib.Core.Path.{◌≡◌, refl, ap, ◌∙◌}
-use mathlib.Core.List.{List, []}
-use native.Mathlib.Omega.{arith}
-use borrow.Author.Rules.{rules}
-use lib.ListN.{get_or, take}
-use lib.Seq.{take_all}
-use Rattle.sets.{specs.Lists.total, proofs.Places.total-next, proofs.Places.total-room}
+use Prim.Native.Nat.{◌-◌, ◌≤◌}
+use mathlib.Core.Path.{◌≡◌}
+use lib.ListN.{take}
+use Rattle.sets.{specs.Lists.total}
 use Rattle.cube.specs.Cube.{lits}
-use Rattle.expression.specs.Words.{cubes_of}
 use Rattle.network.specs.Parts.{nodes_of}
 use Rattle.network_nodes.specs.Nodes.{count_before}
 use Rattle.extract_laws.specs.Divisor.{sum, uses}
-use Rattle.extract_choice.proofs.Counting.{nodes-many, node-part, next_start, node-few, node-ordered, uses-few}
 use Rattle.extract_choice.proofs.count_all.Given as goal
 
 abbrev pub invariant-loop-i : goal.invariant-loop-i

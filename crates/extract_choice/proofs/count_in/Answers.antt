@@ -1,12 +1,10 @@
 -- The answers of `extract_choice::count_in`.
-use Prim.Native.Nat.{◌-◌, ◌<◌}
-use mathlib.Core.{Path.◌∙◌, Logic.inl, Logic.inr}
+use Prim.Native.Nat.{◌<◌}
+use mathlib.Core.{Path.◌∙◌}
 use native.Mathlib.Omega.{arith}
-use borrow.Author.Rules.{rules}
 use lib.ListN.{length}
-use Rattle.cube.specs.Cube.{lits}
 use Rattle.expression.specs.Words.{cubes_of}
-use Rattle.extract_choice.proofs.Counting.{tested-use, Counting, counting-none, counting-on, counting-off, counting-all}
+use Rattle.extract_choice.proofs.Counting.{tested-use, counting-none, counting-on, counting-off, counting-all}
 use Rattle.extract_choice.proofs.count_in.Goals as goal
 use Rattle.extract_choice.proofs.count_in.Goals.{then-is_use, else-is_use}
 

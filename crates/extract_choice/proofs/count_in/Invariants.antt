@@ -1,12 +1,9 @@
 -- `extract_choice::count_in` meets its contract. The loop's invariant: what is counted and what is left make up all. Assumes nothing.
-use Prim.Native.Nat.{◌-◌, ◌<◌}
-use mathlib.Core.{Path.◌∙◌, Logic.inl, Logic.inr}
-use native.Mathlib.Omega.{arith}
-use borrow.Author.Rules.{rules}
+use Prim.Native.Nat.{◌-◌}
 use lib.ListN.{length}
 use Rattle.cube.specs.Cube.{lits}
 use Rattle.expression.specs.Words.{cubes_of}
-use Rattle.extract_choice.proofs.Counting.{tested-use, Counting, counting-none, counting-on, counting-off, counting-all}
+use Rattle.extract_choice.proofs.Counting.{Counting}
 use Rattle.extract_choice.proofs.count_in.Given as goal
 
 abbrev pub invariant-loop-i : goal.invariant-loop-i

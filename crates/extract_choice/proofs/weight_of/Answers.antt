@@ -17,4 +17,8 @@ pub overflow_sub-result : goal.overflow_sub-result
 overflow_sub-result c = rw (plain c) (record { sfits = difference-small c.args.gain c.args.cost 2147483648 (search rules) (search rules) })
 
 pub returns : goal.returns
-returns c = to_z-of_z w32 _ (sub-result c) ∙ plain c
+returns c =
+    let a = c.args in
+    let e = plain (goal.at.returns c).Start in
+    to_z-of_z w32 (to_z w32 a.gain -ℤ to_z w32 a.cost)
+    (rw e (record { sfits = difference-small a.gain a.cost 2147483648 (search rules) (search rules) })) ∙ e

@@ -3,7 +3,6 @@ use mathlib.Core.Path.{◌≡◌, sym, ◌∙◌}
 use mathlib.Core.Bool.{true}
 use native.Mathlib.Omega.{arith}
 use borrow.Author.Rules.{rules}
-use borrow.Author.Tests.{not-true, not-false}
 use Rattle.sets.proofs.Truth.{clash}
 use Rattle.network.{specs.Handed.Shaped, proofs.Handing.shape_of}
 use Rattle.extract_tidy.{specs.Tidy.arranged, proofs.Arranged.arranged-sized}

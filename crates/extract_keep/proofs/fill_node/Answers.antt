@@ -1,13 +1,10 @@
 -- The answers of `extract_keep::fill_node`.
-use Prim.Native.Nat.{◌-◌, ◌≤◌}
 use mathlib.Core.{Path.refl, Path.ap, List.[]}
 use native.Mathlib.Omega.{arith}
-use lib.ListN.{take}
 use lib.Seq.{take_all}
-use borrow.Author.Rules.{rules}
 use Rattle.sets.{specs.Lists.total, proofs.Places.total-next}
 use Rattle.expression.specs.Words.{cubes_of}
-use Rattle.extract_gains.{specs.Gains.Turns, specs.Gains.none, proofs.Table.turns-none, proofs.Table.turns_then, proofs.Table.turns_as}
+use Rattle.extract_gains.{proofs.Table.turns-none, proofs.Table.turns_then, proofs.Table.turns_as}
 use Rattle.extract_counts.{specs.Counts.pairs_gain, proofs.Turning.node-parts}
 use Rattle.extract_keep.proofs.fill_node.Goals as goal
 

@@ -1,12 +1,9 @@
 -- The answers of `extract_keep::fill_nodes`.
-use Prim.Native.Nat.{◌-◌, ◌≤◌}
 use mathlib.Core.Path.{refl, sym, ap, ◌∙◌}
 use native.Mathlib.Omega.{arith}
-use lib.ListN.{take}
-use borrow.Author.Rules.{rules}
 use Rattle.network.{specs.Parts.nodes_of, proofs.Parts.nodes-at, proofs.Parts.nodes-length}
-use Rattle.extract_gains.{specs.Gains.Turns, specs.Gains.none, proofs.Table.turns_then, proofs.Table.turns_as}
-use Rattle.extract_counts.specs.Counts.{node_gain, net_gain}
+use Rattle.extract_gains.{proofs.Table.turns_then, proofs.Table.turns_as}
+use Rattle.extract_counts.specs.Counts.{node_gain}
 use Rattle.extract_keep.proofs.Keeping.{net-none, net-next, net-all}
 use Rattle.extract_keep.proofs.fill_nodes.Goals as goal
 

@@ -1,7 +1,6 @@
 -- `extract_keep::next_of` meets its contract: equal cubes stay. Assumes nothing.
 use mathlib.Core.Path.{sym, ◌∙◌}
 use native.Mathlib.Omega.{arith}
-use borrow.Author.Rules.{rules}
 use Rattle.cube.proofs.Verdict.{order-told}
 use Rattle.extract_keep.proofs.next_of.Goals as goal
 

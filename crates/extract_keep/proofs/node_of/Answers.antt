@@ -3,7 +3,6 @@ use mathlib.Core.{Path.◌∙◌, Path.sym, List.[]}
 use native.Mathlib.Omega.{arith}
 use lib.ListN.{get_or-eq_default}
 use Rattle.network.{specs.Parts.nodes_of, proofs.Parts.nodes-at, proofs.Parts.nodes-length}
-use borrow.Author.Rules.{rules}
 use Rattle.extract_keep.proofs.node_of.Goals as goal
 
 pub returns-then-i-e : goal.returns-then-i-e

@@ -1,5 +1,4 @@
 -- `extract_keep::put_in` meets its contract. Assumes nothing.
-use borrow.Author.Rules.{rules}
 use Rattle.extract_keep.proofs.{Keeping.come-shift}
 use Rattle.extract_keep.proofs.put_in.Goals as goal
 

@@ -3,7 +3,6 @@ use mathlib.Core.Path.{◌≡◌, sym, ◌∙◌}
 use mathlib.Core.Bool.{true}
 use native.Mathlib.Omega.{arith}
 use borrow.Author.Rules.{rules}
-use borrow.Author.Tests.{not-true, not-false}
 use Rattle.sets.proofs.Truth.{clash}
 use Rattle.network.{specs.Handed.Shaped, proofs.Handing.shape_of}
 use Rattle.extract_tidy.{specs.Tidy.arranged, proofs.Arranged.arranged-sized}
@@ -32,13 +31,12 @@ pub returns-then-not-is_arranged-2 : goal.returns-then-not-is_arranged-2
 returns-then-not-is_arranged-2 c k r a = clash a (sym c.is_arranged-2.ensures ∙ c.if-not-is_arranged-2.true)
 
 pub renew_nodes-requires : goal.renew_nodes-requires
-renew_nodes-requires c =
-    (
-      (arranged-sized _ (old-kept (goal.at.renew_nodes-requires c).Else-not-is_arranged-2) (old-shape (goal.at.renew_nodes-requires c).Else-not-is_arranged-2)).counted,
-      arranged-few _ (old-kept (goal.at.renew_nodes-requires c).Else-not-is_arranged-2) (old-shape (goal.at.renew_nodes-requires c).Else-not-is_arranged-2),
-      (arranged-sized _ (new-kept (goal.at.renew_nodes-requires c).Else-not-is_arranged-2) (new-shape (goal.at.renew_nodes-requires c).Else-not-is_arranged-2)).counted,
-      arranged-few _ (new-kept (goal.at.renew_nodes-requires c).Else-not-is_arranged-2) (new-shape (goal.at.renew_nodes-requires c).Else-not-is_arranged-2),
-    )
+renew_nodes-requires c = (
+  (arranged-sized _ (old-kept (goal.at.renew_nodes-requires c).Else-not-is_arranged-2) (old-shape (goal.at.renew_nodes-requires c).Else-not-is_arranged-2)).counted,
+  arranged-few _ (old-kept (goal.at.renew_nodes-requires c).Else-not-is_arranged-2) (old-shape (goal.at.renew_nodes-requires c).Else-not-is_arranged-2),
+  (arranged-sized _ (new-kept (goal.at.renew_nodes-requires c).Else-not-is_arranged-2) (new-shape (goal.at.renew_nodes-requires c).Else-not-is_arranged-2)).counted,
+  arranged-few _ (new-kept (goal.at.renew_nodes-requires c).Else-not-is_arranged-2) (new-shape (goal.at.renew_nodes-requires c).Else-not-is_arranged-2),
+)
 
 pub returns-then-number-ge-MOST_ENTRIES : goal.returns-then-number-ge-MOST_ENTRIES
 returns-then-number-ge-MOST_ENTRIES c k = c.fill-then-number-ge-MOST_ENTRIES.ensures

@@ -1,13 +1,10 @@
 -- The answers of `extract_keep::renew_node`.
-use Prim.Native.Nat.{◌+◌, ◌-◌, ◌≤◌}
 use mathlib.Core.{Path.subst}
 use native.Mathlib.Omega.{arith}
-use lib.ListN.{length}
 use borrow.Author.Rules.{rules}
 use Rattle.expression.{specs.Words.cubes_of, proofs.Words.cubes-asc}
-use Rattle.extract_counts.specs.Counts.{node_gain}
-use Rattle.extract_keep.specs.Parts.{Shifts, between, Turn}
-use Rattle.extract_keep.specs.declared.{Next.Next, Next.TheVariants.Goes, Next.TheVariants.Comes, Next.TheVariants.Stays, Next.TheVariants.Ended}
+use Rattle.extract_keep.specs.Parts.{Turn}
+use Rattle.extract_keep.specs.declared.{Next.TheVariants.Goes, Next.TheVariants.Comes, Next.TheVariants.Stays, Next.TheVariants.Ended}
 use Rattle.extract_keep.proofs.Keeping.{shift_none, shift-on, shift-to, cube-stay, between-last}
 use Rattle.extract_keep.proofs.renew_node.Goals as goal
 use Rattle.extract_keep.proofs.renew_node.Goals.{In-Comes, In-Ended, In-Goes, In-Stays}
@@ -15,16 +12,16 @@ use Rattle.extract_keep.proofs.renew_node.Goals.{In-Comes, In-Ended, In-Goes, In
 pub loop-t-init : goal.loop-t-init
 loop-t-init c = (omega arith, omega arith, shift_none _ _ _)
 
-goes : (c : In-Goes) → (Turn (cubes_of c.args.a.now) c.loop-t.i (cubes_of c.args.b.now) c.loop-t.j)
+goes : (c : In-Goes) → Turn (cubes_of c.args.a.now) c.loop-t.i (cubes_of c.args.b.now) c.loop-t.j Goes
 goes c = subst (Turn (cubes_of c.args.a.now) c.loop-t.i (cubes_of c.args.b.now) c.loop-t.j) c.in-Goes.is c.next_of-x.ensures
 
-comes : (c : In-Comes) → (Turn (cubes_of c.args.a.now) c.loop-t.i (cubes_of c.args.b.now) c.loop-t.j)
+comes : (c : In-Comes) → Turn (cubes_of c.args.a.now) c.loop-t.i (cubes_of c.args.b.now) c.loop-t.j Comes
 comes c = subst (Turn (cubes_of c.args.a.now) c.loop-t.i (cubes_of c.args.b.now) c.loop-t.j) c.in-Comes.is c.next_of-x.ensures
 
-stays : (c : In-Stays) → (Turn (cubes_of c.args.a.now) c.loop-t.i (cubes_of c.args.b.now) c.loop-t.j)
+stays : (c : In-Stays) → Turn (cubes_of c.args.a.now) c.loop-t.i (cubes_of c.args.b.now) c.loop-t.j Stays
 stays c = subst (Turn (cubes_of c.args.a.now) c.loop-t.i (cubes_of c.args.b.now) c.loop-t.j) c.in-Stays.is c.next_of-x.ensures
 
-ended : (c : In-Ended) → (Turn (cubes_of c.args.a.now) c.loop-t.i (cubes_of c.args.b.now) c.loop-t.j)
+ended : (c : In-Ended) → Turn (cubes_of c.args.a.now) c.loop-t.i (cubes_of c.args.b.now) c.loop-t.j Ended
 ended c = subst (Turn (cubes_of c.args.a.now) c.loop-t.i (cubes_of c.args.b.now) c.loop-t.j) c.in-Ended.is c.next_of-x.ensures
 
 pub take_out-requires : goal.take_out-requires

@@ -1,15 +1,10 @@
 -- `extract_keep::renew_node` meets its contract. The loop's invariant: the table has the cubes of b before place j and those of a from place i
 -- on. Assumes nothing.
 use Prim.Native.Nat.{◌+◌, ◌-◌, ◌≤◌}
-use mathlib.Core.{Path.subst}
-use native.Mathlib.Omega.{arith}
 use lib.ListN.{length}
-use borrow.Author.Rules.{rules}
-use Rattle.expression.{specs.Words.cubes_of, proofs.Words.cubes-asc}
+use Rattle.expression.{specs.Words.cubes_of}
 use Rattle.extract_counts.specs.Counts.{node_gain}
-use Rattle.extract_keep.specs.Parts.{Shifts, between, Turn}
-use Rattle.extract_keep.specs.declared.{Next.Next, Next.TheVariants.Goes, Next.TheVariants.Comes, Next.TheVariants.Stays, Next.TheVariants.Ended}
-use Rattle.extract_keep.proofs.Keeping.{shift_none, shift-on, shift-to, cube-stay, between-last}
+use Rattle.extract_keep.specs.Parts.{Shifts, between}
 use Rattle.extract_keep.proofs.renew_node.Given as goal
 
 abbrev pub invariant-loop-t : goal.invariant-loop-t

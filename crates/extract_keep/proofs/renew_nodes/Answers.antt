@@ -1,12 +1,8 @@
 -- The answers of `extract_keep::renew_nodes`.
-use Prim.Native.Nat.{ℕ, ◌-◌, ◌≤◌}
+use Prim.Native.Nat.{ℕ}
 use mathlib.Core.List.{List}
 use native.Mathlib.Omega.{arith}
-use lib.ListN.{take}
-use borrow.Author.Rules.{rules}
-use Rattle.network.{specs.Parts.nodes_of, specs.Handed.node_slots, proofs.Parts.nodes-length}
-use Rattle.extract_counts.specs.Counts.{net_gain}
-use Rattle.extract_keep.specs.Parts.{Shifts}
+use Rattle.network.{specs.Parts.nodes_of, proofs.Parts.nodes-length}
 use Rattle.extract_keep.proofs.Keeping.{shift-first, shift-net, shift-all}
 use Rattle.extract_keep.proofs.renew_nodes.Goals as goal
 use Rattle.extract_keep.proofs.renew_nodes.Goals.{Start}

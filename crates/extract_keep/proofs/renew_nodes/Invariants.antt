@@ -1,13 +1,9 @@
 -- `extract_keep::renew_nodes` meets its contract. The loop's invariant: the nodes before node i are those of the second. Assumes nothing.
-use Prim.Native.Nat.{ℕ, ◌-◌, ◌≤◌}
-use mathlib.Core.List.{List}
-use native.Mathlib.Omega.{arith}
+use Prim.Native.Nat.{◌-◌, ◌≤◌}
 use lib.ListN.{take}
-use borrow.Author.Rules.{rules}
-use Rattle.network.{specs.Parts.nodes_of, specs.Handed.node_slots, proofs.Parts.nodes-length}
+use Rattle.network.{specs.Parts.nodes_of, specs.Handed.node_slots}
 use Rattle.extract_counts.specs.Counts.{net_gain}
 use Rattle.extract_keep.specs.Parts.{Shifts}
-use Rattle.extract_keep.proofs.Keeping.{shift-first, shift-net, shift-all}
 use Rattle.extract_keep.proofs.renew_nodes.Given as goal
 
 abbrev pub invariant-loop-i : goal.invariant-loop-i

@@ -1,5 +1,4 @@
 -- `extract_keep::take_out` meets its contract. Assumes nothing.
-use borrow.Author.Rules.{rules}
 use Rattle.extract_keep.proofs.{Keeping.gone-shift}
 use Rattle.extract_keep.proofs.take_out.Goals as goal
 

@@ -1,14 +1,13 @@
 -- The answers of `extract_partners::count_long`.
-use Prim.Native.Nat.{◌+◌, ◌-◌, ◌≤◌}
+use Prim.Native.Nat.{◌+◌, ◌-◌}
 use mathlib.Core.Path.{◌≡◌, sym, ap, ap₂, ◌∙◌}
 use mathlib.Core.List.{[]}
 use native.Mathlib.Omega.{arith}
-use borrow.Author.Rules.{rules}
 use lib.ListN.{drop, length-drop, drop_of_length-le}
 use lib.Seq.{take_all}
 use Rattle.expression.specs.Words.{cubes_of}
 use Rattle.extract_counts.specs.Counts.{row_gain, sums_gain}
-use Rattle.extract_partners.proofs.Turning.{Partly, partly-first, partly-then, partly-end}
+use Rattle.extract_partners.proofs.Turning.{partly-first, partly-then, partly-end}
 use Rattle.extract_partners.proofs.{Node.sums_next, Node.sums_none}
 use Rattle.extract_partners.proofs.count_long.Goals as goal
 

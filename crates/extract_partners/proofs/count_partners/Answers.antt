@@ -1,12 +1,10 @@
 -- The answers of `extract_partners::count_partners`.
-use Prim.Native.Nat.{ℕ, ◌-◌, ◌%◌, ◌<◌}
+use Prim.Native.Nat.{ℕ, ◌%◌, ◌<◌}
 use mathlib.Core.Path.{◌≡◌, ap, ◌∙◌}
-use mathlib.Core.Logic.{inl, inr}
 use native.Mathlib.Omega.{arith}
-use borrow.Author.Rules.{rules}
 use lib.ListN.{length, get_or}
 use Rattle.expression.specs.Words.{cubes_of}
-use Rattle.extract_partners.specs.Table.{left_at, code_of, first, place_of, Entered}
+use Rattle.extract_partners.specs.Table.{first, place_of}
 use Rattle.extract_partners.proofs.Chains.{Walk, walk_first, walk_end, walk_at, walk-place, walk-below, walk-falls, walk-met, walk-passed}
 use Rattle.extract_partners.proofs.count_partners.Goals as goal
 use Rattle.extract_partners.proofs.count_partners.Goals.{At-loop-at, In-loop-at, then-r-at, else-r-at}

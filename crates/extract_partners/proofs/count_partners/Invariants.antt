@@ -1,14 +1,9 @@
 -- `extract_partners::count_partners` meets its contract. The loop's invariant: the walk stands in the chain of the code, and what it has left is
 -- still to be put in. The measure is the place, which falls. Assumes nothing.
-use Prim.Native.Nat.{ℕ, ◌-◌, ◌%◌, ◌<◌}
-use mathlib.Core.Path.{◌≡◌, ap, ◌∙◌}
-use mathlib.Core.Logic.{inl, inr}
-use native.Mathlib.Omega.{arith}
-use borrow.Author.Rules.{rules}
-use lib.ListN.{length, get_or}
+use mathlib.Core.Path.{◌≡◌}
 use Rattle.expression.specs.Words.{cubes_of}
-use Rattle.extract_partners.specs.Table.{left_at, code_of, first, place_of, Entered}
-use Rattle.extract_partners.proofs.Chains.{Walk, walk_first, walk_end, walk_at, walk-place, walk-below, walk-falls, walk-met, walk-passed}
+use Rattle.extract_partners.specs.Table.{left_at, code_of, Entered}
+use Rattle.extract_partners.proofs.Chains.{Walk}
 use Rattle.extract_partners.proofs.count_partners.Given as goal
 
 abbrev pub invariant-loop-at : goal.invariant-loop-at

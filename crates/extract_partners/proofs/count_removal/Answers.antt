@@ -1,7 +1,6 @@
 -- `extract_partners::count_removal` meets its contract. Assumes nothing.
 use mathlib.Core.Path.{◌≡◌, ap, ◌∙◌}
 use native.Mathlib.Omega.{arith}
-use borrow.Author.Rules.{rules}
 use lib.ListN.{get_or}
 use Rattle.expression.specs.Words.{cubes_of}
 use Rattle.extract_partners.specs.Table.{left_at, code_of}

@@ -1,13 +1,10 @@
 -- The answers of `extract_partners::count_short`.
-use Prim.Native.Nat.{ℕ, ◌-◌, ◌≤◌}
+use Prim.Native.Nat.{ℕ}
 use mathlib.Core.Path.{◌≡◌, ◌∙◌}
 use native.Mathlib.Numerals.{add-one}
 use native.Mathlib.Omega.{arith}
-use borrow.Author.Rules.{rules}
-use lib.ListN.{length, take, length-replicate}
+use lib.ListN.{length, length-replicate}
 use Rattle.expression.specs.Words.{cubes_of}
-use Rattle.extract_gains.specs.Gains.{Turns, none}
-use Rattle.extract_partners.specs.Table.{use_gain, every_two, Entered}
 use Rattle.extract_partners.proofs.{Short.short-room, Numbering.removals-many}
 use Rattle.extract_partners.proofs.Node.{Whole, entered-none, part-some, turns-first, turns_next, turns-all}
 use Rattle.extract_partners.proofs.count_short.Goals as goal

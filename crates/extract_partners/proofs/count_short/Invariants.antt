@@ -1,16 +1,10 @@
 -- `extract_partners::count_short` meets its contract. The loop's invariant: the first e removals are in the chains, and each two of them are
 -- met. Assumes nothing.
-use Prim.Native.Nat.{ℕ, ◌-◌, ◌≤◌}
-use mathlib.Core.Path.{◌≡◌, ◌∙◌}
-use native.Mathlib.Numerals.{add-one}
-use native.Mathlib.Omega.{arith}
-use borrow.Author.Rules.{rules}
-use lib.ListN.{length, take, length-replicate}
+use Prim.Native.Nat.{◌-◌, ◌≤◌}
+use lib.ListN.{take}
 use Rattle.expression.specs.Words.{cubes_of}
 use Rattle.extract_gains.specs.Gains.{Turns, none}
 use Rattle.extract_partners.specs.Table.{use_gain, every_two, Entered}
-use Rattle.extract_partners.proofs.{Short.short-room, Numbering.removals-many}
-use Rattle.extract_partners.proofs.Node.{Whole, entered-none, part-some, turns-first, turns_next, turns-all}
 use Rattle.extract_partners.proofs.count_short.Given as goal
 
 abbrev pub invariant-loop-e : goal.invariant-loop-e

@@ -1,6 +1,5 @@
 -- `extract_partners::count_sums` meets its contract. Assumes nothing.
 use mathlib.Core.Path.{sym, ◌∙◌}
-use borrow.Author.Rules.{rules}
 use Rattle.extract_partners.proofs.count_sums.Goals as goal
 
 pub count_short-requires : goal.count_short-requires

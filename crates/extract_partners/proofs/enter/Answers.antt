@@ -2,7 +2,6 @@
 use Prim.Native.Nat.{◌%◌}
 use mathlib.Core.Path.{sym, ap}
 use native.Mathlib.Omega.{arith}
-use borrow.Author.Rules.{rules}
 use Rattle.extract_partners.specs.Table.{first}
 use Rattle.extract_partners.proofs.{Entering.grown-enters}
 use Rattle.extract_partners.proofs.enter.Goals as goal

@@ -1,10 +1,9 @@
 -- The answers of `extract_partners::is_short`.
-use Prim.Native.Nat.{◌-◌, ◌≤◌}
+use Prim.Native.Nat.{◌≤◌}
 use mathlib.Core.Path.{◌≡◌, sym, ap, ◌∙◌}
 use mathlib.Core.List.{[]}
 use native.Mathlib.Nat.{mul-le-mul}
 use native.Mathlib.Omega.{arith}
-use borrow.Author.Rules.{rules}
 use lib.ListN.{length, get_or, take}
 use lib.Seq.{take_all}
 use Rattle.expression.specs.Words.{cubes_of}
@@ -33,12 +32,11 @@ returns-then-n-gt-MOST_REMOVALS c =
     (omega (arith, own (goal.at.returns-then-n-gt-MOST_REMOVALS c).After-removals_of-n, c.loop-i.invariant.1, removals-room (cubes_of c.args.f.now) c.loop-i.i (omega (arith, c.number-k.ensures))))
 
 pub loop-i-preserved : goal.loop-i-preserved
-loop-i-preserved c =
-    (
-      omega arith,
-      omega (arith, own (goal.at.loop-i-preserved c).After-removals_of-n, c.loop-i.invariant.1, removals-next (cubes_of c.args.f.now) c.loop-i.i (omega (arith, c.number-k.ensures))),
-      omega arith,
-    )
+loop-i-preserved c = (
+  omega arith,
+  omega (arith, own (goal.at.loop-i-preserved c).After-removals_of-n, c.loop-i.invariant.1, removals-next (cubes_of c.args.f.now) c.loop-i.i (omega (arith, c.number-k.ensures))),
+  omega arith,
+)
 
 pub overflow_mul-result-2 : goal.overflow_mul-result-2
 overflow_mul-result-2 c =

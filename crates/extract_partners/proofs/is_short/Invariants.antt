@@ -1,16 +1,10 @@
 -- `extract_partners::is_short` meets its contract. The loop's invariant: the removals of the cubes passed are counted, and there is room for
 -- them. Assumes nothing.
 use Prim.Native.Nat.{◌-◌, ◌≤◌}
-use mathlib.Core.Path.{◌≡◌, sym, ap, ◌∙◌}
-use mathlib.Core.List.{[]}
-use native.Mathlib.Nat.{mul-le-mul}
-use native.Mathlib.Omega.{arith}
-use borrow.Author.Rules.{rules}
-use lib.ListN.{length, get_or, take}
-use lib.Seq.{take_all}
+use mathlib.Core.Path.{◌≡◌}
+use lib.ListN.{take}
 use Rattle.expression.specs.Words.{cubes_of}
-use Rattle.extract_partners.specs.Removal.{removals, removals_of}
-use Rattle.extract_partners.proofs.Short.{removals-most, removals-none, removals-next, removals-room, short-many, short-long, short-rule}
+use Rattle.extract_partners.specs.Removal.{removals_of}
 use Rattle.extract_partners.proofs.is_short.Given as goal
 
 abbrev pub invariant-loop-i : goal.invariant-loop-i

@@ -1,7 +1,6 @@
 -- `extract_partners::left_at` meets its contract. Assumes nothing.
 use mathlib.Core.Path.{◌∙◌, ap, ap₂}
 use mathlib.Core.List.{[]}
-use borrow.Author.Rules.{rules}
 use lib.ListN.{get_or}
 use Rattle.sets.specs.Sets.{without}
 use Rattle.expression.specs.Words.{cubes_of}

@@ -1,16 +1,10 @@
 -- `extract_partners::list_cube` meets its contract. The loop's invariant: the removals of the literals that are left are still to be listed.
 -- Assumes nothing.
-use Prim.Native.Nat.{ℕ, ◌+◌, ◌*◌, ◌<◌}
-use mathlib.Core.Path.{◌≡◌, ap, ◌∙◌}
-use mathlib.Core.List.{List, [], ◌∷◌, ◌++◌, map}
-use native.Mathlib.Omega.{arith}
-use borrow.Author.Rules.{rules}
-use lib.ListN.{length, set, length-map}
-use Rattle.cube.specs.Cube.{lits, width}
-use Rattle.cube_order.proofs.Taking.{taken_none, taken-small, taken_next}
+use mathlib.Core.List.{map}
+use lib.ListN.{length}
+use Rattle.cube.specs.Cube.{lits}
 use Rattle.extract_partners.specs.{Removal.removals, Table.removal_of}
-use Rattle.extract_partners.proofs.Listing.{Listing, listing-first, listing-as, listing-room, listing-put, listing-then, listing-end}
-use Rattle.extract_partners.proofs.{Numbering.removals-cube}
+use Rattle.extract_partners.proofs.Listing.{Listing}
 use Rattle.extract_partners.proofs.list_cube.Given as goal
 
 abbrev pub invariant-loop-p : goal.invariant-loop-p

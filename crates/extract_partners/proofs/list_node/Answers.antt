@@ -1,9 +1,8 @@
 -- The answers of `extract_partners::list_node`.
-use Prim.Native.Nat.{ℕ, ◌+◌, ◌-◌, ◌≤◌}
+use Prim.Native.Nat.{ℕ, ◌+◌}
 use mathlib.Core.Path.{◌≡◌, sym, ap, ◌∙◌}
 use mathlib.Core.List.{List, [], ◌++◌, map}
 use native.Mathlib.Omega.{arith}
-use borrow.Author.Rules.{rules}
 use lib.ListN.{drop, length-map, drop_of_length-le}
 use Rattle.cube.specs.Cube.{lits}
 use Rattle.expression.specs.Words.{cubes_of}
@@ -32,11 +31,10 @@ ready c =
     ∙ ap (λ x. map (removal_of c.loop-j.j) (removals x) ++ later c) (sym c.cube_at.ensures)) c.loop-j.invariant.0
 
 pub list_cube-n-requires : goal.list_cube-n-requires
-list_cube-n-requires c =
-    (
-      omega (arith, c.number-k.ensures, c.requires.0),
-      omega (arith, listing-room (own c) (later c) (ready c), length-map (removals (lits c.cube_at.result)) (removal_of c.loop-j.j)),
-    )
+list_cube-n-requires c = (
+  omega (arith, c.number-k.ensures, c.requires.0),
+  omega (arith, listing-room (own c) (later c) (ready c), length-map (removals (lits c.cube_at.result)) (removal_of c.loop-j.j)),
+)
 
 pub loop-j-preserved : goal.loop-j-preserved
 loop-j-preserved c =

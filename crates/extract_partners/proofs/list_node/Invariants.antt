@@ -1,16 +1,10 @@
 -- `extract_partners::list_node` meets its contract. The loop's invariant: the removals of the cubes from place j on are still to be listed.
 -- Assumes nothing.
-use Prim.Native.Nat.{ℕ, ◌+◌, ◌-◌, ◌≤◌}
-use mathlib.Core.Path.{◌≡◌, sym, ap, ◌∙◌}
-use mathlib.Core.List.{List, [], ◌++◌, map}
-use native.Mathlib.Omega.{arith}
-use borrow.Author.Rules.{rules}
-use lib.ListN.{drop, length-map, drop_of_length-le}
-use Rattle.cube.specs.Cube.{lits}
+use Prim.Native.Nat.{◌-◌, ◌≤◌}
+use lib.ListN.{drop}
 use Rattle.expression.specs.Words.{cubes_of}
-use Rattle.extract_partners.specs.{Removal.removals, Table.removal_of, Table.removals_from}
-use Rattle.extract_partners.proofs.Listing.{Listing, listing-first, listing-as, listing-room, listing-then, listing-end}
-use Rattle.extract_partners.proofs.{Numbering.removals-next}
+use Rattle.extract_partners.specs.{Table.removals_from}
+use Rattle.extract_partners.proofs.Listing.{Listing}
 use Rattle.extract_partners.proofs.list_node.Given as goal
 
 abbrev pub invariant-loop-j : goal.invariant-loop-j

@@ -3,7 +3,6 @@ use Prim.Native.Nat.{ℕ, ◌+◌, ◌*◌, ◌<◌}
 use mathlib.Core.Path.{◌≡◌, ap}
 use mathlib.Core.List.{List, [], ◌∷◌, map}
 use native.Mathlib.Omega.{arith}
-use borrow.Author.Rules.{rules}
 use lib.ListN.{length, length-map}
 use Rattle.sets.proofs.Lists.{map-cong}
 use Rattle.cube.specs.Cube.{lits, width}
@@ -12,7 +11,7 @@ use Rattle.extract_keys.specs.Keys.{part_code}
 use Rattle.extract_partners.specs.Table.{removal_of}
 use Rattle.extract_partners.proofs.Listing.{Listing, listed-as, listing-first, listing-as, listing-room, listing-put, listing-end}
 use Rattle.extract_partners.proofs.list_pairs.Goals as goal
-use Rattle.extract_partners.proofs.list_pairs.Goals.{After-struct_known-in-loop-q-1, At-loop-q}
+use Rattle.extract_partners.proofs.list_pairs.Goals.{After-without-rest, At-loop-q}
 
 pub loop-q-init : goal.loop-q-init
 loop-q-init c =
@@ -32,25 +31,25 @@ returns-in_default c =
     listed-as (by-base c.args.j c.args.p.0 (lits c.args.c)) (listing-end (listing-as (ap (map (base (goal.at.returns-in_default c).At-loop-q +◌)) e) c.loop-q.invariant.0))
 
 -- the literal found and the others
-others : (c : After-struct_known-in-loop-q-1)
+others : (c : After-without-rest)
     → lits c.loop-q.rest ≡ c.in-At.q.0 ∷ lits c.without-rest.result
 others c =
     taken_next _ c.first_from-found.ensures c.in-At.is c.empty.ensures
     c.with.ensures c.without-rest.ensures
 
-small : (c : After-struct_known-in-loop-q-1) → c.in-At.q.0 < 2 * width
+small : (c : After-without-rest) → c.in-At.q.0 < 2 * width
 small c = taken-small _ c.first_from-found.ensures c.in-At.is
 
 -- what is still to be listed begins with its removal
-ready : (c : After-struct_known-in-loop-q-1) → Listing c.args.ws.now c.loop-q.ws c.args.at c.loop-q.n (map ((65536 * c.args.j + 256 * c.args.p.0) +◌) (c.in-At.q.0 ∷ lits c.without-rest.result))
+ready : (c : After-without-rest) → Listing c.args.ws.now c.loop-q.ws c.args.at c.loop-q.n (map ((65536 * c.args.j + 256 * c.args.p.0) +◌) (c.in-At.q.0 ∷ lits c.without-rest.result))
     (map ((65536 * c.args.j + 256 * c.args.p.0) +◌) (lits c.args.c))
 ready c = listing-as (ap (map ((65536 * c.args.j + 256 * c.args.p.0) +◌)) (others c)) c.loop-q.invariant.0
 
-inside : (c : After-struct_known-in-loop-q-1) → c.loop-q.n < length c.loop-q.ws
+inside : (c : After-without-rest) → c.loop-q.n < length c.loop-q.ws
 inside c = omega (arith, listing-room (((65536 * c.args.j + 256 * c.args.p.0) + c.in-At.q.0) ∷ []) _ (ready c))
 
 pub loop-q-preserved : goal.loop-q-preserved
-loop-q-preserved c = (listing-put (ready c), c.loop-q.invariant.1)
+loop-q-preserved c = (listing-put (ready (goal.at.loop-q-preserved c).After-without-rest), c.loop-q.invariant.1)
 
 pub overflow_cast-base : goal.overflow_cast-base
 overflow_cast-base c = omega (arith, c.requires.0)
@@ -68,13 +67,16 @@ pub shape_of-ws-in_default : goal.shape_of-ws-in_default
 shape_of-ws-in_default c = c.loop-q.invariant.0.stand.long
 
 pub overflow_add-ws : goal.overflow_add-ws
-overflow_add-ws c = omega (arith, small c, c.loop-q.invariant.1)
+overflow_add-ws c = omega (arith, small (goal.at.overflow_add-ws c).After-without-rest, c.loop-q.invariant.1)
 
 pub offset_bounds-ws-n : goal.offset_bounds-ws-n
-offset_bounds-ws-n c = omega (arith, inside c)
+offset_bounds-ws-n c = omega (arith, inside (goal.at.offset_bounds-ws-n c).After-without-rest)
 
 pub overflow_add-n : goal.overflow_add-n
-overflow_add-n c = omega (arith, inside c)
+overflow_add-n c = omega (arith, inside (goal.at.overflow_add-n c).After-without-rest)
 
 pub loop-q-smaller : goal.loop-q-smaller
-loop-q-smaller c = omega (arith, ap length (others c))
+loop-q-smaller c = omega (arith, ap length (others (goal.at.loop-q-smaller c).After-without-rest))
+
+pub bounds-ws-n : goal.bounds-ws-n
+bounds-ws-n c = inside (goal.at.bounds-ws-n c).After-without-rest

@@ -1,7 +1,6 @@
 -- `extract_partners::part_at` meets its contract. Assumes nothing.
 use Prim.Native.Nat.{◌/◌, ◌%◌}
 use mathlib.Core.Path.{◌∙◌, ap}
-use borrow.Author.Rules.{rules}
 use Rattle.cube.specs.Cube.{joined}
 use Rattle.extract_keys.specs.Keys.{part_of}
 use Rattle.extract_partners.proofs.part_at.Goals as goal

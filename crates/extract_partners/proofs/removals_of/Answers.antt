@@ -1,7 +1,6 @@
 -- `extract_partners::removals_of` meets its contract. Assumes nothing.
 use mathlib.Core.Path.{◌≡◌, ◌∙◌}
 use native.Mathlib.Omega.{arith}
-use borrow.Author.Rules.{rules}
 use lib.ListN.{length}
 use Rattle.cube.specs.Cube.{lits}
 use Rattle.extract_partners.proofs.{Removing.removals-length, Short.product-most}

@@ -1,5 +1,4 @@
 -- `extract_rows::count_cube` meets its contract: three amounts, one after the other. Assumes nothing.
-use borrow.Author.Rules.{rules}
 use Rattle.cube.specs.Cube.{lits}
 use Rattle.expression.specs.Words.{cubes_of}
 use Rattle.extract_counts.specs.Counts.{pairs_gain, row_gain}

@@ -2,11 +2,9 @@
 use mathlib.Core.{Path.◌≡◌, Path.ap, List.◌∷◌}
 use native.Mathlib.Omega.{arith}
 use lib.ListN.{length}
-use borrow.Author.Rules.{rules}
 use Rattle.cube.specs.Cube.{lits}
 use Rattle.cube_order.proofs.Taking.{taken_none, taken-small, taken_next}
-use Rattle.extract_counts.specs.Counts.{pairs_gain}
-use Rattle.extract_rows.proofs.Counting.{Due, due_all, due-next, due-done, pairs-none, pairs_next}
+use Rattle.extract_rows.proofs.Counting.{due_all, due-next, due-done, pairs-none, pairs_next}
 use Rattle.extract_rows.proofs.count_pairs.Goals as goal
 use Rattle.extract_rows.proofs.count_pairs.Goals.{After-without-rest}
 

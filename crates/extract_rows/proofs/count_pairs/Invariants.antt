@@ -1,12 +1,8 @@
 -- `extract_rows::count_pairs` meets its contract. The loop's invariant: the pairs of what is left of c are due. Assumes nothing.
-use mathlib.Core.{Path.◌≡◌, Path.ap, List.◌∷◌}
-use native.Mathlib.Omega.{arith}
 use lib.ListN.{length}
-use borrow.Author.Rules.{rules}
 use Rattle.cube.specs.Cube.{lits}
-use Rattle.cube_order.proofs.Taking.{taken_none, taken-small, taken_next}
 use Rattle.extract_counts.specs.Counts.{pairs_gain}
-use Rattle.extract_rows.proofs.Counting.{Due, due_all, due-next, due-done, pairs-none, pairs_next}
+use Rattle.extract_rows.proofs.Counting.{Due}
 use Rattle.extract_rows.proofs.count_pairs.Given as goal
 
 abbrev pub invariant-loop-p : goal.invariant-loop-p

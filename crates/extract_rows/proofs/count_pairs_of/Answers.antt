@@ -3,12 +3,10 @@ use mathlib.Core.Path.{◌≡◌, ap, ◌∙◌}
 use mathlib.Core.List.{◌∷◌}
 use native.Mathlib.Omega.{arith}
 use lib.ListN.{length}
-use borrow.Author.Rules.{rules}
 use Rattle.cube.specs.Cube.{lits}
 use Rattle.cube_order.proofs.Taking.{taken_none, taken-small, taken_next}
 use Rattle.extract_keys.proofs.Keys.{pair-key-of}
-use Rattle.extract_rows.specs.Parts.{pairs_with}
-use Rattle.extract_rows.proofs.Counting.{Due, due_all, due-next, due-done, with_none, with-next}
+use Rattle.extract_rows.proofs.Counting.{due_all, due-next, due-done, with_none, with-next}
 use Rattle.extract_rows.proofs.count_pairs_of.Goals as goal
 use Rattle.extract_rows.proofs.count_pairs_of.Goals.{After-count_use}
 

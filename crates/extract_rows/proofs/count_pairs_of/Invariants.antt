@@ -1,14 +1,8 @@
 -- `extract_rows::count_pairs_of` meets its contract. The loop's invariant: the pairs of p and what is left of c are due. Assumes nothing.
-use mathlib.Core.Path.{◌≡◌, ap, ◌∙◌}
-use mathlib.Core.List.{◌∷◌}
-use native.Mathlib.Omega.{arith}
 use lib.ListN.{length}
-use borrow.Author.Rules.{rules}
 use Rattle.cube.specs.Cube.{lits}
-use Rattle.cube_order.proofs.Taking.{taken_none, taken-small, taken_next}
-use Rattle.extract_keys.proofs.Keys.{pair-key-of}
 use Rattle.extract_rows.specs.Parts.{pairs_with}
-use Rattle.extract_rows.proofs.Counting.{Due, due_all, due-next, due-done, with_none, with-next}
+use Rattle.extract_rows.proofs.Counting.{Due}
 use Rattle.extract_rows.proofs.count_pairs_of.Given as goal
 
 abbrev pub invariant-loop-q : goal.invariant-loop-q

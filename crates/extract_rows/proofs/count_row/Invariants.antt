@@ -1,12 +1,10 @@
 -- `extract_rows::count_row` meets its contract. The loop's invariant: what the cube makes with those from place i on is due. Assumes nothing.
 use Prim.Native.Nat.{◌-◌, ◌≤◌}
-use native.Mathlib.Omega.{arith}
 use lib.ListN.{drop}
-use borrow.Author.Rules.{rules}
 use Rattle.cube.specs.Cube.{lits}
 use Rattle.expression.specs.Words.{cubes_of}
 use Rattle.extract_counts.specs.Counts.{row_gain}
-use Rattle.extract_rows.proofs.Counting.{Due, due_all, due-next, due-done, row-none, row_next}
+use Rattle.extract_rows.proofs.Counting.{Due}
 use Rattle.extract_rows.proofs.count_row.Given as goal
 
 abbrev pub invariant-loop-i : goal.invariant-loop-i

@@ -1,12 +1,9 @@
 -- `extract_rows::count_two` meets its contract: a case for each way the tests go. Assumes nothing.
 use Prim.Native.Nat.{ℕ, ◌<◌}
-use mathlib.Core.Path.{◌≡◌, sym, ap, ◌∙◌}
-use mathlib.Core.Bool.{true}
+use mathlib.Core.Path.{sym, ap, ◌∙◌}
 use native.Mathlib.Omega.{arith}
 use lib.ListN.{length}
-use borrow.Author.Rules.{rules}
-use Rattle.cube.{specs.Cube.lits, proofs.Lits.lits-at-most}
-use Rattle.extract_laws.specs.Divisor.{small}
+use Rattle.cube.{proofs.Lits.lits-at-most}
 use Rattle.extract_rows.proofs.Counting.{counts-as, counts-none, small-out, two-left, two-right, two-some}
 use Rattle.extract_rows.proofs.count_two.Goals as goal
 use Rattle.extract_rows.proofs.count_two.Goals.{Else-not-is_small, Else-not-is_small-2, After-count-2}
@@ -45,8 +42,8 @@ overflow_sub-by c = omega (arith, (sizes c).some)
 pub overflow_add-by-2 : goal.overflow_add-by-2
 overflow_add-by-2 c = let f = sizes c in omega (arith, f.common, f.first, f.second)
 
-pub overflow_cast-count_use : goal.overflow_cast-count_use
-overflow_cast-count_use c = let f = sizes (goal.at.overflow_cast-count_use c).After-count-2 in omega (arith, f.common, f.first, f.second)
+pub overflow_cast-by : goal.overflow_cast-by
+overflow_cast-by c = let f = sizes (goal.at.overflow_cast-by c).After-count-2 in omega (arith, f.common, f.first, f.second)
 
 pub returns : goal.returns
 returns c =

@@ -1,5 +1,4 @@
 -- `extract_rows::count_use` meets its contract: a use is put in, or taken out, by the test. Assumes nothing.
-use borrow.Author.Rules.{rules}
 use Rattle.extract_rows.proofs.{Counting.counts-put, Counting.counts-take}
 use Rattle.extract_rows.proofs.count_use.Goals as goal
 

@@ -1,5 +1,4 @@
 -- `extract_rows::is_small` meets its contract. Assumes nothing.
-use borrow.Author.Rules.{rules}
 use Rattle.extract_rows.proofs.{Counting.small-none, Counting.small-some}
 use Rattle.extract_rows.proofs.is_small.Goals as goal
 

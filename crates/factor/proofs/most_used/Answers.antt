@@ -1,14 +1,13 @@
 -- The answers of `factor::most_used`.
 use mathlib.Core.Path.{◌≡◌, refl, sym, ◌∙◌, ap}
-use Prim.Native.Nat.{◌+◌, ◌-◌, ◌*◌, ◌≤◌}
+use Prim.Native.Nat.{◌+◌, ◌-◌, ◌*◌}
 use native.Mathlib.Omega.{arith}
-use borrow.Author.Rules.{rules}
-use mathlib.Core.Logic.{inl, inr}
 use Rattle.cube.specs.Cube.{width}
-use Rattle.factor.specs.Form.{used_in, most as most_from, most_used}
+use Rattle.factor.specs.Form.{used_in, most as most_from}
 use Rattle.factor.specs.Parts.{cubes_from}
 use Rattle.factor.proofs.Choosing.{most-taken, most-left, most-end}
 use Rattle.factor.proofs.most_used.Goals as goal
+use Rattle.factor.proofs.most_used.Goals.{then-most-n, else-most-n}
 
 pub loop-l-init : goal.loop-l-init
 loop-l-init c = (omega arith, c.uses-most.ensures, refl)
@@ -20,17 +19,17 @@ loop-l-preserved c =
     let b = c.loop-l.best in
     let n : c.uses-n.result ≡ used_in l P = c.uses-n.ensures in
     elim c.if-most-n.branch [
-      | inl (w, x, y) ↦ (
+      | then-most-n w ↦ (
         omega arith,
-        y ∙ n ∙ ap (λ z. used_in z P) (sym x),
-        ap (most_from (2 * width - (l + 1)) P (l + 1)) x
-            ∙ sym (most-taken P (2 * width) l b c.loop-l-test.true (omega (arith, w.taken, c.loop-l.invariant.1, n))) ∙ c.loop-l.invariant.2,
+        w.most-is ∙ n ∙ ap (λ z. used_in z P) (sym w.best-is),
+        ap (most_from (2 * width - (l + 1)) P (l + 1)) w.best-is
+            ∙ sym (most-taken P (2 * width) l b c.loop-l-test.true (omega (arith, w.if-most-n.true, c.loop-l.invariant.1, n))) ∙ c.loop-l.invariant.2,
       )
-      | inr (w, x, y) ↦ (
+      | else-most-n w ↦ (
         omega arith,
-        y ∙ c.loop-l.invariant.1 ∙ ap (λ z. used_in z P) (sym x),
-        ap (most_from (2 * width - (l + 1)) P (l + 1)) x
-            ∙ sym (most-left P (2 * width) l b c.loop-l-test.true (omega (arith, w.left, c.loop-l.invariant.1, n))) ∙ c.loop-l.invariant.2,
+        w.most-is ∙ c.loop-l.invariant.1 ∙ ap (λ z. used_in z P) (sym w.best-is),
+        ap (most_from (2 * width - (l + 1)) P (l + 1)) w.best-is
+            ∙ sym (most-left P (2 * width) l b c.loop-l-test.true (omega (arith, w.if-most-n.false, c.loop-l.invariant.1, n))) ∙ c.loop-l.invariant.2,
       )
     ]
 

@@ -1,14 +1,10 @@
 -- `factor::most_used` meets its contract. The loop's invariant: the choice among the best so far and the literals from l on is the whole
 -- choice. Assumes nothing.
-use mathlib.Core.Path.{◌≡◌, refl, sym, ◌∙◌, ap}
-use Prim.Native.Nat.{◌+◌, ◌-◌, ◌*◌, ◌≤◌}
-use native.Mathlib.Omega.{arith}
-use borrow.Author.Rules.{rules}
-use mathlib.Core.Logic.{inl, inr}
+use mathlib.Core.Path.{◌≡◌}
+use Prim.Native.Nat.{◌-◌, ◌*◌, ◌≤◌}
 use Rattle.cube.specs.Cube.{width}
 use Rattle.factor.specs.Form.{used_in, most as most_from, most_used}
 use Rattle.factor.specs.Parts.{cubes_from}
-use Rattle.factor.proofs.Choosing.{most-taken, most-left, most-end}
 use Rattle.factor.proofs.most_used.Given as goal
 
 abbrev pub invariant-loop-l : goal.invariant-loop-l

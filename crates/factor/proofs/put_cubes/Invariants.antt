@@ -1,17 +1,10 @@
 -- `factor::put_cubes` meets its contract. The loop's invariant: the cubes from i on are due. Assumes nothing.
-use mathlib.Core.Path.{◌≡◌, refl, sym, ◌∙◌, ap}
-use mathlib.Core.List.{List, [], ◌∷◌, ◌++◌}
-use Prim.Native.Nat.{ℕ, ◌+◌, ◌-◌, ◌≤◌, ◌<◌}
-use native.Mathlib.Omega.{arith}
-use borrow.Author.Rules.{rules}
-use lib.ListN.{length, get_or}
-use Rattle.cube.specs.Cube.{lits}
-use Rattle.expression.{specs.Words.cubes_of, proofs.Words.cubes-few}
-use Rattle.letters_products.specs.Products.{cube_text}
-use Rattle.factor.specs.{Text.sum_text, Parts.cubes_from}
-use Rattle.letters.proofs.Laying.{Due, due_all, due-as, due-next, due-done, due-last, due-trans, laid_next}
-use Rattle.factor.proofs.Texts.{marked-nil, marked-cons, plussed, sum_first, sum-none}
-use Rattle.factor.proofs.{Parting.slice-next, Parting.slice-none}
+use mathlib.Core.Path.{◌≡◌}
+use Prim.Native.Nat.{◌-◌, ◌≤◌}
+use lib.ListN.{length}
+use Rattle.factor.specs.{Parts.cubes_from}
+use Rattle.letters.proofs.Laying.{Due}
+use Rattle.factor.proofs.Texts.{plussed}
 use Rattle.factor.proofs.put_cubes.Given as goal
 
 abbrev pub invariant-loop-i : goal.invariant-loop-i

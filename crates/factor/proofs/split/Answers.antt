@@ -1,7 +1,6 @@
 -- `factor::split` meets its contract: gathered, and the rest copied back. Assumes nothing.
 use Prim.Native.Nat.{◌≤◌}
 use native.Mathlib.Omega.{arith}
-use borrow.Author.Rules.{rules}
 use lib.ListN.{length}
 use Rattle.expression.{specs.Words.cubes_of, proofs.Words.same-room}
 use Rattle.factor.proofs.{Parting.copied-back}

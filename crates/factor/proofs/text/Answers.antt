@@ -3,7 +3,6 @@ use mathlib.Core.Path.{◌≡◌, refl, sym, ◌∙◌, ap}
 use mathlib.Core.List.{List}
 use Prim.Native.Nat.{ℕ, ◌*◌, ◌≤◌}
 use native.Mathlib.Omega.{arith}
-use borrow.Author.Rules.{rules}
 use lib.ListN.{length, replicate}
 use Rattle.expression.{specs.Words.cube_words, specs.Words.cubes_of, specs.Answers.most_handed, proofs.Words.same-room, proofs.Words.room-cubes}
 use Rattle.factor.specs.{Text.text_of, Parts.cubes_from, Parts.written_sum}

@@ -1,9 +1,8 @@
 -- The answers of `network_evaluate::collect`.
-use Prim.Native.Nat.{ℕ, ◌≤◌, ◌<◌, ◌-◌, ◌^◌}
+use Prim.Native.Nat.{ℕ, ◌<◌, ◌-◌, ◌^◌}
 use mathlib.Core.Path.{◌≡◌, sym, ◌∙◌, ap, subst}
 use mathlib.Core.{Bool.true, Bool.false, List.List, List.[]}
 use native.Mathlib.Omega.{arith}
-use borrow.Author.Rules.{rules}
 use lib.ListN.{length, get_or}
 use Rattle.cube.specs.Cube.{lits}
 use Rattle.network.{specs.Parts.nodes_of, proofs.Parts.nodes-length, proofs.Parts.nodes-at, specs.Held.most_outputs}

@@ -1,14 +1,9 @@
 -- `network_evaluate::collect` meets its contract. The loop's invariant: the number has the bits of the outputs from j on. Assumes nothing.
-use Prim.Native.Nat.{ℕ, ◌≤◌, ◌<◌, ◌-◌, ◌^◌}
-use mathlib.Core.Path.{◌≡◌, sym, ◌∙◌, ap, subst}
-use mathlib.Core.{Bool.true, Bool.false, List.List, List.[]}
-use native.Mathlib.Omega.{arith}
-use borrow.Author.Rules.{rules}
-use lib.ListN.{length, get_or}
+use Prim.Native.Nat.{◌≤◌}
 use Rattle.cube.specs.Cube.{lits}
-use Rattle.network.{specs.Parts.nodes_of, proofs.Parts.nodes-length, proofs.Parts.nodes-at, specs.Held.most_outputs}
+use Rattle.network.{specs.Parts.nodes_of}
 use Rattle.network_known.specs.Known.{some_within}
-use Rattle.network_evaluate.proofs.Settling.{Collected, collected-none, collected-small, collected-more, collected-all}
+use Rattle.network_evaluate.proofs.Settling.{Collected}
 use Rattle.network_evaluate.proofs.collect.Given as goal
 
 abbrev pub invariant-loop-j : goal.invariant-loop-j

@@ -1,14 +1,12 @@
 -- The answers of `network_evaluate::given`.
 use mathlib.Core.List.{[]}
 use mathlib.Core.Path.{◌∙◌, ap, subst}
-use Prim.Native.Nat.{◌≤◌, ◌-◌}
 use native.Mathlib.Omega.{arith}
 use borrow.Author.Rules.{rules}
 use Rattle.sets.{specs.Masks.bit, proofs.Digits.bit_test}
 use Rattle.cube.specs.Cube.{lits, joined}
 use Rattle.network_known.specs.Known.{Truths, signed}
 use Rattle.network_known.proofs.Knowing.{joined-signed, truths-none, truths-input}
-use Rattle.network.specs.Held.{most_variables}
 use Rattle.network_evaluate.proofs.given.Goals as goal
 
 pub loop-v-init : goal.loop-v-init

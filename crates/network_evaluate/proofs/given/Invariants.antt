@@ -1,13 +1,9 @@
 -- `network_evaluate::given` meets its contract. The loop's invariant: the cube has the true literals of the inputs passed. Assumes nothing.
 use mathlib.Core.List.{[]}
-use mathlib.Core.Path.{◌∙◌, ap, subst}
 use Prim.Native.Nat.{◌≤◌, ◌-◌}
-use native.Mathlib.Omega.{arith}
-use borrow.Author.Rules.{rules}
-use Rattle.sets.{specs.Masks.bit, proofs.Digits.bit_test}
-use Rattle.cube.specs.Cube.{lits, joined}
-use Rattle.network_known.specs.Known.{Truths, signed}
-use Rattle.network_known.proofs.Knowing.{joined-signed, truths-none, truths-input}
+use Rattle.sets.{specs.Masks.bit}
+use Rattle.cube.specs.Cube.{lits}
+use Rattle.network_known.specs.Known.{Truths}
 use Rattle.network.specs.Held.{most_variables}
 use Rattle.network_evaluate.proofs.given.Given as goal
 

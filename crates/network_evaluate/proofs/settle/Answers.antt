@@ -1,16 +1,14 @@
 -- The answers of `network_evaluate::settle`.
-use Prim.Native.Nat.{ℕ, ◌+◌, ◌≤◌, ◌<◌, ◌-◌}
+use Prim.Native.Nat.{ℕ, ◌+◌, ◌≤◌, ◌<◌}
 use mathlib.Core.Path.{◌≡◌, refl, sym, ap, ◌∙◌}
 use mathlib.Core.List.{[]}
 use native.Mathlib.Omega.{arith}
-use borrow.Author.Rules.{rules}
-use lib.ListN.{length, drop, take, get_or}
+use lib.ListN.{length, take, get_or}
 use lib.Seq.{get_or-take, length-take-le}
 use Rattle.cube.specs.Cube.{lits}
 use Rattle.expression.specs.Words.{cubes_of}
 use Rattle.network_nodes.specs.Nodes.{cut}
 use Rattle.network.{specs.Parts.net_at, specs.Held.place_at, proofs.Parts.place_at_lem}
-use Rattle.network_evaluate.specs.Parts.{settled_in}
 use Rattle.network_evaluate.proofs.{Settling.settled_on, Settling.settled-done}
 use Rattle.network_evaluate.proofs.settle.Goals as goal
 use Rattle.network_evaluate.proofs.settle.Goals.{At-loop-i, In-loop-i, Start}

@@ -1,17 +1,10 @@
 -- `network_evaluate::settle` meets its contract. The loop's invariant: what is left of the order settles to what the whole order does. Assumes nothing.
-use Prim.Native.Nat.{ℕ, ◌+◌, ◌≤◌, ◌<◌, ◌-◌}
-use mathlib.Core.Path.{◌≡◌, refl, sym, ap, ◌∙◌}
-use mathlib.Core.List.{[]}
-use native.Mathlib.Omega.{arith}
-use borrow.Author.Rules.{rules}
-use lib.ListN.{length, drop, take, get_or}
-use lib.Seq.{get_or-take, length-take-le}
+use Prim.Native.Nat.{◌≤◌, ◌-◌}
+use mathlib.Core.Path.{◌≡◌}
+use lib.ListN.{drop, take}
 use Rattle.cube.specs.Cube.{lits}
-use Rattle.expression.specs.Words.{cubes_of}
-use Rattle.network_nodes.specs.Nodes.{cut}
-use Rattle.network.{specs.Parts.net_at, specs.Held.place_at, proofs.Parts.place_at_lem}
+use Rattle.network.{specs.Parts.net_at}
 use Rattle.network_evaluate.specs.Parts.{settled_in}
-use Rattle.network_evaluate.proofs.{Settling.settled_on, Settling.settled-done}
 use Rattle.network_evaluate.proofs.settle.Given as goal
 
 abbrev pub invariant-loop-i : goal.invariant-loop-i

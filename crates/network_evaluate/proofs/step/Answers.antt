@@ -1,6 +1,5 @@
 -- `network_evaluate::step` meets its contract: the node has value 1 where a cube has only true literals. Assumes nothing.
 use mathlib.Core.Path.{◌∙◌, ap}
-use borrow.Author.Rules.{rules}
 use Rattle.sets.specs.Sets.{insert}
 use Rattle.cube.specs.Cube.{lits}
 use Rattle.network_known.{specs.Known.signed, specs.Known.some_within, proofs.Knowing.joined-signed}

@@ -1,13 +1,9 @@
 -- `network_hangs::above` meets its contract. The loop's invariant: what is left is the variables from v on. Assumes nothing.
 use Prim.Native.Nat.{◌-◌, ◌≤◌}
-use mathlib.Core.Path.{subst}
-use native.Mathlib.Omega.{arith}
-use borrow.Author.Rules.{rules}
 use lib.Dec.{leb}
 use Rattle.sets.specs.Lists.{keep}
 use Rattle.cube.specs.Cube.{lits}
 use Rattle.network_hangs.specs.Parts.{Makes}
-use Rattle.network_hangs.proofs.{Marking.above-first, Marking.above-next}
 use Rattle.network_hangs.proofs.above.Given as goal
 
 abbrev pub invariant-loop-v : goal.invariant-loop-v

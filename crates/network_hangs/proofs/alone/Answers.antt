@@ -1,7 +1,6 @@
 -- `network_hangs::alone` meets its contract: the plain literal of the variable is one of a cube's. Assumes nothing.
 use mathlib.Core.Path.{◌≡◌, ◌∙◌, ap}
 use native.Mathlib.Omega.{arith}
-use borrow.Author.Rules.{rules}
 use Rattle.sets.specs.Literal.{plain_of}
 use Rattle.cube.specs.Cube.{lits, joined}
 use Rattle.network_reads.proofs.Marking.{marks-single}

@@ -1,7 +1,6 @@
 -- `network_hangs::asked` meets its contract: the plain literal of the divisor decides. Assumes nothing.
 use mathlib.Core.Path.{◌≡◌, sym, ap, ◌∙◌, subst}
 use native.Mathlib.Omega.{arith}
-use borrow.Author.Rules.{rules}
 use mathlib.Core.List.{[]}
 use lib.ListN.{get_or}
 use Rattle.expression.specs.Words.{cubes_of}

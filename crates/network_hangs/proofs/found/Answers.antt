@@ -1,6 +1,5 @@
 -- `network_hangs::found` meets its contract: what the node reads, what is reached from it, and of that the divisors. Assumes nothing.
 use native.Mathlib.Omega.{arith}
-use borrow.Author.Rules.{rules}
 use Rattle.network_hangs.proofs.{Finding.found-marks}
 use Rattle.network_hangs.proofs.found.Goals as goal
 

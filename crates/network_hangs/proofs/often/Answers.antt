@@ -1,12 +1,10 @@
 -- The answers of `network_hangs::often`.
-use Prim.Native.Nat.{◌-◌, ◌≤◌}
 use mathlib.Core.Path.{subst}
 use native.Mathlib.Omega.{arith}
 use Rattle.cube.specs.Cube.{lits}
 use Rattle.network.specs.Parts.{net_at}
 use Rattle.network_hangs.specs.{Hangs.reached, Parts.Makes}
 use Rattle.network_hangs.proofs.{Reading.makes-first, Reading.makes-more}
-use borrow.Author.Rules.{rules}
 use Rattle.network_hangs.proofs.often.Goals as goal
 
 pub loop-turns-init : goal.loop-turns-init

@@ -1,12 +1,8 @@
 -- `network_hangs::often` meets its contract. The loop's invariant: the set is what is reached after so many turns. Assumes nothing.
 use Prim.Native.Nat.{◌-◌, ◌≤◌}
-use mathlib.Core.Path.{subst}
-use native.Mathlib.Omega.{arith}
 use Rattle.cube.specs.Cube.{lits}
 use Rattle.network.specs.Parts.{net_at}
 use Rattle.network_hangs.specs.{Hangs.reached, Parts.Makes}
-use Rattle.network_hangs.proofs.{Reading.makes-first, Reading.makes-more}
-use borrow.Author.Rules.{rules}
 use Rattle.network_hangs.proofs.often.Given as goal
 
 abbrev pub invariant-loop-turns : goal.invariant-loop-turns

@@ -1,19 +1,17 @@
 -- The answers of `network_hangs::once`.
-use Prim.Native.Nat.{ℕ, ◌-◌, ◌≤◌}
 use mathlib.Core.Path.{◌≡◌, ap, subst}
-use mathlib.Core.List.{List, []}
+use mathlib.Core.List.{[]}
 use native.Mathlib.Omega.{arith}
-use borrow.Author.Rules.{rules}
-use lib.ListN.{drop, get_or}
-use Rattle.sets.specs.{Lists.any, Sets.mem, Sets.union}
+use lib.ListN.{get_or}
+use Rattle.sets.specs.{Lists.any}
 use Rattle.cube.specs.Cube.{lits}
 use Rattle.expression.specs.Words.{cubes_of}
 use Rattle.network_nodes.specs.Nodes.{cut}
 use Rattle.network.specs.Held.{net_of, number_at, place_at}
-use Rattle.network.{specs.Parts.held_in, specs.Parts.net_at, proofs.Parts.divisors-next, proofs.Parts.divisors-done, proofs.Holding.held-distinct}
+use Rattle.network.{specs.Parts.held_in, proofs.Parts.divisors-next, proofs.Parts.divisors-done, proofs.Holding.held-distinct}
 use Rattle.network_reads.specs.Reading.{Marks}
-use Rattle.network_reads.proofs.Marking.{Gathers, gather-more, gather-done}
-use Rattle.network_hangs.specs.{Hangs.read_by, Parts.read_if}
+use Rattle.network_reads.proofs.Marking.{gather-more, gather-done}
+use Rattle.network_hangs.specs.{Parts.read_if}
 use Rattle.network_hangs.proofs.Reading.{asks, asks-first, asks-next}
 use Rattle.network_hangs.proofs.once.Goals as goal
 use Rattle.network_hangs.proofs.once.Goals.{After-number_of-v}

@@ -1,21 +1,15 @@
 -- `network_hangs::once` meets its contract. The loop's invariant: the set, with what the divisors from i on read, is the variables and
 -- what all divisors among them read. Assumes nothing.
 use Prim.Native.Nat.{ℕ, ◌-◌, ◌≤◌}
-use mathlib.Core.Path.{◌≡◌, ap, subst}
-use mathlib.Core.List.{List, []}
-use native.Mathlib.Omega.{arith}
-use borrow.Author.Rules.{rules}
-use lib.ListN.{drop, get_or}
+use mathlib.Core.List.{List}
+use lib.ListN.{drop}
 use Rattle.sets.specs.{Lists.any, Sets.mem, Sets.union}
 use Rattle.cube.specs.Cube.{lits}
-use Rattle.expression.specs.Words.{cubes_of}
-use Rattle.network_nodes.specs.Nodes.{cut}
-use Rattle.network.specs.Held.{net_of, number_at, place_at}
-use Rattle.network.{specs.Parts.held_in, specs.Parts.net_at, proofs.Parts.divisors-next, proofs.Parts.divisors-done, proofs.Holding.held-distinct}
+use Rattle.network.{specs.Parts.net_at}
 use Rattle.network_reads.specs.Reading.{Marks}
-use Rattle.network_reads.proofs.Marking.{Gathers, gather-more, gather-done}
-use Rattle.network_hangs.specs.{Hangs.read_by, Parts.read_if}
-use Rattle.network_hangs.proofs.Reading.{asks, asks-first, asks-next}
+use Rattle.network_reads.proofs.Marking.{Gathers}
+use Rattle.network_hangs.specs.{Hangs.read_by}
+use Rattle.network_hangs.proofs.Reading.{asks}
 use Rattle.network_hangs.proofs.once.Given as goal
 
 abbrev pub invariant-loop-i : goal.invariant-loop-i

@@ -1,6 +1,5 @@
 -- `network_known::literal_of` meets its contract: the variable is one of those of a cube. Assumes nothing.
 use native.Mathlib.Omega.{arith}
-use borrow.Author.Rules.{rules}
 use Rattle.network_known.proofs.literal_of.Goals as goal
 
 pub returns-then-b : goal.returns-then-b

@@ -1,6 +1,5 @@
 -- `network_known::valued` meets its contract: a number past the last variable has no literal in a cube. Assumes nothing.
 use mathlib.Core.Path.{◌∙◌, ap}
-use borrow.Author.Rules.{rules}
 use Rattle.cube.specs.Cube.{lits, joined}
 use Rattle.network_known.proofs.{Knowing.joined-past}
 use Rattle.network_known.proofs.valued.Goals as goal

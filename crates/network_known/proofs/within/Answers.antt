@@ -2,15 +2,14 @@
 use mathlib.Core.Path.{◌≡◌, refl, sym, ◌∙◌, ap}
 use mathlib.Core.Bool.{Bool, true, false, not, beq}
 use mathlib.Core.List.{List, []}
-use Prim.Native.Nat.{ℕ, ◌≤◌, ◌-◌}
+use Prim.Native.Nat.{ℕ}
 use native.Mathlib.Omega.{arith}
 use borrow.Author.Rules.{rules}
-use lib.ListN.{length, drop, get_or}
+use lib.ListN.{get_or}
 use Rattle.sets.specs.Sets.{sub}
 use Rattle.cube.specs.Cube.{lits}
 use Rattle.expression.specs.Words.{cubes_of}
 use Rattle.network_known.proofs.Testing.{test-stop, test_on, test-done}
-use Rattle.network_known.specs.Known.{within}
 use Rattle.network_known.proofs.within.Goals as goal
 use Rattle.network_known.proofs.within.Goals.{After-contains, At-loop-i}
 

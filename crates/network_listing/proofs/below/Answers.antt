@@ -1,11 +1,9 @@
 -- The answers of `network_listing::below`.
 use mathlib.Core.{List.[], Path.subst}
-use Prim.Native.Nat.{◌≤◌, ◌-◌}
 use native.Mathlib.Omega.{arith}
 use borrow.Author.Rules.{rules}
 use Rattle.cube.specs.Cube.{lits}
 use Rattle.network_known.{specs.Known.BothWays, proofs.Knowing.spans-none, proofs.Knowing.spans-input}
-use Rattle.network.specs.Held.{most_variables}
 use Rattle.network_listing.proofs.below.Goals as goal
 
 pub loop-v-init : goal.loop-v-init

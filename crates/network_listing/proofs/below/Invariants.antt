@@ -1,10 +1,8 @@
 -- `network_listing::below` meets its contract. The loop's invariant: the cube has both literals of each variable passed. Assumes nothing.
-use mathlib.Core.{List.[], Path.subst}
+use mathlib.Core.{List.[]}
 use Prim.Native.Nat.{◌≤◌, ◌-◌}
-use native.Mathlib.Omega.{arith}
-use borrow.Author.Rules.{rules}
 use Rattle.cube.specs.Cube.{lits}
-use Rattle.network_known.{specs.Known.BothWays, proofs.Knowing.spans-none, proofs.Knowing.spans-input}
+use Rattle.network_known.{specs.Known.BothWays}
 use Rattle.network.specs.Held.{most_variables}
 use Rattle.network_listing.proofs.below.Given as goal
 

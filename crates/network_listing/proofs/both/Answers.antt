@@ -1,6 +1,5 @@
 -- `network_listing::both` meets its contract: the variable is one of those of a cube. Assumes nothing.
 use mathlib.Core.{Path.◌∙◌, Path.ap, Bool.true, Bool.false}
-use borrow.Author.Rules.{rules}
 use Rattle.sets.specs.Sets.{insert}
 use Rattle.network_known.{specs.Known.signed, proofs.Knowing.joined-signed}
 use Rattle.network_listing.proofs.both.Goals as goal

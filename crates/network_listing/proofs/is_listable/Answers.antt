@@ -3,7 +3,6 @@ use mathlib.Core.Path.{◌≡◌, sym, ◌∙◌}
 use mathlib.Core.Bool.{true}
 use native.Mathlib.Omega.{arith}
 use borrow.Author.Rules.{rules}
-use borrow.Author.Tests.{not-true, not-false}
 use Rattle.network.{specs.Held.sized, specs.Parts.Limited, proofs.Handing.shape_of, proofs.Limits.sized-out}
 use Rattle.network_listing.proofs.Answering.{listable-no, listable-as}
 use Rattle.network_listing.proofs.is_listable.Goals as goal

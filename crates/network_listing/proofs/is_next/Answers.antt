@@ -5,7 +5,6 @@ use mathlib.Core.Bool.{Bool, true, false, not, ◌&&◌}
 use mathlib.Core.List.{List}
 use native.Mathlib.Omega.{arith}
 use Rattle.sets.specs.{Sets.mem, Literal.plain_of}
-use borrow.Author.Rules.{rules}
 use Rattle.network.specs.Held.{most_variables}
 use Rattle.network_listing.proofs.is_next.Goals as goal
 

@@ -2,7 +2,6 @@
 use mathlib.Core.Path.{◌≡◌, sym, ◌∙◌}
 use mathlib.Core.Bool.{true, false}
 use borrow.Author.Rules.{rules}
-use borrow.Author.Tests.{not-true, not-false}
 use Rattle.network.{specs.Answers.listable, proofs.Handing.shape_of, proofs.Limits.sized-out}
 use Rattle.network_listing.proofs.Answering.{listed-as, listable-sized}
 use Rattle.network_listing.proofs.listing.Goals as goal

@@ -1,17 +1,14 @@
 -- The answers of `network_listing::next`.
-use Prim.Native.Nat.{◌≤◌, ◌-◌}
 use mathlib.Core.Path.{◌≡◌, refl, sym, ◌∙◌, ap, ap₂}
 use mathlib.Core.{Bool.not, Bool.◌&&◌, List.[], Option.some}
 use native.Mathlib.Omega.{arith}
-use borrow.Author.Rules.{rules}
-use lib.ListN.{drop, get_or}
+use lib.ListN.{get_or}
 use Rattle.sets.specs.{Literal.plain_of, Sets.mem}
 use Rattle.cube.specs.Cube.{lits}
 use Rattle.expression.specs.Words.{cubes_of}
 use Rattle.network_nodes.specs.Nodes.{cut}
-use Rattle.network.{specs.Held.number_at, specs.Held.place_at, specs.Parts.net_at, proofs.Parts.divisors-next, proofs.Parts.divisors-done}
+use Rattle.network.{specs.Held.number_at, specs.Held.place_at, proofs.Parts.divisors-next, proofs.Parts.divisors-done}
 use Rattle.network_known.specs.Known.{every_within}
-use Rattle.network_listing.specs.Parts.{next_in}
 use Rattle.network_listing.proofs.Turns.{next-found, next-on, next-done}
 use Rattle.network_listing.proofs.next.Goals as goal
 use Rattle.network_listing.proofs.next.Goals.{After-is_next, After-number_of-v}

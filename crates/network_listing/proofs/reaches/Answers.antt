@@ -3,7 +3,6 @@ use Prim.Native.Nat.{◌/◌}
 use mathlib.Core.Path.{sym, ◌∙◌, ap}
 use lib.Dec.{ltb}
 use lib.ListN.{take}
-use borrow.Author.Rules.{rules}
 use Rattle.sets.specs.Lists.{all}
 use Rattle.expression.specs.Words.{cubes_of}
 use Rattle.network.{specs.Held.reach, proofs.Holding.cut_all}

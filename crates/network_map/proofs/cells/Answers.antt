@@ -1,11 +1,11 @@
 -- The answers of `network_map::cells`.
-use Prim.Native.Nat.{ℕ, ◌+◌, ◌-◌, ◌*◌, ◌<◌, ◌≤◌}
+use Prim.Native.Nat.{ℕ, ◌+◌, ◌*◌}
 use mathlib.Core.{Path.◌≡◌, Path.◌∙◌, Bool.Bool, Bool.false, List.List}
 use native.Mathlib.Omega.{arith}
-use lib.ListN.{length, get_or}
+use lib.ListN.{get_or}
 use Rattle.sets.specs.Sets.{mem}
 use Rattle.sets.proofs.Truth.{Stand, below, equal, beyond, compared}
-use Rattle.network.specs.{Held.most_outputs, Held.most_variables, declared.Network.Network}
+use Rattle.network.specs.{Held.most_variables, declared.Network.Network}
 use Rattle.network_reads.{specs.Reading.Marks, proofs.Marking.marks-plain}
 use Rattle.network_map.specs.{Cells.row_of, Parts.RowSet}
 use borrow.Author.Rules.{rules}

@@ -1,14 +1,10 @@
 -- `network_map::cells` meets its contract. The loop's invariant: the rows passed are as they are to be. Assumes nothing.
 use Prim.Native.Nat.{ℕ, ◌+◌, ◌-◌, ◌*◌, ◌<◌, ◌≤◌}
-use mathlib.Core.{Path.◌≡◌, Path.◌∙◌, Bool.Bool, Bool.false, List.List}
-use native.Mathlib.Omega.{arith}
+use mathlib.Core.{Path.◌≡◌, Bool.Bool, Bool.false, List.List}
 use lib.ListN.{length, get_or}
 use Rattle.sets.specs.Sets.{mem}
-use Rattle.sets.proofs.Truth.{Stand, below, equal, beyond, compared}
 use Rattle.network.specs.{Held.most_outputs, Held.most_variables, declared.Network.Network}
-use Rattle.network_reads.{specs.Reading.Marks, proofs.Marking.marks-plain}
-use Rattle.network_map.specs.{Cells.row_of, Parts.RowSet}
-use borrow.Author.Rules.{rules}
+use Rattle.network_map.specs.{Cells.row_of}
 use Rattle.network_map.proofs.cells.Given as goal
 
 -- the rows before row j

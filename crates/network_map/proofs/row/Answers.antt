@@ -1,5 +1,4 @@
 -- `network_map::row` meets its contract: nothing past the last output. Assumes nothing.
-use borrow.Author.Rules.{rules}
 use borrow.Author.Tests.{lt-ltb, le-ltb}
 use Rattle.network_reads.proofs.Marking.{marks-none}
 use Rattle.network_map.specs.Cells.{row_of}

@@ -1,5 +1,5 @@
 -- The answers of `network_map::set_row`.
-use Prim.Native.Nat.{ℕ, ◌+◌, ◌-◌, ◌*◌, ◌<◌, ◌≤◌}
+use Prim.Native.Nat.{ℕ, ◌+◌, ◌*◌, ◌<◌}
 use mathlib.Core.Path.{◌≡◌, refl, ◌∙◌}
 use mathlib.Core.{Bool.Bool, Bool.false, List.List}
 use native.Mathlib.Omega.{arith}
@@ -9,7 +9,7 @@ use lib.Seq.{get_or-set_same, get_or-set_other}
 use Rattle.sets.specs.{Literal.plain_of, Sets.mem}
 use Rattle.sets.proofs.Truth.{Stand, below, equal, beyond, compared}
 use Rattle.cube.specs.Cube.{lits}
-use Rattle.network.specs.Held.{most_outputs, most_variables}
+use Rattle.network.specs.Held.{most_variables}
 use borrow.Author.Rules.{rules}
 use Rattle.network_map.proofs.set_row.Goals as goal
 

@@ -1,16 +1,11 @@
 -- `network_map::set_row` meets its contract. The loop's invariant: the cells passed are as the set says, the rows before as they were. Assumes nothing.
 use Prim.Native.Nat.{ℕ, ◌+◌, ◌-◌, ◌*◌, ◌<◌, ◌≤◌}
-use mathlib.Core.Path.{◌≡◌, refl, ◌∙◌}
-use mathlib.Core.{Bool.Bool, Bool.false, List.List}
-use native.Mathlib.Omega.{arith}
-use lib.ListN as list
+use mathlib.Core.Path.{◌≡◌}
+use mathlib.Core.{Bool.false}
 use lib.ListN.{length, get_or}
-use lib.Seq.{get_or-set_same, get_or-set_other}
 use Rattle.sets.specs.{Literal.plain_of, Sets.mem}
-use Rattle.sets.proofs.Truth.{Stand, below, equal, beyond, compared}
 use Rattle.cube.specs.Cube.{lits}
 use Rattle.network.specs.Held.{most_outputs, most_variables}
-use borrow.Author.Rules.{rules}
 use Rattle.network_map.proofs.set_row.Given as goal
 
 abbrev pub invariant-loop-v : goal.invariant-loop-v

@@ -1,14 +1,11 @@
 -- The answers of `network_reads::reads`.
 use mathlib.Core.{Path.refl, Path.subst, List.[]}
-use Prim.Native.Nat.{◌≤◌, ◌-◌}
 use native.Mathlib.Omega.{arith}
-use borrow.Author.Rules.{rules}
-use lib.ListN.{length, drop, get_or}
-use Rattle.sets.specs.Sets.{mem}
+use lib.ListN.{get_or}
 use Rattle.cube.specs.Cube.{lits}
 use Rattle.expression.specs.Words.{cubes_of}
 use Rattle.network_reads.specs.Reading.{variables_of, reads_of, Marks}
-use Rattle.network_reads.proofs.Marking.{Gathers, gather-first, gather-more, gather-done}
+use Rattle.network_reads.proofs.Marking.{gather-first, gather-more, gather-done}
 use Rattle.network_reads.proofs.{Reading.reads-next, Reading.reads-done}
 use Rattle.network_reads.proofs.reads.Goals as goal
 

@@ -1,7 +1,6 @@
 -- `network_reads::variable` meets its contract: a variable is there by one of its two literals. Assumes nothing.
 use mathlib.Core.Path.{◌≡◌, sym, ◌∙◌, ap}
 use native.Mathlib.Omega.{arith}
-use borrow.Author.Rules.{rules}
 use Rattle.sets.{specs.Literal.plain_of, specs.Literal.negated_of, specs.Sets.mem, proofs.Truth.or_left, proofs.Truth.or_right}
 use Rattle.cube.specs.Cube.{lits, joined}
 use Rattle.network_reads.proofs.{Marking.marks-single, Reading.variable-yes, Reading.variable-no}

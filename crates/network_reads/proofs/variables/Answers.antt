@@ -1,12 +1,8 @@
 -- The answers of `network_reads::variables`.
-use Prim.Native.Nat.{◌-◌, ◌≤◌}
 use native.Mathlib.Omega.{arith}
 use borrow.Author.Rules.{rules}
-use Rattle.sets.specs.Sets.{mem}
-use Rattle.cube.specs.Cube.{width, lits}
-use Rattle.network_reads.specs.Reading.{variables_of}
-use Rattle.network_reads.proofs.Marking.{Gathers, gather-first, gather-more, gather-done}
-use Rattle.network_reads.proofs.Reading.{onward, onward-first, onward-next, onward-done}
+use Rattle.network_reads.proofs.Marking.{gather-first, gather-more, gather-done}
+use Rattle.network_reads.proofs.Reading.{onward-first, onward-next, onward-done}
 use Rattle.network_reads.proofs.variables.Goals as goal
 
 pub loop-v-init : goal.loop-v-init

@@ -1,12 +1,10 @@
 -- `network_reads::variables` meets its contract. The loop's invariant: the cube, with the variables from v on, is all variables. Assumes nothing.
 use Prim.Native.Nat.{◌-◌, ◌≤◌}
-use native.Mathlib.Omega.{arith}
-use borrow.Author.Rules.{rules}
 use Rattle.sets.specs.Sets.{mem}
 use Rattle.cube.specs.Cube.{width, lits}
 use Rattle.network_reads.specs.Reading.{variables_of}
-use Rattle.network_reads.proofs.Marking.{Gathers, gather-first, gather-more, gather-done}
-use Rattle.network_reads.proofs.Reading.{onward, onward-first, onward-next, onward-done}
+use Rattle.network_reads.proofs.Marking.{Gathers}
+use Rattle.network_reads.proofs.Reading.{onward}
 use Rattle.network_reads.proofs.variables.Given as goal
 
 abbrev pub invariant-loop-v : goal.invariant-loop-v

@@ -1,12 +1,10 @@
 -- The answers of `network_rules::all_expressions`.
-use Prim.Native.Nat.{ℕ, ◌≤◌, ◌-◌}
+use Prim.Native.Nat.{ℕ}
 use mathlib.Core.Path.{◌≡◌, sym, ◌∙◌, ap}
 use mathlib.Core.List.{List, []}
 use native.Mathlib.Omega.{arith}
 use borrow.Author.Rules.{rules}
-use borrow.Author.Tests.{not-true, not-false}
-use lib.ListN.{length, drop, get_or}
-use Rattle.sets.specs.Lists.{all}
+use lib.ListN.{length, get_or}
 use Rattle.expression.specs.Expression.{expression}
 use Rattle.sets.proofs.Places.{all-stop, all-on, all_done}
 use Rattle.network.{specs.Parts.nodes_of, proofs.Parts.nodes-length, proofs.Parts.nodes-at}

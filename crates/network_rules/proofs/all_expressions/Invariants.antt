@@ -1,15 +1,10 @@
 -- `network_rules::all_expressions` meets its contract. The loop's invariant: the test of the nodes from i on is the test of all. Assumes nothing.
-use Prim.Native.Nat.{ℕ, ◌≤◌, ◌-◌}
-use mathlib.Core.Path.{◌≡◌, sym, ◌∙◌, ap}
-use mathlib.Core.List.{List, []}
-use native.Mathlib.Omega.{arith}
-use borrow.Author.Rules.{rules}
-use borrow.Author.Tests.{not-true, not-false}
-use lib.ListN.{length, drop, get_or}
+use Prim.Native.Nat.{◌≤◌, ◌-◌}
+use mathlib.Core.Path.{◌≡◌}
+use lib.ListN.{drop}
 use Rattle.sets.specs.Lists.{all}
 use Rattle.expression.specs.Expression.{expression}
-use Rattle.sets.proofs.Places.{all-stop, all-on, all_done}
-use Rattle.network.{specs.Parts.nodes_of, proofs.Parts.nodes-length, proofs.Parts.nodes-at}
+use Rattle.network.{specs.Parts.nodes_of}
 use Rattle.network_rules.proofs.all_expressions.Given as goal
 
 abbrev pub invariant-loop-i : goal.invariant-loop-i

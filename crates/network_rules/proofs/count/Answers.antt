@@ -1,7 +1,6 @@
 -- `network_rules::count` meets its contract: the literals of all nodes' cubes at once. Assumes nothing.
 use mathlib.Core.Path.{sym, ◌∙◌, ap}
 use lib.ListN.{length, take}
-use borrow.Author.Rules.{rules}
 use Rattle.expression.specs.{Words.cubes_of, Expression.literals_of, Answers.capped}
 use Rattle.network_nodes.proofs.Cutting.{cut-total}
 use Rattle.network_rules.proofs.count.Goals as goal

@@ -3,7 +3,6 @@ use mathlib.Core.Path.{◌≡◌, sym, ◌∙◌}
 use mathlib.Core.Bool.{true}
 use native.Mathlib.Omega.{arith}
 use borrow.Author.Rules.{rules}
-use borrow.Author.Tests.{not-true, not-false}
 use Rattle.network.{specs.Answers.listable, specs.Handed.Shaped, specs.Parts.Limited, proofs.Handing.shape_of, proofs.Limits.sized-out}
 use Rattle.network_listing.proofs.Answering.{listable-sized}
 use Rattle.network_rules.proofs.{Ruling.rules-no, Ruling.rules-as}

@@ -1,6 +1,5 @@
 -- `network_rules::is_acyclic` meets its contract: as many are listed as there are. Assumes nothing.
 use mathlib.Core.Path.{ap}
-use borrow.Author.Rules.{rules}
 use lib.Dec.{eqb}
 use Rattle.network.specs.{Answers.listed_of, declared.Listed.Listed}
 use Rattle.network_rules.proofs.is_acyclic.Goals as goal

@@ -1,7 +1,5 @@
 -- `network_rules::is_lawful` meets its contract: the tests are those of the definition, of the nodes as they are held. Assumes nothing.
 use mathlib.Core.Path.{sym, ◌∙◌, ap}
-use borrow.Author.Rules.{rules}
-use borrow.Author.Tests.{not-true, not-false}
 use lib.Dec.{leb}
 use Rattle.sets.specs.Lists.{total}
 use Rattle.expression.specs.Expression.{literals_of}

@@ -1,7 +1,6 @@
 -- `network_rules::judge` meets its contract: it answers by the rules. Assumes nothing.
 use mathlib.Core.Path.{sym, ◌∙◌}
 use Rattle.network.specs.Answers.{judged}
-use borrow.Author.Rules.{rules}
 use Rattle.network_rules.proofs.judge.Goals as goal
 
 pub returns-then-follows : goal.returns-then-follows

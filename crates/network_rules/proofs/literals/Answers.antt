@@ -1,7 +1,6 @@
 -- `network_rules::literals` meets its contract: it answers by the rules, and then counts the cubes in use. Assumes nothing.
 use mathlib.Core.Path.{◌≡◌, sym, ◌∙◌}
 use mathlib.Core.Bool.{true}
-use borrow.Author.Tests.{not-true, not-false}
 use Rattle.network.{specs.Held.rules, specs.Handed.Shaped, proofs.Handing.shape_of}
 use Rattle.network_rules.proofs.{Ruling.counted-no, Ruling.counted_is}
 use borrow.Author.Rules.{rules as steps}

@@ -2,7 +2,6 @@
 use mathlib.Core.Path.{◌≡◌, sym, ◌∙◌}
 use mathlib.Core.Bool.{true}
 use native.Mathlib.Omega.{arith}
-use borrow.Author.Tests.{not-true, not-false}
 use Rattle.network.{specs.Held.sized, specs.Parts.Limited, proofs.Handing.shape_of, proofs.Limits.sized-out}
 use Rattle.network_rules.proofs.{Ruling.within-no, Ruling.within-is}
 use borrow.Author.Rules.{rules}

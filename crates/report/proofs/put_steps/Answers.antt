@@ -14,14 +14,14 @@ use Rattle.report.specs.{Report.step_lines, Report.step_line, Parts.Sized, Parts
 use Rattle.report.proofs.Lines.{lines_none, lines-first, made-next}
 use Rattle.report.proofs.Counting.{sized-read, sized-above, each_first}
 use Rattle.report.proofs.put_steps.Goals as goal
-use Rattle.report.proofs.put_steps.Goals.{After-size, In-loop-i, Start}
+use Rattle.report.proofs.put_steps.Goals.{In-loop-i, Start}
 
 -- the steps, and the room for them
 abbrev steps : Start → List Made
 steps s = map made_of (take s.args.steps.count s.args.steps.list)
 
 room : (s : Start) → length s.args.steps.list ≡ places
-room s = sym (length-map s.args.steps.list _) ∙ s.well_formed.1.1.0.1.1.1.0.1.0.1
+room s = omega arith
 
 pub loop-i-init : goal.loop-i-init
 loop-i-init c = (omega arith, due_all _ _ (omega arith) (omega arith) refl, c.requires.each, refl)
@@ -32,11 +32,11 @@ module _ (c : In-loop-i) where
   step = made_of (get_or c.args.steps.list c.loop-i.i no_made)
 
   abbrev others : List Made
-  others = drop (c.loop-i.i + 1) ((map made_of (take c.args.steps.count c.args.steps.list)))
+  others = drop (c.loop-i.i + 1) (map made_of (take c.args.steps.count c.args.steps.list))
 
-  next : drop c.loop-i.i ((map made_of (take c.args.steps.count c.args.steps.list))) ≡ step ∷ others
+  next : drop c.loop-i.i (map made_of (take c.args.steps.count c.args.steps.list)) ≡ step ∷ others
   next =
-      made-next c.args.steps.list c.args.steps.count c.loop-i.i c.loop-i-test.true (omega (arith, (let it : length c.args.steps.list ≡ places = sym (length-map c.args.steps.list _) ∙ c.well_formed.1.1.0.1.1.1.0.1.0.1 in it), c.requires.few))
+      made-next c.args.steps.list c.args.steps.count c.loop-i.i c.loop-i-test.true (omega arith)
 
   weights : Sized step.weight × EachSized others
   weights = each_first (subst (λ l. EachSized l) next c.loop-i.invariant.2)
@@ -50,26 +50,14 @@ bounds-list-i c = omega (arith, c.requires.few, c.loop-i-test.true)
 pub size-requires : goal.size-requires
 size-requires c = sized-above (weights (goal.at.size-requires c).In-loop-i).0
 
--- the line of step i is due, then those after it
-line : (c : After-size) → let s = c.args in
-    Due s.o.now s.at (step_lines ((map made_of (take c.args.steps.count c.args.steps.list)))) c.loop-i.o c.loop-i.p
-    (step_line ((made_of (get_or c.args.steps.list c.loop-i.i no_made))).number ((made_of (get_or c.args.steps.list c.loop-i.i no_made))).divisor (pos c.size.result) (pos ((made_of (get_or c.args.steps.list c.loop-i.i no_made))).literals) ++ step_lines ((drop (c.loop-i.i + 1) ((map made_of (take c.args.steps.count c.args.steps.list))))))
-line c =
-    due-as c.loop-i.invariant.1 (ap step_lines ((let it : drop c.loop-i.i ((map made_of (take c.args.steps.count c.args.steps.list))) ≡ step ∷ others = made-next c.args.steps.list c.args.steps.count c.loop-i.i c.loop-i-test.true (omega (arith, (let it : length c.args.steps.list ≡ places = sym (length-map c.args.steps.list _) ∙ c.well_formed.1.1.0.1.1.1.0.1.0.1 in it), c.requires.few)) in it)) ∙ lines-first ((made_of (get_or c.args.steps.list c.loop-i.i no_made))) ((drop (c.loop-i.i + 1) ((map made_of (take c.args.steps.count c.args.steps.list))))) (c.size.ensures ∙ sized-read ((let it : Sized step.weight × EachSized others = each_first (subst (λ l. EachSized l) next c.loop-i.invariant.2) in it)).0))
-
 pub overflow_add-i : goal.overflow_add-i
-overflow_add-i c = omega (arith, c.requires.few, c.loop-i-test.taken)
-
-pub loop-i-smaller : goal.loop-i-smaller
-loop-i-smaller c = omega (arith, c.loop-i-test.taken)
+overflow_add-i c = omega (arith, c.requires.few, c.loop-i-test.true)
 
 pub loop-i-preserved : goal.loop-i-preserved
 loop-i-preserved c =
-    let w = c.put_step-p in
-    (omega (arith, c.loop-i-test.taken), due-next (line (goal.at.loop-i-preserved c).After-size) w.ensures, (weights (goal.at.loop-i-preserved c).In-loop-i).1, w.auto.0 ∙ c.loop-i.invariant.3)
-
-pub shape_of-o : goal.shape_of-o
-shape_of-o c = c.loop-i.invariant.3
+    let i = (goal.at.loop-i-preserved c).In-loop-i in
+    let line = due-as c.loop-i.invariant.1 (ap step_lines (next i) ∙ lines-first (step i) (others i) (c.size.ensures ∙ sized-read (weights i).0)) in
+    (omega arith, due-next line c.put_step-p.ensures, (weights i).1, c.put_step-p.auto.o ∙ c.loop-i.invariant.3)
 
 pub returns : goal.returns
 returns c =

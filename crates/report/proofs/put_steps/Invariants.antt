@@ -17,8 +17,9 @@ use Rattle.report.proofs.put_steps.Given as goal
 
 abbrev pub invariant-loop-i : goal.invariant-loop-i
 invariant-loop-i l =
-    let l = map made_of (take l.n l.list) in
-    (l.i ≤ l.n) × Due l.initial.o l.initial.p (step_lines l) l.o l.p (step_lines (drop l.i l)) × EachSized (drop l.i l) × (length l.o ≡ length l.initial.o)
+    let made = map made_of (take l.n l.list) in
+    (l.i ≤ l.n) × Due l.initial.o l.initial.p (step_lines made) l.o l.p (step_lines (drop l.i made)) × EachSized (drop l.i made)
+    × (length l.o ≡ length l.initial.o)
 
 abbrev pub decreases-loop-i : goal.decreases-loop-i
 decreases-loop-i l = l.n - l.i

@@ -2,7 +2,6 @@
 use Prim.Native.Nat.{ℕ}
 use mathlib.Core.Path.{◌≡◌, sym, ◌∙◌}
 use native.Mathlib.Omega.{arith}
-use borrow.Author.Rules.{rules}
 use Rattle.letters_products.specs.Spelled.{spelled}
 use Rattle.blif_read.proofs.{Finding.begin-space}
 use Rattle.blif_form.proofs.Passing.{names-other}

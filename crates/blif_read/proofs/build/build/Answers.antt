@@ -1,33 +1,29 @@
 -- The answers of `blif_read::build::build`.
-use Prim.Native.Nat.{ℕ, ◌+◌, ◌-◌, ◌≤◌}
-use mathlib.Core.{Path.◌≡◌, List.List}
+use Prim.Native.Nat.{ℕ, ◌+◌, ◌≤◌}
 use native.Mathlib.Omega.{arith}
 use borrow.Author.Rules.{rules}
-use lib.ListN.{length, take, length-replicate}
+use lib.ListN.{length-replicate}
 use Rattle.expression.proofs.Words.{room-cubes}
-use Rattle.network.specs.{Net.nodes, Handed.LaidNodes, Handed.cube_slots, Handed.word_slots}
+use Rattle.network.specs.{Handed.cube_slots, Handed.word_slots}
 use Rattle.network.proofs.Laying.{laid_none}
-use Rattle.blif_laws.specs.{Text.Block, Reading.net_in}
-use Rattle.blif_read.specs.Defining.{model_by}
 use Rattle.blif_read.proofs.Building.{Whole, built-next, built-all}
 use Rattle.blif_read.proofs.build.build.Goals as goal
-use Rattle.blif_read.proofs.build.build.Goals.{After-out-in-loop-i-1}
+use Rattle.blif_read.proofs.build.build.Goals.{After-put_named-size}
 
 pub loop-i-init : goal.loop-i-init
 loop-i-init c = (omega arith, length-replicate {A = ℕ} word_slots 0, omega arith, λ bs w. laid_none)
 
-room : (c : After-out-in-loop-i-1) → c.loop-i.at + c.put_named-size.result ≤ cube_slots
+room : (c : After-put_named-size) → c.loop-i.at + c.put_named-size.result ≤ cube_slots
 room c = omega (arith, c.put_named-size.ensures.1, room-cubes c.loop-i.out cube_slots c.loop-i.invariant.1)
 
 pub loop-i-preserved : goal.loop-i-preserved
-loop-i-preserved c =
-    (
-      omega arith,
-      search rules,
-      room c,
-      λ bs w. built-next c.requires w (omega arith) c.name_at.ensures (room-cubes c.loop-i.out cube_slots c.loop-i.invariant.1)
-          (c.loop-i.invariant.3 bs w) c.put_named-size.ensures.0,
-    )
+loop-i-preserved c = (
+  omega arith,
+  search rules,
+  room (goal.at.loop-i-preserved c).After-put_named-size,
+  λ bs w. built-next c.requires w (omega arith) c.name_at.ensures (room-cubes c.loop-i.out cube_slots c.loop-i.invariant.1)
+      (c.loop-i.invariant.3 bs w) c.put_named-size.ensures.0,
+)
 
 pub returns : goal.returns
 returns c =
@@ -47,7 +43,7 @@ pub bounds-sizes-i : goal.bounds-sizes-i
 bounds-sizes-i c = omega (arith, c.requires.outputs, c.requires.variables)
 
 pub overflow_add-at : goal.overflow_add-at
-overflow_add-at c = omega (arith, room c)
+overflow_add-at c = omega (arith, room (goal.at.overflow_add-at c).After-put_named-size)
 
 pub overflow_add-i : goal.overflow_add-i
 overflow_add-i c = omega (arith, c.requires.outputs, c.requires.variables)

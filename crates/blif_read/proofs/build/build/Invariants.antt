@@ -1,16 +1,12 @@
 -- `blif_read::build::build` meets its contract. The loop's invariant: whatever the blocks are, the nodes passed stand one after the other, their
 -- counts beside them. Assumes nothing.
-use Prim.Native.Nat.{ℕ, ◌+◌, ◌-◌, ◌≤◌}
+use Prim.Native.Nat.{◌+◌, ◌-◌, ◌≤◌}
 use mathlib.Core.{Path.◌≡◌, List.List}
-use native.Mathlib.Omega.{arith}
-use borrow.Author.Rules.{rules}
-use lib.ListN.{length, take, length-replicate}
-use Rattle.expression.proofs.Words.{room-cubes}
+use lib.ListN.{length, take}
 use Rattle.network.specs.{Net.nodes, Handed.LaidNodes, Handed.cube_slots, Handed.word_slots}
-use Rattle.network.proofs.Laying.{laid_none}
 use Rattle.blif_laws.specs.{Text.Block, Reading.net_in}
 use Rattle.blif_read.specs.Defining.{model_by}
-use Rattle.blif_read.proofs.Building.{Whole, built-next, built-all}
+use Rattle.blif_read.proofs.Building.{Whole}
 use Rattle.blif_read.proofs.build.build.Given as goal
 
 abbrev pub invariant-loop-i : goal.invariant-loop-i

@@ -1,17 +1,14 @@
 -- `blif_read::build::find` meets its contract. The loop's invariant: whatever the blocks are, those left stand at the place reached, and none of those
 -- passed defines the name. The measure is what is left of the text. Assumes nothing.
 use Prim.Native.Nat.{ℕ, ◌-◌, ◌≤◌}
-use mathlib.Core.Path.{◌≡◌, refl, sym, ap, ◌∙◌}
+use mathlib.Core.Path.{◌≡◌}
 use mathlib.Core.List.{List}
-use native.Mathlib.Omega.{arith}
-use borrow.Author.Rules.{rules}
-use borrow.Author.Tests.{not-true, not-false}
 use lib.ListN.{length}
-use Rattle.sets.{specs.Word.largest, proofs.Truth.clash}
-use Rattle.blif_laws.{specs.Text.Block, specs.Reading.same_name, proofs.Standing.same-name, proofs.Standing.name-self}
+use Rattle.sets.{specs.Word.largest}
+use Rattle.blif_laws.{specs.Text.Block}
 use Rattle.blif_scan.specs.Scanning.{left, label_of}
 use Rattle.blif_form.specs.Surveying.{BlocksOf, SmallBlocks}
-use Rattle.blif_read.proofs.Finding.{Left, left-first, left-next, left-none, found_here}
+use Rattle.blif_read.proofs.Finding.{Left}
 use Rattle.blif_read.proofs.build.find.Given as goal
 
 abbrev pub invariant-loop-name : goal.invariant-loop-name

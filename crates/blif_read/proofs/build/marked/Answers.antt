@@ -1,15 +1,14 @@
 -- The answers of `blif_read::build::marked`.
-use Prim.Native.Nat.{◌-◌, ◌≤◌}
 use mathlib.Core.Path.{◌≡◌, refl, sym, ap, ap₂, ◌∙◌}
-use mathlib.Core.{Logic.inl, Logic.inr, List.[], List.◌∷◌}
+use mathlib.Core.{List.[], List.◌∷◌}
 use native.Mathlib.Omega.{arith}
-use borrow.Author.Rules.{rules}
 use borrow.Author.Tests.{le-leb, lt-leb}
 use lib.ListN.{length, get_or, set, length-append}
 use Rattle.sets.specs.Lists.{from}
 use Rattle.network.specs.{Held.most_variables, Answers.padded}
 use Rattle.blif_read.proofs.Putting.{marked_to, marked-few, marked-skip, marked_next, padded-next}
 use Rattle.blif_read.proofs.build.marked.Goals as goal
+use Rattle.blif_read.proofs.build.marked.Goals.{then-marks-v-gt0, else-marks-v-gt0}
 
 pub loop-v-init : goal.loop-v-init
 unfolding from
@@ -20,20 +19,20 @@ loop-v-preserved c =
     let marks = c.args.marks.now in
     let v = c.loop-v.v in
     elim c.if-marks-v-gt0.branch [
-      | inl w ↦
-          let e = marked_next marks v (le-leb 1 (get_or marks v 0) w.0.taken) in (
+      | then-marks-v-gt0 w ↦
+          let e = marked_next marks v (le-leb 1 (get_or marks v 0) w.if-marks-v-gt0.true) in (
             omega arith,
-            omega (arith, w.2),
-            omega (arith, w.2, ap length e, length-append (marked_to marks v) (v ∷ [])),
-            w.1 ∙ ap₂ (λ x k. set x k v) c.loop-v.invariant.3 c.loop-v.invariant.2 ∙ padded-next (marked_to marks v) v (omega (arith, marked-few marks v))
+            omega (arith, w.n-is),
+            omega (arith, w.n-is, ap length e, length-append (marked_to marks v) (v ∷ [])),
+            w.vars-is ∙ ap₂ (λ x k. set x k v) c.loop-v.invariant.3 c.loop-v.invariant.2 ∙ padded-next (marked_to marks v) v (omega (arith, marked-few marks v))
                 ∙ ap padded (sym e),
           )
-      | inr w ↦
-          let e = marked-skip marks v (lt-leb 1 (get_or marks v 0) (omega (arith, w.0.left))) in (
+      | else-marks-v-gt0 w ↦
+          let e = marked-skip marks v (lt-leb 1 (get_or marks v 0) (omega (arith, w.if-marks-v-gt0.false))) in (
             omega arith,
-            omega (arith, w.2),
-            w.2 ∙ c.loop-v.invariant.2 ∙ ap length (sym e),
-            w.1 ∙ c.loop-v.invariant.3 ∙ ap padded (sym e),
+            omega (arith, w.n-is),
+            w.n-is ∙ c.loop-v.invariant.2 ∙ ap length (sym e),
+            w.vars-is ∙ c.loop-v.invariant.3 ∙ ap padded (sym e),
           )
     ]
 

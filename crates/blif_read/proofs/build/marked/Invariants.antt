@@ -1,14 +1,9 @@
 -- `blif_read::build::marked` meets its contract. The loop's invariant: the array has the marked numbers passed, and zeros after them. Assumes nothing.
 use Prim.Native.Nat.{◌-◌, ◌≤◌}
-use mathlib.Core.Path.{◌≡◌, refl, sym, ap, ap₂, ◌∙◌}
-use mathlib.Core.{Logic.inl, Logic.inr, List.[], List.◌∷◌}
-use native.Mathlib.Omega.{arith}
-use borrow.Author.Rules.{rules}
-use borrow.Author.Tests.{le-leb, lt-leb}
-use lib.ListN.{length, get_or, set, length-append}
-use Rattle.sets.specs.Lists.{from}
+use mathlib.Core.Path.{◌≡◌}
+use lib.ListN.{length}
 use Rattle.network.specs.{Held.most_variables, Answers.padded}
-use Rattle.blif_read.proofs.Putting.{marked_to, marked-few, marked-skip, marked_next, padded-next}
+use Rattle.blif_read.proofs.Putting.{marked_to}
 use Rattle.blif_read.proofs.build.marked.Given as goal
 
 abbrev pub invariant-loop-v : goal.invariant-loop-v

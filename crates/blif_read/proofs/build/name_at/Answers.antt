@@ -1,6 +1,5 @@
 -- `blif_read::build::name_at` meets its contract: outputs stand first. Assumes nothing.
 use mathlib.Core.Path.{ap}
-use borrow.Author.Rules.{rules}
 use borrow.Author.Tests.{lt-ltb, le-ltb}
 use Rattle.blif_laws.specs.Text.{variable}
 use Rattle.blif_read.proofs.build.name_at.Goals as goal

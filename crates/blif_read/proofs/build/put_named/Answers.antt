@@ -2,7 +2,6 @@
 -- Assumes nothing.
 use mathlib.Core.Path.{sym, ap, ◌∙◌, subst}
 use native.Mathlib.Omega.{arith}
-use borrow.Author.Rules.{rules}
 use lib.ListN.{length}
 use Rattle.expression.{proofs.Sorting.sort-length, proofs.Placing.placed-as}
 use Rattle.blif_read.specs.Building.{FoundIs}

@@ -3,7 +3,6 @@
 use mathlib.Core.Path.{◌≡◌, sym, ap, ◌∙◌}
 use mathlib.Core.Bool.{true, false}
 use native.Mathlib.Omega.{arith}
-use borrow.Author.Rules.{rules}
 use borrow.Author.Tests.{not-true, not-false}
 use lib.ListN.{length}
 use lib.Seq.{length-take-le}
@@ -17,7 +16,7 @@ use Rattle.blif_read.proofs.build.put_node.Goals as goal
 pub returns-then-not-names : goal.returns-then-not-names
 returns-then-not-names c =
     let f = names-by false c.args.s.now c.args.from 0 _ _ c.read_names-names.result c.read_names-names.ensures
-    (c.if-not-names.true) in (
+    (not-true _ c.if-not-names.true) in (
       λ m b more l d h w k.
           let o = block-blocked h in absurd (f.none (named_for b) o.rest (block-ascends h.formed d l) o.names),
       omega arith,
@@ -26,13 +25,13 @@ returns-then-not-names c =
 pub returns-then-r-gt-MOST_VARIABLES : goal.returns-then-r-gt-MOST_VARIABLES
 returns-then-r-gt-MOST_VARIABLES c =
     let g = names-by true c.args.s.now c.args.from 0 _ _ c.read_names-names.result c.read_names-names.ensures
-    (c.if-not-names.false) in
+    (not-false _ c.if-not-names.false) in
     (λ m b more l d h w k. absurd (omega (arith, node-few g h w, c.if-r-gt-MOST_VARIABLES.true)), omega arith)
 
 pub returns : goal.returns
 returns c =
     let g = names-by true c.args.s.now c.args.from 0 _ _ c.read_names-names.result c.read_names-names.ensures
-    (not-false _ c.if-not-names.left) in (
+    (not-false _ c.if-not-names.false) in (
       λ m b more l d h w i.
           let q = node-put g h w c.marked-vars.ensures c.put_rows-count.ensures i in
           (q.0, placed-sort q.1 (omega arith) (omega (arith, q.0)) c.sort_part.ensures),
@@ -47,4 +46,4 @@ slice_bounds-put_rows-end c =
 
 pub overflow_add-at : goal.overflow_add-at
 overflow_add-at c =
-    omega (arith, c.put_rows-count.ensures.within, c.fits.at, cubes-few c.args.words.now)
+    omega (arith, c.put_rows-count.ensures.within, c.ranges.at, cubes-few c.args.words.now)

@@ -1,16 +1,13 @@
 -- The answers of `blif_read::build::put_rows`.
-use Prim.Native.Nat.{ℕ, ◌+◌, ◌-◌, ◌<◌, ◌≤◌}
+use Prim.Native.Nat.{◌+◌, ◌<◌, ◌≤◌}
 use mathlib.Core.Path.{◌≡◌, refl, subst}
-use mathlib.Core.List.{List}
 use native.Mathlib.Omega.{arith}
 use borrow.Author.Rules.{rules}
 use lib.ListN.{length}
 use Rattle.sets.specs.Word.{largest}
 use Rattle.expression.{specs.Words.cubes_of, proofs.Words.cubes-few, proofs.Words.cubes-length}
-use Rattle.blif_scan.specs.Scanning.{left}
-use Rattle.blif_lines.specs.Lining.{RowsOf, RowIs}
-use Rattle.blif_read.specs.Building.{Columns, Within}
-use Rattle.blif_read.proofs.Putting.{RowsTo, rows-first, rows_next, rows-over, rows-full, rows_all}
+use Rattle.blif_lines.specs.Lining.{RowIs}
+use Rattle.blif_read.proofs.Putting.{rows-first, rows_next, rows-over, rows-full, rows_all}
 use Rattle.blif_read.proofs.build.put_rows.Goals as goal
 use Rattle.blif_read.proofs.build.put_rows.Goals.{After-number, After-read_row-row, At-loop-i}
 
@@ -50,10 +47,10 @@ returns c =
 
 -- the places of the words are few enough to be counted
 fits : (h : At-loop-i) → h.args.at + h.loop-i.i ≤ largest
-fits h = omega (arith, h.loop-i.invariant.0, h.fits.at, cubes-few h.args.words.now)
+fits h = omega (arith, h.loop-i.invariant.0, h.ranges.at, cubes-few h.args.words.now)
 
 pub overflow_add-at : goal.overflow_add-at
-overflow_add-at c = omega (arith, fits c)
+overflow_add-at c = omega (arith, fits (goal.at.overflow_add-at c).At-loop-i)
 
 pub overflow_add-at-in-loop-i : goal.overflow_add-at-in-loop-i
 overflow_add-at-in-loop-i c = omega (arith, fits (goal.at.overflow_add-at-in-loop-i c).At-loop-i)

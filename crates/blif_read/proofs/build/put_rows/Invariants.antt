@@ -1,17 +1,14 @@
 -- `blif_read::build::put_rows` meets its contract. The loop's invariant: whatever the rows are, the cubes of those passed stand in the words, and the
 -- others are left. No row stands where the rows end, and there is room for all of them. Assumes nothing.
-use Prim.Native.Nat.{ℕ, ◌+◌, ◌-◌, ◌<◌, ◌≤◌}
-use mathlib.Core.Path.{◌≡◌, refl, subst}
+use Prim.Native.Nat.{ℕ, ◌+◌, ◌-◌, ◌≤◌}
+use mathlib.Core.Path.{◌≡◌}
 use mathlib.Core.List.{List}
-use native.Mathlib.Omega.{arith}
-use borrow.Author.Rules.{rules}
 use lib.ListN.{length}
-use Rattle.sets.specs.Word.{largest}
-use Rattle.expression.{specs.Words.cubes_of, proofs.Words.cubes-few, proofs.Words.cubes-length}
+use Rattle.expression.{specs.Words.cubes_of}
 use Rattle.blif_scan.specs.Scanning.{left}
-use Rattle.blif_lines.specs.Lining.{RowsOf, RowIs}
+use Rattle.blif_lines.specs.Lining.{RowsOf}
 use Rattle.blif_read.specs.Building.{Columns, Within}
-use Rattle.blif_read.proofs.Putting.{RowsTo, rows-first, rows_next, rows-over, rows-full, rows_all}
+use Rattle.blif_read.proofs.Putting.{RowsTo}
 use Rattle.blif_read.proofs.build.put_rows.Given as goal
 
 abbrev pub invariant-loop-i : goal.invariant-loop-i

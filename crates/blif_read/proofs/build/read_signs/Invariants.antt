@@ -1,14 +1,12 @@
 -- `blif_read::build::read_signs` meets its contract. The loop's invariant: whatever the signs are, those passed have their literals in the cube, and
 -- the others are left. Assumes nothing.
 use Prim.Native.Nat.{◌-◌, ◌≤◌}
-use mathlib.Core.{Path.◌≡◌, Path.subst, List.List, List.◌++◌}
-use native.Mathlib.Omega.{arith}
-use borrow.Author.Rules.{rules}
+use mathlib.Core.{Path.◌≡◌, List.List, List.◌++◌}
 use lib.ListN.{length}
 use Rattle.cube.specs.Cube.{lits}
-use Rattle.blif_scan.specs.Scanning.{left, NextIs}
+use Rattle.blif_scan.specs.Scanning.{left}
 use Rattle.blif_read.specs.Building.{Columns}
-use Rattle.blif_read.proofs.Putting.{SignsTo, signs-first, signs-next, signs-some, signs-all}
+use Rattle.blif_read.proofs.Putting.{SignsTo}
 use Rattle.blif_read.proofs.build.read_signs.Given as goal
 
 abbrev pub invariant-loop-i : goal.invariant-loop-i

@@ -1,6 +1,5 @@
 -- `blif_read::build::same` meets its contract: names of one kind are the same where their numbers are. Assumes nothing.
 use mathlib.Core.Path.{sym, ap₂}
-use borrow.Author.Rules.{rules}
 use Rattle.blif_laws.specs.Reading.{same_name}
 use Rattle.blif_scan.specs.Scanning.{label_of}
 use Rattle.blif_read.proofs.build.same.Goals as goal

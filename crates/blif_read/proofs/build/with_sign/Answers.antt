@@ -1,6 +1,5 @@
 -- `blif_read::build::with_sign` meets its contract: `1` joins the plain literal, `0` the negated. Assumes nothing.
 use mathlib.Core.Path.{◌∙◌}
-use borrow.Author.Rules.{rules}
 use Rattle.cube.specs.Cube.{lits}
 use Rattle.table_rows.proofs.Cubing.{placed-plain, placed-negated, placed-either}
 use Rattle.blif_read.proofs.build.with_sign.Goals as goal

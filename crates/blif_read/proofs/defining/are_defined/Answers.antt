@@ -1,16 +1,7 @@
 -- The answers of `blif_read::defining::are_defined`.
-use Prim.Native.Nat.{ℕ, ◌-◌, ◌≤◌}
-use mathlib.Core.Path.{◌≡◌, refl, sym, ◌∙◌}
-use mathlib.Core.{Bool.true, List.List}
+use mathlib.Core.Path.{refl, sym, ◌∙◌}
 use native.Mathlib.Omega.{arith}
-use borrow.Author.Rules.{rules}
-use borrow.Author.Tests.{not-true, not-false}
-use lib.Dec.{eqb}
-use Rattle.sets.specs.{Lists.all, Lists.from, Word.largest}
-use Rattle.blif_laws.specs.Text.{Block}
-use Rattle.blif_scan.specs.Scanning.{left}
-use Rattle.blif_read.specs.Defining.{times_in}
-use Rattle.blif_form.specs.Surveying.{BlocksOf, SmallBlocks}
+use Rattle.sets.specs.{Lists.from}
 use Rattle.blif_lines.proofs.Windows.{windows-on, windows-stop, windows-done}
 use Rattle.blif_read.proofs.defining.are_defined.Goals as goal
 

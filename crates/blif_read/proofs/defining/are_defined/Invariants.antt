@@ -1,17 +1,13 @@
 -- `blif_read::are_defined` meets its contract. The loop's invariant: every number below the window is defined once. Assumes nothing.
 use Prim.Native.Nat.{ℕ, ◌-◌, ◌≤◌}
-use mathlib.Core.Path.{◌≡◌, refl, sym, ◌∙◌}
+use mathlib.Core.Path.{◌≡◌}
 use mathlib.Core.{Bool.true, List.List}
-use native.Mathlib.Omega.{arith}
-use borrow.Author.Rules.{rules}
-use borrow.Author.Tests.{not-true, not-false}
 use lib.Dec.{eqb}
 use Rattle.sets.specs.{Lists.all, Lists.from, Word.largest}
 use Rattle.blif_laws.specs.Text.{Block}
 use Rattle.blif_scan.specs.Scanning.{left}
 use Rattle.blif_read.specs.Defining.{times_in}
 use Rattle.blif_form.specs.Surveying.{BlocksOf, SmallBlocks}
-use Rattle.blif_lines.proofs.Windows.{windows-on, windows-stop, windows-done}
 use Rattle.blif_read.proofs.defining.are_defined.Given as goal
 
 abbrev pub invariant-loop-base : goal.invariant-loop-base

@@ -1,18 +1,11 @@
 -- The answers of `blif_read::defining::define`.
-use Prim.Native.Nat.{ℕ, ◌-◌, ◌≤◌}
-use mathlib.Core.Path.{◌≡◌, refl, sym, ◌∙◌, subst}
-use mathlib.Core.List.{List}
+use mathlib.Core.Path.{refl, sym, ◌∙◌, subst}
 use native.Mathlib.Omega.{arith}
-use borrow.Author.Rules.{rules}
 use borrow.Author.Tests.{not-true, not-false}
-use lib.ListN.{length}
-use Rattle.sets.specs.Word.{largest}
-use Rattle.blif_laws.specs.Text.{Name, Block}
-use Rattle.blif_scan.specs.Scanning.{left}
+use Rattle.blif_laws.specs.Text.{Name}
 use Rattle.blif_lines.specs.Marking.{Raised}
 use Rattle.blif_read.specs.Defining.{number_if}
-use Rattle.blif_form.specs.Surveying.{BlocksOf, SmallBlocks}
-use Rattle.blif_read.proofs.Counting.{Tallied, tally-first, tally-next, tally-done}
+use Rattle.blif_read.proofs.Counting.{tally-first, tally-next, tally-done}
 use Rattle.blif_read.proofs.defining.define.Goals as goal
 
 pub loop-spare-init : goal.loop-spare-init
@@ -26,17 +19,17 @@ shape_of-marks-then-not-b c = c.loop-spare.invariant.0
 
 pub returns-then-not-b : goal.returns-then-not-b
 returns-then-not-b c = λ m bs f b k.
-    tally-done f (c.loop-spare.invariant.2 m bs f b k) (c.pass-b.ensures.none (c.if-not-b.true))
+    tally-done f (c.loop-spare.invariant.2 m bs f b k) (c.pass-b.ensures.none (not-true _ c.if-not-b.true))
 
 pub loop-spare-smaller : goal.loop-spare-smaller
 loop-spare-smaller c =
-    let q = (c.pass-b.ensures.one (c.if-not-b.false)).forth in
+    let q = (c.pass-b.ensures.one (not-false _ c.if-not-b.false)).forth in
     omega (arith, q.on, q.within)
 
 pub loop-spare-preserved : goal.loop-spare-preserved
 loop-spare-preserved c =
     let o = c.args.outputs in
-    let q = c.pass-b.ensures.one (c.if-not-b.false) in (
+    let q = c.pass-b.ensures.one (not-false _ c.if-not-b.false) in (
       c.mark_name.ensures.size ∙ c.loop-spare.invariant.0,
       q.size ∙ c.loop-spare.invariant.1,
       λ m bs f b k. tally-next f (c.loop-spare.invariant.2 m bs f b k) q

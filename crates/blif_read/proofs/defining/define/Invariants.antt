@@ -1,18 +1,14 @@
 -- `blif_read::define` meets its contract. The loop's invariant: what the blocks passed define is marked, and the others are left. Assumes nothing.
 use Prim.Native.Nat.{ℕ, ◌-◌, ◌≤◌}
-use mathlib.Core.Path.{◌≡◌, refl, sym, ◌∙◌, subst}
+use mathlib.Core.Path.{◌≡◌}
 use mathlib.Core.List.{List}
-use native.Mathlib.Omega.{arith}
-use borrow.Author.Rules.{rules}
-use borrow.Author.Tests.{not-true, not-false}
 use lib.ListN.{length}
 use Rattle.sets.specs.Word.{largest}
-use Rattle.blif_laws.specs.Text.{Name, Block}
+use Rattle.blif_laws.specs.Text.{Block}
 use Rattle.blif_scan.specs.Scanning.{left}
-use Rattle.blif_lines.specs.Marking.{Raised}
 use Rattle.blif_read.specs.Defining.{number_if}
 use Rattle.blif_form.specs.Surveying.{BlocksOf, SmallBlocks}
-use Rattle.blif_read.proofs.Counting.{Tallied, tally-first, tally-next, tally-done}
+use Rattle.blif_read.proofs.Counting.{Tallied}
 use Rattle.blif_read.proofs.defining.define.Given as goal
 
 abbrev pub invariant-loop-spare : goal.invariant-loop-spare

@@ -1,6 +1,5 @@
 -- `blif_read::does_stand` meets its contract: a number of the window stands where its mark, at first zero, is not. Assumes nothing.
 use mathlib.Core.Path.{◌∙◌}
-use borrow.Author.Rules.{rules}
 use Rattle.blif_lines.{specs.Marking.window, proofs.Windows.window-met}
 use Rattle.blif_form.specs.Surveying.{named_by}
 use Rattle.blif_read.proofs.defining.does_stand.Goals as goal

@@ -1,6 +1,5 @@
 -- `blif_read::is_defined` meets its contract: blocks and inputs are counted in marks that are zero at first. Assumes nothing.
 use mathlib.Core.Path.{◌∙◌}
-use borrow.Author.Rules.{rules}
 use Rattle.blif_lines.{specs.Marking.window, proofs.Windows.window-once}
 use Rattle.blif_read.specs.Defining.{defined_by}
 use Rattle.blif_read.proofs.defining.is_defined.Goals as goal

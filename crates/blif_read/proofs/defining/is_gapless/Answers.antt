@@ -1,10 +1,8 @@
 -- The answers of `blif_read::defining::is_gapless`.
-use Prim.Native.Nat.{ℕ, ◌-◌, ◌≤◌}
+use Prim.Native.Nat.{ℕ, ◌≤◌}
 use mathlib.Core.Path.{◌≡◌, sym, ◌∙◌}
-use mathlib.Core.{Bool.true, List.List}
+use mathlib.Core.{List.List}
 use native.Mathlib.Omega.{arith}
-use borrow.Author.Rules.{rules}
-use borrow.Author.Tests.{not-true, not-false}
 use Rattle.sets.specs.{Lists.all, Lists.from, Sets.mem, Word.largest}
 use Rattle.blif_laws.specs.{Text.Block, Reading.standing}
 use Rattle.blif_scan.specs.Scanning.{left}
@@ -39,12 +37,11 @@ pub loop-base-smaller : goal.loop-base-smaller
 loop-base-smaller c = omega (arith, c.span-k.ensures)
 
 pub loop-base-preserved : goal.loop-base-preserved
-loop-base-preserved c =
-    (
-      omega arith,
-      λ m bs f b k.
-          windows-on _ c.loop-base.base c.span-k.result (c.loop-base.invariant.1 m bs f b k) (answer (goal.at.loop-base-preserved c).After-does_stand m bs f b k ∙ c.if-not-does_stand.false),
-    )
+loop-base-preserved c = (
+  omega arith,
+  λ m bs f b k.
+      windows-on _ c.loop-base.base c.span-k.result (c.loop-base.invariant.1 m bs f b k) (answer (goal.at.loop-base-preserved c).After-does_stand m bs f b k ∙ c.if-not-does_stand.false),
+)
 
 pub returns : goal.returns
 returns c = λ m bs f b k. sym (windows-done _ c.loop-base.base _ (omega arith) (c.loop-base.invariant.1 m bs f b k))

@@ -1,17 +1,12 @@
 -- `blif_read::is_gapless` meets its contract. The loop's invariant: every number below the window stands. Assumes nothing.
 use Prim.Native.Nat.{ℕ, ◌-◌, ◌≤◌}
-use mathlib.Core.Path.{◌≡◌, sym, ◌∙◌}
+use mathlib.Core.Path.{◌≡◌}
 use mathlib.Core.{Bool.true, List.List}
-use native.Mathlib.Omega.{arith}
-use borrow.Author.Rules.{rules}
-use borrow.Author.Tests.{not-true, not-false}
 use Rattle.sets.specs.{Lists.all, Lists.from, Sets.mem, Word.largest}
 use Rattle.blif_laws.specs.{Text.Block, Reading.standing}
 use Rattle.blif_scan.specs.Scanning.{left}
 use Rattle.blif_read.specs.Defining.{model_by}
 use Rattle.blif_form.specs.Surveying.{BlocksOf, SmallBlocks}
-use Rattle.blif_lines.proofs.Windows.{windows-on, windows-stop, windows-done}
-use Rattle.blif_read.proofs.{Tallying.inputs-stand, Tallying.others-stand}
 use Rattle.blif_read.proofs.defining.is_gapless.Given as goal
 
 abbrev pub invariant-loop-base : goal.invariant-loop-base

@@ -1,8 +1,6 @@
 -- `blif_read::is_once` meets its contract: the variables are tested with the inputs, then the outputs with no input. Assumes nothing.
 use Prim.Native.Nat.{◌≤◌}
 use native.Mathlib.Omega.{arith}
-use borrow.Author.Rules.{rules}
-use borrow.Author.Tests.{not-true, not-false}
 use Rattle.sets.specs.Word.{largest}
 use Rattle.blif_read.proofs.{Tallying.once-none, Tallying.once-both}
 use Rattle.blif_read.proofs.defining.is_once.Goals as goal

@@ -1,9 +1,7 @@
 -- The answers of `blif_read::defining::mark_inputs`.
-use Prim.Native.Nat.{◌-◌, ◌≤◌}
 use mathlib.Core.Path.{sym, ◌∙◌, ap, subst}
 use native.Mathlib.Omega.{arith}
 use native.Mathlib.Numerals.{add-one}
-use borrow.Author.Rules.{rules}
 use Rattle.sets.{specs.Lists.from, proofs.Rows.from-snoc}
 use Rattle.blif_lines.{specs.Marking.Raised, proofs.Marking.raised-none, proofs.Marking.raised-on}
 use Rattle.blif_read.proofs.defining.mark_inputs.Goals as goal
@@ -16,13 +14,12 @@ pub overflow_add-base : goal.overflow_add-base
 overflow_add-base c = omega (arith, c.span-k.ensures)
 
 pub loop-i-preserved : goal.loop-i-preserved
-loop-i-preserved c =
-    (
-      omega arith,
-      subst (λ l. Raised c.args.base l c.args.marks.now c.mark.new.marks)
-          (sym (from-snoc c.args.base c.loop-i.i) ∙ ap (from c.args.base) (sym (add-one c.loop-i.i)))
-          (raised-on c.loop-i.invariant.1 c.mark.ensures),
-    )
+loop-i-preserved c = (
+  omega arith,
+  subst (λ l. Raised c.args.base l c.args.marks.now c.mark.new.marks)
+      (sym (from-snoc c.args.base c.loop-i.i) ∙ ap (from c.args.base) (sym (add-one c.loop-i.i)))
+      (raised-on c.loop-i.invariant.1 c.mark.ensures),
+)
 
 pub shape_of-marks : goal.shape_of-marks
 shape_of-marks c = c.loop-i.invariant.1.size

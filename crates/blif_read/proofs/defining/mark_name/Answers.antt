@@ -1,6 +1,4 @@
 -- `blif_read::mark_name` meets its contract, in each of its four cases. Assumes nothing.
-use borrow.Author.Rules.{rules}
-use borrow.Author.Tests.{not-true, not-false}
 use Rattle.blif_lines.proofs.Marking.{raised-none}
 use Rattle.blif_read.proofs.defining.mark_name.Goals as goal
 

@@ -1,25 +1,15 @@
 -- `blif_read::pass` meets its contract: what keyword, names and rows answer is put together. Assumes nothing.
 use Prim.Native.Nat.{ℕ}
-use mathlib.Core.{Path.◌≡◌, Path.ap, Bool.Bool, Bool.true, Bool.false}
-use mathlib.Core.Logic.{◌⊎◌, inl, inr}
+use mathlib.Core.{Path.◌≡◌, Bool.Bool, Bool.true, Bool.false}
 use mathlib.Core.List.{[], ◌∷◌}
-use native.Mathlib.Omega.{arith}
-use denote.Enum.Declared.{tag_of}
-use borrow.Author.Rules.{rules}
 use borrow.Author.Tests.{not-true, not-false}
 use Rattle.letters_products.specs.Spelled.{spelled}
-use Rattle.blif_scan.{specs.Scanning.EndedIs, specs.declared.Ended.Ended, specs.declared.Ended.TheVariants.Space, proofs.Ended.the_type}
+use Rattle.blif_scan.{specs.Scanning.EndedIs, specs.declared.Ended.TheVariants.Space}
 use Rattle.blif_lines.specs.Lining.{NamesBy, RowsBy}
 use Rattle.blif_form.proofs.Passing.{names-by, rows-by}
 use Rattle.blif_read.proofs.Counting.{passed-end, passed-unnamed, passed-rowless, passed-one}
 use Rattle.blif_read.proofs.defining.pass.Goals as goal
 use Rattle.blif_read.proofs.defining.pass.Goals.{After-read_names-d, After-read_rows-rows, In-Space}
-
--- what is none of the first variant is no `Space`
-not-space : (e : Ended) → (tag_of the_type e ≡ 1) ⊎ ((tag_of the_type e ≡ 2) ⊎ (tag_of the_type e ≡ 3)) → (q : ℕ) → e ≡ Space q → ⊥
-not-space e (inl k) q i = omega (arith, ap (tag_of the_type) i)
-not-space e (inr (inl k)) q i = omega (arith, ap (tag_of the_type) i)
-not-space e (inr (inr k)) q i = omega (arith, ap (tag_of the_type) i)
 
 -- the place after the keyword and its space
 abbrev after : In-Space → ℕ
@@ -39,12 +29,12 @@ pub returns-in_default : goal.returns-in_default
 unfolding spelled
 returns-in_default c =
     let a = c.args in
-    passed-end a.s.now a.at a.base a.marks.now _ _ c.keyword-k.result c.keyword-k.ensures (not-space c.keyword-k.result c.in_default.keys2)
+    passed-end a.s.now a.at a.base a.marks.now _ _ c.keyword-k.result c.keyword-k.ensures c.in_default.not-Space
 
 pub returns-then-not-d : goal.returns-then-not-d
 returns-then-not-d c =
     let a = c.args in
-    passed-unnamed a.s.now a.at a.base a.marks.now _ _ (after (goal.at.returns-then-not-d c).In-Space) (begun (goal.at.returns-then-not-d c).In-Space) (names (goal.at.returns-then-not-d c).After-read_names-d false (c.if-not-d.true))
+    passed-unnamed a.s.now a.at a.base a.marks.now _ _ (after (goal.at.returns-then-not-d c).In-Space) (begun (goal.at.returns-then-not-d c).In-Space) (names (goal.at.returns-then-not-d c).After-read_names-d false (not-true _ c.if-not-d.true))
 
 -- what is told of the rows
 rows : (r : After-read_rows-rows) (x : Bool) → r.read_rows-rows.result.are ≡ x → RowsBy x r.args.s.now r.read_names-d.result.next r.read_names-d.result.reads 0 (0 ∷ []) r.read_rows-rows.new.marks
@@ -55,11 +45,11 @@ rows r x q = rows-by x r.args.s.now r.read_names-d.result.next r.read_names-d.re
 pub returns-then-not-rows : goal.returns-then-not-rows
 returns-then-not-rows c =
     let a = c.args in
-    passed-rowless a.s.now a.at a.base a.marks.now _ _ (after (goal.at.returns-then-not-rows c).In-Space) (begun (goal.at.returns-then-not-rows c).In-Space) (names (goal.at.returns-then-not-rows c).After-read_names-d true (c.if-not-d.false))
-    (rows (goal.at.returns-then-not-rows c).After-read_rows-rows false (c.if-not-rows.true))
+    passed-rowless a.s.now a.at a.base a.marks.now _ _ (after (goal.at.returns-then-not-rows c).In-Space) (begun (goal.at.returns-then-not-rows c).In-Space) (names (goal.at.returns-then-not-rows c).After-read_names-d true (not-false _ c.if-not-d.false))
+    (rows (goal.at.returns-then-not-rows c).After-read_rows-rows false (not-true _ c.if-not-rows.true))
 
 pub returns : goal.returns
 returns c =
     let a = c.args in
     passed-one a.s.now a.at a.base a.marks.now c.read_names-d.result.name 0 (after (goal.at.returns c).In-Space) (begun (goal.at.returns c).In-Space)
-    (names (goal.at.returns c).After-read_names-d true (c.if-not-d.false)) (rows (goal.at.returns c).After-read_rows-rows true (c.if-not-rows.false))
+    (names (goal.at.returns c).After-read_names-d true (not-false _ c.if-not-d.false)) (rows (goal.at.returns c).After-read_rows-rows true (not-false _ c.if-not-rows.false))

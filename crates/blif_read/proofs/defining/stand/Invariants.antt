@@ -1,16 +1,13 @@
 -- `blif_read::stand` meets its contract. The loop's invariant: what the blocks passed name is marked, and the others are left. Assumes nothing.
 use Prim.Native.Nat.{ℕ, ◌-◌, ◌≤◌}
-use mathlib.Core.Path.{◌≡◌, refl, ◌∙◌}
+use mathlib.Core.Path.{◌≡◌}
 use mathlib.Core.List.{List}
-use native.Mathlib.Omega.{arith}
-use borrow.Author.Rules.{rules}
-use borrow.Author.Tests.{not-true, not-false}
 use lib.ListN.{length}
 use Rattle.sets.specs.Word.{largest}
 use Rattle.blif_laws.specs.{Text.Block, Reading.named_in}
 use Rattle.blif_scan.specs.Scanning.{left}
 use Rattle.blif_form.specs.Surveying.{BlocksOf, SmallBlocks}
-use Rattle.blif_read.proofs.Counting.{Tallied, tally-first, tally-next, tally-done}
+use Rattle.blif_read.proofs.Counting.{Tallied}
 use Rattle.blif_read.proofs.defining.stand.Given as goal
 
 abbrev pub invariant-loop-b : goal.invariant-loop-b
