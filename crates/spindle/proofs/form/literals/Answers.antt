@@ -1,5 +1,5 @@
 -- `form::literals` meets its contract: the count is answered exactly where the rules are kept. Assumes nothing.
-use Rattle.std.proofs.Common.{◌≡◌, ℕ, Bool, true, false, cond, sym, refl, ap, ◌∙◌, rules}
+use Rattle.std.proofs.Common.{◌≡◌, ℕ, Bool, true, false, cond, sym, refl, ap, ◌∙◌}
 use Rattle.network.specs.{Net.literal_count, Held.net_of, Held.rules, Answers.counted, declared.Network.Network}
 use Rattle.network.specs.declared.{Number.Number, Number.TheVariants.Is, Number.TheVariants.No}
 use Rattle.spindle.proofs.form.literals.Goals as goal

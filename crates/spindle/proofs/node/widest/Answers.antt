@@ -15,4 +15,4 @@ loop-i-preserved c =
 pub returns : goal.returns
 returns c =
     let l = c.loop-i in
-    widest-whole _ l.i _ _ _ l.invariant.0 c.loop-i-test.false c.wrapping_add_usize-nodes.ensures l.invariant.1
+    widest-whole _ l.i _ _ _ l.invariant.0 c.loop-i-test.false c.wrapping_add_usize-nodes.ensures.value l.invariant.1
