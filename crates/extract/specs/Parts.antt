@@ -9,7 +9,6 @@ use Rattle.extract_choice.specs.Choice.{chosen_in, Chosen}
 use Rattle.network.specs.{Handed.Holds, declared.Network.Network}
 use Rattle.extract_divisor.specs.declared.Step.{Step}
 use Rattle.extract_step.specs.declared.Outcome.{Outcome}
-use Rattle.extract_step.specs.declared.Outcome.TheVariants as Outcome
 use Rattle.extract_tidy.specs.Tidy.{arranged}
 use Rattle.extract.specs.declared.{Stop.Stop, Answer.TheVariants.Stopped, Made.Made}
 use Rattle.extract.specs.declared.Stop.TheVariants.{Done, Asked, Numbers, Rows}

@@ -1,5 +1,4 @@
 -- `extract::first_best` meets its contract: the table says the gains of what it is filled with. Assumes nothing.
-use borrow.Author.Rules.{rules}
 use Rattle.extract.proofs.first_best.Goals as goal
 
 pub returns : goal.returns

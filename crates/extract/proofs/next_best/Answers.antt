@@ -1,5 +1,4 @@
 -- `extract::next_best` meets its contract: the table says the gains of what it is renewed to. Assumes nothing.
-use borrow.Author.Rules.{rules}
 use Rattle.extract.proofs.next_best.Goals as goal
 
 pub returns : goal.returns

@@ -3,7 +3,6 @@ use mathlib.Core.Path.{ap, ◌∙◌}
 use lib.ListN.{replicate}
 use Rattle.extract_divisor.specs.declared.Step.{Step}
 use Rattle.extract.specs.{Answers.places, Parts.made_by}
-use borrow.Author.Rules.{rules}
 use Rattle.extract.proofs.no_list.Goals as goal
 
 pub returns : goal.returns

@@ -1,7 +1,6 @@
 -- `extract::no_steps` meets its contract: none is counted, and every one is that of zeros. Assumes nothing.
 use mathlib.Core.{Path.ap, List.List}
 use Rattle.extract.specs.declared.Made.{Made}
-use borrow.Author.Rules.{rules}
 use Rattle.extract.proofs.no_steps.Goals as goal
 
 pub returns : goal.returns

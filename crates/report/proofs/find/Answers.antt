@@ -1,5 +1,4 @@
 -- `report::find` meets its contract: the refusal of a table, or the run on its network. Assumes nothing.
-use borrow.Author.Rules.{rules}
 use Rattle.report.proofs.Finding.{found-refusal, found-rules, found-run}
 use Rattle.report.proofs.find.Goals as goal
 

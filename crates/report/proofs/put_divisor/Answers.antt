@@ -1,7 +1,6 @@
 -- `report::put_divisor` meets its contract: the literals of a pair, or the parts of a sum. Assumes nothing.
 use mathlib.Core.Path.{◌∙◌, ap}
 use native.Mathlib.Omega.{arith}
-use borrow.Author.Rules.{rules}
 use Rattle.letters.proofs.Laying.{due_all, due-next, due-last}
 use Rattle.extract_divisor.specs.Divisor.{divisor_of}
 use Rattle.report.specs.Report.{divisor_text}

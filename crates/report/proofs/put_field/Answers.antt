@@ -1,7 +1,6 @@
 -- `report::put_field` meets its contract: a word, then a number. Assumes nothing.
 use mathlib.Core.Path.{refl}
 use native.Mathlib.Omega.{arith}
-use borrow.Author.Rules.{rules}
 use Rattle.letters.proofs.Laying.{due_all, due-next, due-last}
 use Rattle.report.proofs.put_field.Goals as goal
 

@@ -1,6 +1,5 @@
 -- `report::put_findings` meets its contract: a run or a refusal. Assumes nothing.
 use mathlib.Core.Path.{sym}
-use borrow.Author.Rules.{rules}
 use Rattle.letters.proofs.Laying.{laid_as}
 use Rattle.report.proofs.{Lines.found-read, Lines.found-refused}
 use Rattle.report.proofs.put_findings.Goals as goal

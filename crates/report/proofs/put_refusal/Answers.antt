@@ -1,6 +1,5 @@
 -- `report::put_refusal` meets its contract: the number, the line and the column, each after its words. Assumes nothing.
 use native.Mathlib.Omega.{arith}
-use borrow.Author.Rules.{rules}
 use Rattle.letters.proofs.Laying.{due_all, due-next, due-last}
 use Rattle.report.proofs.{Lines.refusal-start}
 use Rattle.report.proofs.put_refusal.Goals as goal

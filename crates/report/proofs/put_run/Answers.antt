@@ -1,6 +1,5 @@
 -- `report::put_run` meets its contract: the line at the start, those of the steps, and the one at the end. Assumes nothing.
 use native.Mathlib.Omega.{arith}
-use borrow.Author.Rules.{rules}
 use Rattle.letters.proofs.Laying.{due_all, due-next, due-last}
 use Rattle.report.proofs.{Lines.found-start}
 use Rattle.report.proofs.put_run.Goals as goal

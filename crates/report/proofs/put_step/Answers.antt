@@ -1,6 +1,5 @@
 -- `report::put_step` meets its contract: the parts of the line, one after the other. Assumes nothing.
 use native.Mathlib.Omega.{arith}
-use borrow.Author.Rules.{rules}
 use Rattle.letters.proofs.Laying.{due_all, due-next, due-last}
 use Rattle.report.proofs.{Lines.step_start}
 use Rattle.report.proofs.put_step.Goals as goal

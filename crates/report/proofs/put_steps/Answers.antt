@@ -1,16 +1,14 @@
 -- The answers of `report::put_steps`.
-use mathlib.Core.Path.{◌≡◌, refl, sym, ◌∙◌, ap, subst}
-use mathlib.Core.List.{List, ◌∷◌, ◌++◌, map}
-use Prim.Native.Nat.{◌+◌, ◌-◌, ◌≤◌}
+use mathlib.Core.Path.{◌≡◌, refl, ◌∙◌, ap, subst}
+use mathlib.Core.List.{List, ◌∷◌, map}
+use Prim.Native.Nat.{◌+◌, ◌≤◌}
 use native.Mathlib.Omega.{arith}
-use borrow.Author.Rules.{rules}
-use lib.IntN.{pos}
 use lib.ListN.{length, get_or, take, drop, length-map, drop_of_length-le}
 use lib.Seq.{length-take-le}
-use Rattle.letters.proofs.Laying.{Due, due_all, due-as, due-next, due-done}
+use Rattle.letters.proofs.Laying.{due_all, due-as, due-next, due-done}
 use Rattle.extract_laws.specs.Run.{Made}
 use Rattle.extract.specs.Answers.{made_of, no_made, places}
-use Rattle.report.specs.{Report.step_lines, Report.step_line, Parts.Sized, Parts.EachSized}
+use Rattle.report.specs.{Report.step_lines, Parts.Sized, Parts.EachSized}
 use Rattle.report.proofs.Lines.{lines_none, lines-first, made-next}
 use Rattle.report.proofs.Counting.{sized-read, sized-above, each_first}
 use Rattle.report.proofs.put_steps.Goals as goal

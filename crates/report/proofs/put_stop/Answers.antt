@@ -1,6 +1,5 @@
 -- `report::put_stop` meets its contract: one word for each reason. Assumes nothing.
 use mathlib.Core.Path.{◌≡◌, sym, ap}
-use borrow.Author.Rules.{rules}
 use Rattle.letters.proofs.Laying.{laid_as}
 use Rattle.extract.specs.{Answers.stop_of, declared.Stop.Stop}
 use Rattle.report.specs.Report.{stop_text}

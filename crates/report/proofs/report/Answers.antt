@@ -3,7 +3,6 @@ use mathlib.Core.Path.{◌≡◌, ap, subst}
 use mathlib.Core.List.{[], ◌++◌}
 use Prim.Native.Nat.{◌≤◌}
 use native.Mathlib.Omega.{arith}
-use borrow.Author.Rules.{rules}
 use lib.ListN.{length}
 use Rattle.letters.{specs.Laid.Laid, proofs.Telling.told-long, proofs.Telling.told-whole}
 use Rattle.letters.proofs.Laying.{laid_as, laid-whole, laid-nowhere, laid-long, laid-short}
@@ -31,5 +30,5 @@ returns c =
     let n = laid-short (whole (goal.at.returns c).After-put_findings-n) (length o) (omega arith) short in
     let w = c.put_findings in
     let same = c.find-f.ensures.1 in
-    let laid = subst (λ o. Laid o w.new.0 0 w.result (report_of c.args.text.now)) (kept (goal.at.returns c).After-put_findings-n) (laid_as w.ensures same) in
+    let laid = subst (λ o. Laid o w.new.o 0 w.result (report_of c.args.text.now)) (kept (goal.at.returns c).After-put_findings-n) (laid_as w.ensures same) in
     told-whole _ _ _ _ (omega arith) n (laid-whole laid (omega arith))
