@@ -1,8 +1,7 @@
 -- The answers of `drive::nets::narrow`.
-use Rattle.std.proofs.Common.{◌-◌, ◌≤◌, length, get_or, take, arith, take_all, rules}
-use mathlib.Core.{Path.◌≡◌, Path.sym, Path.ap, Path.◌∙◌, List.[], List.◌∷◌, List.◌++◌}
+use Rattle.std.proofs.Common.{get_or, arith, take_all, rules}
+use mathlib.Core.{Path.sym, Path.ap, Path.◌∙◌, List.[], List.◌∷◌, List.◌++◌}
 use Rattle.sets.proofs.Rows.{take_next, take-store}
-use Rattle.network.specs.Handed.{node_slots}
 use Rattle.drive.proofs.nets.narrow.Goals as goal
 
 pub loop-i-preserved : goal.loop-i-preserved

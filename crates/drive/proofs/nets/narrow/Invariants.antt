@@ -1,7 +1,6 @@
 -- `drive::nets::narrow` meets its contract. The loop's invariant: what is stored so far is what was given so far. Assumes nothing.
-use Rattle.std.proofs.Common.{◌-◌, ◌≤◌, length, get_or, take, arith, take_all, rules}
-use mathlib.Core.{Path.◌≡◌, Path.sym, Path.ap, Path.◌∙◌, List.[], List.◌∷◌, List.◌++◌}
-use Rattle.sets.proofs.Rows.{take_next, take-store}
+use Rattle.std.proofs.Common.{◌-◌, ◌≤◌, length, take}
+use mathlib.Core.{Path.◌≡◌}
 use Rattle.network.specs.Handed.{node_slots}
 use Rattle.drive.proofs.nets.narrow.Given as goal
 

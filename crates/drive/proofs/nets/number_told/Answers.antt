@@ -1,5 +1,4 @@
 -- `drive::nets::number_told` meets its contract: a number is told as found, and a refusal as one. Assumes nothing.
-use Rattle.std.proofs.Common.{rules}
 use Rattle.drive.proofs.nets.number_told.Goals as goal
 
 pub returns-in-Is : goal.returns-in-Is

@@ -1,9 +1,8 @@
 -- `drive::nets::read_net` meets its contract: what the three groups fill is the network, and their tests join. Assumes nothing.
-use Rattle.std.proofs.Common.{◌≡◌, ℕ, eqb, leb, get_or, replicate, sym, ap, ◌∙◌, inl, inr}
+use Rattle.std.proofs.Common.{◌≡◌, ℕ, eqb, leb, get_or, replicate, ap, ◌∙◌, inl, inr}
 use mathlib.Core.{Bool.Bool, Bool.◌&&◌, List.List}
 use borrow.Author.Tests.{eq-eqb, ne_eqb, le-leb, lt-leb}
 use lib.ListN.{length-replicate}
-use Rattle.sets.proofs.Truth.{refuted}
 use Rattle.drive_request.specs.{Words.first_group, Words.after_group, Numbers.numbers_of, Reading.count_of}
 use Rattle.network.specs.Handed.{node_slots, word_slots}
 use Rattle.drive.specs.{Rooms.many_of, Rooms.Filled, declared.nets.Given.Given}
@@ -51,9 +50,9 @@ returns-else-c-le-NODE_SLOTS c =
     made c.args.text.now c.tail-after.ensures c.tail.ensures c.head.ensures c.head-2.ensures c.head-3.ensures
     c.read_numbers-s.ensures c.read_numbers-c.ensures c.read_numbers-w.ensures c.narrow.ensures
     (elim c.if-s-eq3.branch [
-      then-s-eq3 w ↦ elim c.if-c-le-NODE_SLOTS.either [
-        inl q ↦ w.t-41-is ∙ rw (eq-eqb c.read_numbers-s.result 3 q.0, lt-leb c.read_numbers-c.result node_slots q.1)
-      | inr n ↦ absurd (n w.if-s-eq3.true)
+      | then-s-eq3 w ↦ elim c.if-c-le-NODE_SLOTS.either [
+        | inl q ↦ w.t-41-is ∙ rw (eq-eqb c.read_numbers-s.result 3 q.0, lt-leb c.read_numbers-c.result node_slots q.1)
+        | inr n ↦ absurd (n w.if-s-eq3.true)
       ]
-    | else-s-eq3 w ↦ w.t-41-is ∙ rw (ne_eqb c.read_numbers-s.result 3 w.if-s-eq3.false)
+      | else-s-eq3 w ↦ w.t-41-is ∙ rw (ne_eqb c.read_numbers-s.result 3 w.if-s-eq3.false)
     ])

@@ -1,5 +1,5 @@
 -- `drive::runs::above` is safe: a weight that is not below zero reads as a number. Assumes nothing.
-use Rattle.std.proofs.Common.{◌≡◌, false, T, ℤ, pos, negsuc, nat_abs, sym, subst, lt_of_le_of_lt, lit<, w32, w64, Fits, to_z, of_z, rules}
+use Rattle.std.proofs.Common.{◌≡◌, false, T, ℤ, pos, negsuc, nat_abs, sym, subst, lt_of_le_of_lt, lit<, w32, w64, Fits, to_z, of_z}
 use lib.Signed.{lt_z, non_neg, nat_abs-le}
 use mir.ValLaws.{to_z-of_z}
 use Rattle.drive.proofs.runs.above.Goals as goal

@@ -1,5 +1,4 @@
 -- `drive::wire::wrote` meets its contract: what a writer answered is told as one number or as a refusal. Assumes nothing.
-use Rattle.std.proofs.Common.{rules}
 use Rattle.drive.proofs.wire.wrote.Goals as goal
 
 pub returns-in-Bytes : goal.returns-in-Bytes

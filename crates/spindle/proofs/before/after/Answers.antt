@@ -1,5 +1,5 @@
 -- `before::after` meets its contract. Assumes nothing.
-use Rattle.std.proofs.Common.{ap, ◌∙◌, rules}
+use Rattle.std.proofs.Common.{ap, ◌∙◌}
 use Rattle.table_kinds.specs.Kinds.{kind_of}
 use Rattle.spindle.specs.Before.{by_kind}
 use Rattle.spindle.proofs.before.after.Goals as goal

@@ -1,5 +1,4 @@
 -- `before::by_kind` meets its contract. Assumes nothing.
-use Rattle.std.proofs.Common.{rules}
 use Rattle.spindle.specs.Before.{by_kind}
 use Rattle.spindle.proofs.before.by_kind.Goals as goal
 

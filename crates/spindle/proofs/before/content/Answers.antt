@@ -1,5 +1,5 @@
 -- `before::content` meets its contract. Assumes nothing.
-use Rattle.std.proofs.Common.{◌≤◌, length, arith, rules}
+use Rattle.std.proofs.Common.{◌≤◌, length, arith}
 use Rattle.table_lines.proofs.Spans.{span-inside, span-content}
 use Rattle.spindle.proofs.before.content.Goals as goal
 use Rattle.spindle.proofs.before.content.Goals.{After-content_of-span}

@@ -1,8 +1,8 @@
 -- The answers of `before::reach`, whose loop's invariant stands beside. Assumes nothing.
-use Rattle.std.proofs.Common.{◌≡◌, ℕ, ◌-◌, ◌≤◌, List, length, drop, ap, ◌∙◌, arith, rules}
+use Rattle.std.proofs.Common.{◌≡◌, ◌≤◌, length, drop, ap, ◌∙◌, arith}
 use Rattle.table_lines.{specs.Text.line_of, proofs.Lining.line-part, proofs.Lining.line-ends}
 use Rattle.spindle.specs.Before.{after}
-use Rattle.spindle.proofs.Reaching.{Walks, walk_first, walk-done, walk-next, walk-over}
+use Rattle.spindle.proofs.Reaching.{walk_first, walk-done, walk-next, walk-over}
 use Rattle.spindle.proofs.before.reach.Goals as goal
 use Rattle.spindle.proofs.before.reach.Goals.{After-after-seen, After-line_end-e}
 

@@ -1,8 +1,6 @@
 -- `before::reach` meets its contract: the lines up to the one that is looked for are gone through in turn. Assumes nothing.
-use Rattle.std.proofs.Common.{◌≡◌, ℕ, ◌-◌, ◌≤◌, List, length, drop, ap, ◌∙◌, arith, rules}
-use Rattle.table_lines.{specs.Text.line_of, proofs.Lining.line-part, proofs.Lining.line-ends}
-use Rattle.spindle.specs.Before.{after}
-use Rattle.spindle.proofs.Reaching.{Walks, walk_first, walk-done, walk-next, walk-over}
+use Rattle.std.proofs.Common.{◌-◌}
+use Rattle.spindle.proofs.Reaching.{Walks}
 use Rattle.spindle.proofs.before.reach.Given as goal
 
 abbrev pub invariant-loop-i : goal.invariant-loop-i

@@ -1,5 +1,5 @@
 -- `map::is_any` is safe and ends. Assumes nothing.
-use Rattle.std.proofs.Common.{◌-◌, rules}
+use Rattle.std.proofs.Common.{◌-◌}
 use Rattle.spindle.proofs.map.is_any.Given as goal
 
 abbrev pub invariant-loop-i : goal.invariant-loop-i

@@ -1,5 +1,5 @@
 -- `node::length_of` meets its contract: the length of what was written. Assumes nothing.
-use Rattle.std.proofs.Common.{sym, refl, ap, ◌∙◌, rules}
+use Rattle.std.proofs.Common.{sym, refl, ap, ◌∙◌}
 use Rattle.spindle.proofs.Columns.{told, length-told, length-past}
 use Rattle.spindle.proofs.node.length_of.Goals as goal
 

@@ -1,5 +1,4 @@
 -- `node::name_of` meets its contract: an output by its place, a divisor by its number. Assumes nothing.
-use Rattle.std.proofs.Common.{rules}
 use Rattle.spindle.proofs.{Columns.name-output, Columns.name-divisor}
 use Rattle.spindle.proofs.node.name_of.Goals as goal
 

@@ -1,5 +1,5 @@
 -- `node::widened` meets its contract: the words of node i have none left over. Assumes nothing.
-use Rattle.std.proofs.Common.{◌∙◌, arith, rules}
+use Rattle.std.proofs.Common.{◌∙◌, arith}
 use Rattle.spindle.proofs.{Columns.length_whole}
 use Rattle.spindle.proofs.node.widened.Goals as goal
 

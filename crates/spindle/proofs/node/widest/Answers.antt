@@ -1,6 +1,5 @@
 -- The answers of `spindle::node::widest`.
-use Rattle.std.proofs.Common.{◌≡◌, ◌-◌, ◌≤◌, arith, rules}
-use Rattle.spindle.specs.Node.{widest_of}
+use Rattle.std.proofs.Common.{arith}
 use Rattle.spindle.proofs.Columns.{widest-none, widest-next, widest-whole}
 use Rattle.spindle.proofs.node.widest.Goals as goal
 

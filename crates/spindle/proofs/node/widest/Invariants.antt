@@ -1,7 +1,6 @@
 -- `node::widest` meets its contract: the greatest column so far is that of the nodes before. Assumes nothing.
-use Rattle.std.proofs.Common.{◌≡◌, ◌-◌, ◌≤◌, arith, rules}
+use Rattle.std.proofs.Common.{◌≡◌, ◌-◌, ◌≤◌}
 use Rattle.spindle.specs.Node.{widest_of}
-use Rattle.spindle.proofs.Columns.{widest-none, widest-next, widest-whole}
 use Rattle.spindle.proofs.node.widest.Given as goal
 
 abbrev pub invariant-loop-i : goal.invariant-loop-i

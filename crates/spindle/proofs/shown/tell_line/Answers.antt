@@ -1,5 +1,5 @@
 -- `shown::tell_line` is safe and ends: the part that is shown stands in the line, and begins no later than the caret. Assumes nothing.
-use Rattle.std.proofs.Common.{◌≤◌, length, arith, rules}
+use Rattle.std.proofs.Common.{◌≤◌, length, arith}
 use Rattle.spindle.specs.Shown.{Shows}
 use Rattle.spindle.proofs.{Windows.window-shows}
 use Rattle.spindle.proofs.shown.tell_line.Goals as goal

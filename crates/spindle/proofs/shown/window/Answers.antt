@@ -1,5 +1,5 @@
 -- `shown::window` meets its contract. Assumes nothing.
-use Rattle.std.proofs.Common.{arith, rules}
+use Rattle.std.proofs.Common.{arith}
 use Rattle.spindle.proofs.{Windows.window-is}
 use Rattle.spindle.proofs.shown.window.Goals as goal
 
