@@ -13,9 +13,12 @@ use drive_request::Hex;
 use expressions::Asked;
 use images::Form;
 use letters::Wrote;
-use libc::STDIN_FILENO;
 use network::Network;
+use std::io::{Read, Stdin, Stdout};
 use table::{Answer, Refusal};
+
+// Bytes read at a time, and bytes of an answer written at a time.
+const CHUNK: usize = 65536;
 
 // What has come of the present line: how much, and whether it is too long to be one.
 #[derive(Clone, Copy)]
@@ -27,19 +30,19 @@ struct Coming {
 // ---- operations on bytes
 
 // Refused by number, at a line and a column.
-fn put_refusal(out: &mut [u8], q: Refusal) -> usize {
-    let at = wire::put_told(out, wire::refused(q.number, q.line));
-    wire::put_number(out, at, q.column as u64)
+fn put_refusal(to: Stdout, out: &mut [u8], q: Refusal) -> usize {
+    let at = wire::put_told(to, out, wire::refused(q.number, q.line));
+    wire::put_number(to, out, at, q.column as u64)
 }
 
 // `table BYTES`
-fn on_table(text: &[u8], out: &mut [u8]) -> usize {
+fn on_table(text: &[u8], to: Stdout, out: &mut [u8]) -> usize {
     let t = table::read(text);
     let answer = t.answer;
     let network = t.network;
     match answer {
-        Answer::Read => nets::put_handed(out, wire::found(0), network),
-        Answer::Refused(q) => put_refusal(out, q),
+        Answer::Read => nets::put_handed(to, out, wire::found(0), network),
+        Answer::Refused(q) => put_refusal(to, out, q),
     }
 }
 
@@ -55,65 +58,62 @@ fn length(w: Wrote) -> usize {
 }
 
 // The front of a page as an answer.
-fn put_page(page: &[u8], k: usize, out: &mut [u8]) -> usize {
+fn put_page(page: &[u8], k: usize, to: Stdout, out: &mut [u8]) -> usize {
     if k > page.len() {
-        return wire::put_none(out);
+        return wire::put_none(to, out);
     }
-    let at = wire::put_text(out, 0, b"ok ;");
-    wire::put_bytes(out, at, &page[0..k])
+    let at = wire::put_text(to, out, 0, b"ok ;");
+    wire::put_bytes(to, out, at, &page[0..k])
 }
 
 // `report BYTES`
-fn on_report(text: &[u8], out: &mut [u8]) -> usize {
+fn on_report(text: &[u8], to: Stdout, out: &mut [u8]) -> usize {
     let mut page = [0u8; PAGE];
     let w = report::report(text, &mut page);
-    put_page(&page, length(w), out)
+    put_page(&page, length(w), to, out)
 }
 
-fn answer_bytes(name: &[u8], bytes: &[u8], out: &mut [u8]) -> usize {
-    if check::same(name, b"table") {
-        return on_table(bytes, out);
+fn answer_bytes(name: &[u8], bytes: &[u8], to: Stdout, out: &mut [u8]) -> usize {
+    match name {
+        b"table" => on_table(bytes, to, out),
+        b"read" => images::on_read(Form::Image, bytes, to, out),
+        b"read-blif" => images::on_read(Form::Blif, bytes, to, out),
+        b"report" => on_report(bytes, to, out),
+        _ => wire::put_none(to, out),
     }
-    if check::same(name, b"read") {
-        return images::on_read(Form::Image, bytes, out);
-    }
-    if check::same(name, b"read-blif") {
-        return images::on_read(Form::Blif, bytes, out);
-    }
-    if check::same(name, b"report") {
-        return on_report(bytes, out);
-    }
-    wire::put_none(out)
 }
 
-fn decode(name: &[u8], word: &[u8], out: &mut [u8]) -> usize {
+fn decode(name: &[u8], word: &[u8], to: Stdout, out: &mut [u8]) -> usize {
     let mut room = rooms::bytes();
     let n = rooms::read_bytes(word, &mut room);
     if n > rooms::MOST {
-        return wire::put_none(out);
+        return wire::put_none(to, out);
     }
-    answer_bytes(name, &room[0..n], out)
+    answer_bytes(name, &room[0..n], to, out)
 }
 
-fn on_bytes(line: &[u8], out: &mut [u8]) -> usize {
-    decode(drive_request::first(line), drive_request::rest(line), out)
+fn on_bytes(line: &[u8], to: Stdout, out: &mut [u8]) -> usize {
+    decode(
+        drive_request::first(line),
+        drive_request::rest(line),
+        to,
+        out,
+    )
 }
 
 // ---- operations on expressions
 
 fn asked_of(head: &[u8]) -> Asked {
-    if check::same(head, b"factored") {
-        return Asked::Factored;
+    match head {
+        b"factored" => Asked::Factored,
+        b"cokernels" => Asked::Cokernels,
+        _ => Asked::Nothing,
     }
-    if check::same(head, b"cokernels") {
-        return Asked::Cokernels;
-    }
-    Asked::Nothing
 }
 
-fn on_three(line: &[u8], out: &mut [u8]) -> usize {
+fn on_three(line: &[u8], to: Stdout, out: &mut [u8]) -> usize {
     let a = asked_of(drive_request::head(line));
-    expressions::on_expression(a, drive_request::tail(line), out)
+    expressions::on_expression(a, drive_request::tail(line), to, out)
 }
 
 // ---- operations on networks
@@ -127,42 +127,45 @@ enum Wanted {
     Nothing,
 }
 
+// What a name and a number ask.
+fn wanted_by(name: &[u8], v: u64) -> Wanted {
+    match name {
+        b"evaluate" => Wanted::Evaluation(v),
+        b"extract" => Wanted::Run(v),
+        _ => Wanted::Nothing,
+    }
+}
+
 fn wanted_of(head: &[u8]) -> Wanted {
-    if check::same(head, b"literals") {
+    if let b"literals" = head {
         return Wanted::Literals;
     }
     let Hex::Is(v) = drive_request::number(drive_request::rest(head)) else {
         return Wanted::Nothing;
     };
-    let name = drive_request::first(head);
-    if check::same(name, b"evaluate") {
-        return Wanted::Evaluation(v);
-    }
-    if check::same(name, b"extract") {
-        return Wanted::Run(v);
-    }
-    Wanted::Nothing
+    wanted_by(drive_request::first(head), v)
 }
 
-fn answer_net(w: Wanted, n: Network, out: &mut [u8]) -> usize {
+fn answer_net(w: Wanted, n: Network, to: Stdout, out: &mut [u8]) -> usize {
     match w {
-        Wanted::Literals => wire::put_told(out, nets::number_told(network_rules::literals(n))),
+        Wanted::Literals => wire::put_told(to, out, nets::number_told(network_rules::literals(n))),
         Wanted::Evaluation(v) => wire::put_told(
+            to,
             out,
             nets::number_told(network_evaluate::evaluate(n, v)),
         ),
-        Wanted::Run(v) => runs::on_extract(n, v, out),
-        Wanted::Nothing => wire::put_none(out),
+        Wanted::Run(v) => runs::on_extract(n, v, to, out),
+        Wanted::Nothing => wire::put_none(to, out),
     }
 }
 
-fn on_four(line: &[u8], out: &mut [u8]) -> usize {
+fn on_four(line: &[u8], to: Stdout, out: &mut [u8]) -> usize {
     let g = nets::read_net(drive_request::tail(line));
     if !g.ok {
-        return wire::put_none(out);
+        return wire::put_none(to, out);
     }
     let network = g.network;
-    answer_net(wanted_of(drive_request::head(line)), network, out)
+    answer_net(wanted_of(drive_request::head(line)), network, to, out)
 }
 
 // ---- operations of five groups
@@ -172,48 +175,49 @@ fn last(text: &[u8]) -> &[u8] {
     drive_request::tail(drive_request::tail(drive_request::tail(text)))
 }
 
-fn answer_write(f: Form, text: &[u8], out: &mut [u8]) -> usize {
+fn answer_write(f: Form, text: &[u8], to: Stdout, out: &mut [u8]) -> usize {
     let g = nets::read_net(text);
     if !g.ok {
-        return wire::put_none(out);
+        return wire::put_none(to, out);
     }
     let network = g.network;
-    images::on_write(f, network, last(text), out)
+    images::on_write(f, network, last(text), to, out)
 }
 
-fn answer_five(head: &[u8], text: &[u8], out: &mut [u8]) -> usize {
-    if check::same(head, b"divide") {
-        return expressions::on_expression(Asked::Division, text, out);
+fn answer_five(head: &[u8], text: &[u8], to: Stdout, out: &mut [u8]) -> usize {
+    match head {
+        b"divide" => expressions::on_expression(Asked::Division, text, to, out),
+        b"write" => answer_write(Form::Image, text, to, out),
+        b"write-blif" => answer_write(Form::Blif, text, to, out),
+        _ => wire::put_none(to, out),
     }
-    if check::same(head, b"write") {
-        return answer_write(Form::Image, text, out);
-    }
-    if check::same(head, b"write-blif") {
-        return answer_write(Form::Blif, text, out);
-    }
-    wire::put_none(out)
 }
 
-fn on_five(line: &[u8], out: &mut [u8]) -> usize {
-    answer_five(drive_request::head(line), drive_request::tail(line), out)
+fn on_five(line: &[u8], to: Stdout, out: &mut [u8]) -> usize {
+    answer_five(
+        drive_request::head(line),
+        drive_request::tail(line),
+        to,
+        out,
+    )
 }
 
 // The answer to a line, to the front of out; its length is returned.
-fn answer(line: &[u8], out: &mut [u8]) -> usize {
+fn answer(line: &[u8], to: Stdout, out: &mut [u8]) -> usize {
     let groups = drive_request::groups(line);
     if groups == 1 {
-        return on_bytes(line, out);
+        return on_bytes(line, to, out);
     }
     if groups == 3 {
-        return on_three(line, out);
+        return on_three(line, to, out);
     }
     if groups == 4 {
-        return on_four(line, out);
+        return on_four(line, to, out);
     }
     if groups == 5 {
-        return on_five(line, out);
+        return on_five(line, to, out);
     }
-    wire::put_none(out)
+    wire::put_none(to, out)
 }
 
 // The first n bytes.
@@ -224,17 +228,17 @@ fn front(line: &[u8], n: usize) -> &[u8] {
     line
 }
 
-fn reply(line: &[u8], c: Coming, out: &mut [u8]) -> usize {
+fn reply(line: &[u8], c: Coming, to: Stdout, out: &mut [u8]) -> usize {
     if c.long {
-        return wire::put_none(out);
+        return wire::put_none(to, out);
     }
-    answer(front(line, c.length), out)
+    answer(front(line, c.length), to, out)
 }
 
 // A line has ended: it is answered.
-fn respond(line: &[u8], c: Coming, out: &mut [u8]) {
-    let n = reply(line, c, out);
-    wire::end(out, n);
+fn respond(line: &[u8], c: Coming, to: Stdout, out: &mut [u8]) {
+    let n = reply(line, c, to, out);
+    wire::end(to, out, n);
 }
 
 fn store(line: &mut [u8], at: usize, b: u8) {
@@ -258,9 +262,9 @@ fn longer(c: Coming, room: usize) -> Coming {
 }
 
 // One byte more.
-fn take(b: u8, c: Coming, line: &mut [u8], out: &mut [u8]) -> Coming {
+fn take(b: u8, c: Coming, line: &mut [u8], to: Stdout, out: &mut [u8]) -> Coming {
     if b == 10 {
-        respond(line, c, out);
+        respond(line, c, to, out);
         return Coming {
             length: 0,
             long: false,
@@ -270,11 +274,11 @@ fn take(b: u8, c: Coming, line: &mut [u8], out: &mut [u8]) -> Coming {
     longer(c, line.len())
 }
 
-fn take_all(s: &[u8], c: Coming, line: &mut [u8], out: &mut [u8]) -> Coming {
+fn take_all(s: &[u8], c: Coming, line: &mut [u8], to: Stdout, out: &mut [u8]) -> Coming {
     let mut now = c;
     let mut i = 0;
     while i < s.len() {
-        now = take(s[i], now, line, out);
+        now = take(s[i], now, line, to, out);
         i += 1;
     }
     now
@@ -287,45 +291,44 @@ struct Pulled {
     more: bool,
 }
 
-// One read.
-fn pull(c: Coming, line: &mut [u8], out: &mut [u8]) -> Pulled {
-    let mut chunk = io::large_buffer();
-    let got = libc::read(STDIN_FILENO, &mut chunk);
-    if got <= 0 {
-        return Pulled {
+// One read. One that fails ends the input.
+fn pull(from: Stdin, to: Stdout, c: Coming, line: &mut [u8], out: &mut [u8]) -> Pulled {
+    let mut input = from;
+    let mut chunk = [0u8; CHUNK];
+    match input.read(&mut chunk) {
+        Ok(n) if n > 0 => Pulled {
+            coming: take_all(&chunk[..n], c, line, to, out),
+            more: true,
+        },
+        _ => Pulled {
             coming: c,
             more: false,
-        };
+        },
     }
-    let n = io::count(got, &chunk);
-    let coming = take_all(&chunk[..n], c, line, out);
-    Pulled { coming, more: true }
 }
 
-// All lines that end; what is left is returned. Nothing says that an input ends, so the turns are counted down from a number that
-// no run uses up.
-fn serve(line: &mut [u8], out: &mut [u8]) -> Coming {
+// All lines that end; what is left is returned. Nothing says that an input ends, so the turns are counted up to a number that no
+// run reaches.
+fn serve(from: Stdin, to: Stdout, line: &mut [u8], out: &mut [u8]) -> Coming {
     let mut c = Coming {
         length: 0,
         long: false,
     };
-    let mut turns = u64::MAX;
-    while turns > 0 {
-        let p = pull(c, line, out);
+    for _ in 0..u64::MAX {
+        let p = pull(from, to, c, line, out);
         c = p.coming;
         if !p.more {
-            return c;
+            break;
         }
-        turns -= 1;
     }
     c
 }
 
-fn main() {
+fn main(rt: HostRuntime) {
     let mut line = rooms::line();
-    let mut out = io::large_buffer();
-    let c = serve(&mut line, &mut out);
+    let mut out = [0u8; CHUNK];
+    let c = serve(rt.stdin(), rt.stdout(), &mut line, &mut out);
     if c.length > 0 {
-        respond(&line, c, &mut out);
+        respond(&line, c, rt.stdout(), &mut out);
     }
 }

@@ -6,6 +6,7 @@ ghost use Rattle.drive.specs.Wire.{number_told};
 use crate::wire::Told;
 use crate::{rooms, wire};
 use network::{Network, Number};
+use std::io::Stdout;
 use std::num;
 
 // ---- requests
@@ -56,45 +57,60 @@ pub fn read_net(text: &[u8]) -> Given
 // ---- answers
 
 fn put_counts(
+    to: Stdout,
     out: &mut [u8],
     n: usize,
     counts: [usize; network::NODE_SLOTS],
     nodes: usize,
 ) -> usize {
-    let mut at = wire::put_text(out, n, b" ;");
+    let mut at = wire::put_text(to, out, n, b" ;");
     let mut i = 0;
     while i < network::NODE_SLOTS {
         if i >= nodes {
             return at;
         }
-        at = wire::put_number(out, at, counts[i] as u64);
+        at = wire::put_number(to, out, at, counts[i] as u64);
         i += 1;
     }
     at
 }
 
-fn put_sizes(out: &mut [u8], n: usize, inputs: usize, outputs: usize, divisors: usize) -> usize {
+fn put_sizes(
+    to: Stdout,
+    out: &mut [u8],
+    n: usize,
+    inputs: usize,
+    outputs: usize,
+    divisors: usize,
+) -> usize {
     let sizes = [inputs as u64, outputs as u64, divisors as u64];
-    wire::put_group(out, n, &sizes)
+    wire::put_group(to, out, n, &sizes)
 }
 
 // The three groups of a network handed back.
-pub fn put_network(out: &mut [u8], n: usize, network: Network) -> usize {
+pub fn put_network(to: Stdout, out: &mut [u8], n: usize, network: Network) -> usize {
     let counts = network.counts;
     let words = network.words;
     let nodes = num::wrapping_add_usize(network.outputs, network.divisors);
-    let at = put_sizes(out, n, network.inputs, network.outputs, network.divisors);
-    let at = put_counts(out, at, counts, nodes);
-    wire::put_group(out, at, network_nodes::front(&words, &counts, nodes))
+    let at = put_sizes(
+        to,
+        out,
+        n,
+        network.inputs,
+        network.outputs,
+        network.divisors,
+    );
+    let at = put_counts(to, out, at, counts, nodes);
+    wire::put_group(to, out, at, network_nodes::front(&words, &counts, nodes))
 }
 
 // `ok` and the network, or what it was refused for.
-pub fn put_handed(out: &mut [u8], t: Told, network: Network) -> usize {
+pub fn put_handed(to: Stdout, out: &mut [u8], t: Told, network: Network) -> usize {
     if !t.ok {
-        return wire::put_told(out, t);
+        return wire::put_told(to, out, t);
     }
-    let at = wire::put_text(out, 0, b"ok");
-    put_network(out, at, network)
+    let at = wire::put_text(to, out, 0, b"ok");
+    put_network(to, out, at, network)
 }
 
 // What a number is told as.

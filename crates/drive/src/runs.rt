@@ -4,6 +4,7 @@ use cube::{Cube, Found, Literal};
 use extract::{Answer, Made, Steps, Stop};
 use extract_divisor::Divisor;
 use network::Network;
+use std::io::Stdout;
 
 // A number that no literal has.
 const NONE: u32 = cube::LITERALS;
@@ -77,39 +78,39 @@ fn said(d: Divisor, weight: u64, uses: u64) -> Shown {
 }
 
 // A part of one or two literals.
-fn put_literals(out: &mut [u8], n: usize, l: u32, next: u32) -> usize {
+fn put_literals(to: Stdout, out: &mut [u8], n: usize, l: u32, next: u32) -> usize {
     if l >= NONE {
         return n;
     }
-    let at = wire::put_number(out, n, l as u64);
+    let at = wire::put_number(to, out, n, l as u64);
     if next >= NONE {
         return at;
     }
-    let at = wire::put(out, at, b'.');
-    wire::put_hex(out, at, next as u64, 1)
+    let at = wire::put(to, out, at, b'.');
+    wire::put_hex(to, out, at, next as u64, 1)
 }
 
-fn put_kind(out: &mut [u8], n: usize, pair: bool) -> usize {
+fn put_kind(to: Stdout, out: &mut [u8], n: usize, pair: bool) -> usize {
     if pair {
-        return wire::put_text(out, n, b" ; pair");
+        return wire::put_text(to, out, n, b" ; pair");
     }
-    wire::put_text(out, n, b" ; sum")
+    wire::put_text(to, out, n, b" ; sum")
 }
 
-fn put_said(out: &mut [u8], n: usize, s: Shown) -> usize {
-    let at = put_kind(out, n, s.pair);
-    let at = put_literals(out, at, s.a, s.a_next);
-    let at = put_literals(out, at, s.b, s.b_next);
-    let at = wire::put_number(out, at, s.weight);
-    wire::put_number(out, at, s.uses)
+fn put_said(to: Stdout, out: &mut [u8], n: usize, s: Shown) -> usize {
+    let at = put_kind(to, out, n, s.pair);
+    let at = put_literals(to, out, at, s.a, s.a_next);
+    let at = put_literals(to, out, at, s.b, s.b_next);
+    let at = wire::put_number(to, out, at, s.weight);
+    wire::put_number(to, out, at, s.uses)
 }
 
-fn put_step(out: &mut [u8], n: usize, s: Made) -> usize {
+fn put_step(to: Stdout, out: &mut [u8], n: usize, s: Made) -> usize {
     let d = s.divisor;
-    put_said(out, n, said(d, above(s.weight), s.uses as u64))
+    put_said(to, out, n, said(d, above(s.weight), s.uses as u64))
 }
 
-fn put_steps(out: &mut [u8], n: usize, s: Steps) -> usize {
+fn put_steps(to: Stdout, out: &mut [u8], n: usize, s: Steps) -> usize {
     let count = s.count;
     let list = s.list;
     let mut at = n;
@@ -118,7 +119,7 @@ fn put_steps(out: &mut [u8], n: usize, s: Steps) -> usize {
         if i >= count {
             return at;
         }
-        at = put_step(out, at, list[i]);
+        at = put_step(to, out, at, list[i]);
         i += 1;
     }
     at
@@ -127,12 +128,12 @@ fn put_steps(out: &mut [u8], n: usize, s: Steps) -> usize {
 // Where a word stands among others.
 #[derive(Clone, Copy)]
 struct Between {
-    from: usize,
-    to: usize,
+    start: usize,
+    end: usize,
 }
 
-fn place(from: usize, to: usize) -> Between {
-    Between { from, to }
+fn place(start: usize, end: usize) -> Between {
+    Between { start, end }
 }
 
 fn word(s: Stop) -> Between {
@@ -144,42 +145,42 @@ fn word(s: Stop) -> Between {
     }
 }
 
-fn put_place(out: &mut [u8], n: usize, words: &[u8], p: Between) -> usize {
-    let from = p.from;
-    let to = p.to;
-    if to > words.len() {
+fn put_place(to: Stdout, out: &mut [u8], n: usize, words: &[u8], p: Between) -> usize {
+    let start = p.start;
+    let end = p.end;
+    if end > words.len() {
         return n;
     }
-    if from > to {
+    if start > end {
         return n;
     }
-    wire::put_text(out, n, &words[from..to])
+    wire::put_text(to, out, n, &words[start..end])
 }
 
 // `ok` and why the run stopped.
-fn put_stop(out: &mut [u8], s: Stop) -> usize {
-    let at = wire::put_text(out, 0, b"ok");
-    put_place(out, at, b" done asked numbers rows", word(s))
+fn put_stop(to: Stdout, out: &mut [u8], s: Stop) -> usize {
+    let at = wire::put_text(to, out, 0, b"ok");
+    put_place(to, out, at, b" done asked numbers rows", word(s))
 }
 
-fn put_run(out: &mut [u8], s: Stop, network: Network, made: Steps) -> usize {
-    let at = put_stop(out, s);
-    let at = nets::put_network(out, at, network);
-    put_steps(out, at, made)
+fn put_run(to: Stdout, out: &mut [u8], s: Stop, network: Network, made: Steps) -> usize {
+    let at = put_stop(to, out, s);
+    let at = nets::put_network(to, out, at, network);
+    put_steps(to, out, at, made)
 }
 
-fn put_ran(out: &mut [u8], a: Answer, network: Network, made: Steps) -> usize {
+fn put_ran(to: Stdout, out: &mut [u8], a: Answer, network: Network, made: Steps) -> usize {
     match a {
-        Answer::Stopped(s) => put_run(out, s, network, made),
-        Answer::Refused(k) => wire::put_told(out, wire::refused(k, 0)),
+        Answer::Stopped(s) => put_run(to, out, s, network, made),
+        Answer::Refused(k) => wire::put_told(to, out, wire::refused(k, 0)),
     }
 }
 
 // `extract STEPS ; NET`
-pub fn on_extract(n: Network, steps: u64, out: &mut [u8]) -> usize {
+pub fn on_extract(n: Network, steps: u64, to: Stdout, out: &mut [u8]) -> usize {
     let r = extract::run(n, steps);
     let answer = r.answer;
     let network = r.network;
     let made = r.steps;
-    put_ran(out, answer, network, made)
+    put_ran(to, out, answer, network, made)
 }

@@ -3,15 +3,20 @@ ghost use Rattle.std.specs.Prelude.{◌≡◌};
 ghost use Rattle.drive.specs.Wire.{found_of, refused_of, wrote_of};
 
 use letters::Wrote;
-use libc::STDOUT_FILENO;
+use std::io::Stdout;
+
+// Bytes to standard output. Where they cannot be written nothing is said of it.
+fn write(to: Stdout, bytes: &[u8]) {
+    let _ = to.write_all(bytes);
+}
 
 // One byte after n others. A room that is full is written out first, so that an answer may have any length.
-pub fn put(out: &mut [u8], n: usize, b: u8) -> usize {
+pub fn put(to: Stdout, out: &mut [u8], n: usize, b: u8) -> usize {
     if n < out.len() {
         out[n] = b;
         return n + 1;
     }
-    io::write_all(STDOUT_FILENO, out);
+    write(to, out);
     if out.len() > 0 {
         out[0] = b;
         return 1;
@@ -20,41 +25,41 @@ pub fn put(out: &mut [u8], n: usize, b: u8) -> usize {
 }
 
 // The line ends, and is written out.
-pub fn end(out: &mut [u8], n: usize) {
-    let k = put(out, n, b'\n');
+pub fn end(to: Stdout, out: &mut [u8], n: usize) {
+    let k = put(to, out, n, b'\n');
     if k <= out.len() {
-        io::write_all(STDOUT_FILENO, &out[0..k]);
+        write(to, &out[0..k]);
     }
 }
 
-pub fn put_text(out: &mut [u8], n: usize, s: &[u8]) -> usize {
+pub fn put_text(to: Stdout, out: &mut [u8], n: usize, s: &[u8]) -> usize {
     let mut at = n;
     let mut i = 0;
     while i < s.len() {
-        at = put(out, at, s[i]);
+        at = put(to, out, at, s[i]);
         i += 1;
     }
     at
 }
 
 // The number in hex, of so many digits at least.
-pub fn put_hex(out: &mut [u8], n: usize, x: u64, digits: usize) -> usize {
+pub fn put_hex(to: Stdout, out: &mut [u8], n: usize, x: u64, digits: usize) -> usize {
     let mut room = [0u8; 16];
     let k = io::hex(x, digits, &mut room);
-    put_text(out, n, &room[..k])
+    put_text(to, out, n, &room[..k])
 }
 
 // A blank and the number.
-pub fn put_number(out: &mut [u8], n: usize, x: u64) -> usize {
-    let at = put(out, n, b' ');
-    put_hex(out, at, x, 1)
+pub fn put_number(to: Stdout, out: &mut [u8], n: usize, x: u64) -> usize {
+    let at = put(to, out, n, b' ');
+    put_hex(to, out, at, x, 1)
 }
 
-fn put_numbers(out: &mut [u8], n: usize, s: &[u64]) -> usize {
+fn put_numbers(to: Stdout, out: &mut [u8], n: usize, s: &[u64]) -> usize {
     let mut at = n;
     let mut i = 0;
     while i < s.len() {
-        at = put_number(out, at, s[i]);
+        at = put_number(to, out, at, s[i]);
         i += 1;
     }
     at
@@ -64,33 +69,33 @@ fn wide(b: u8) -> u64 {
     b as u64
 }
 
-fn put_pairs(out: &mut [u8], n: usize, s: &[u8]) -> usize {
+fn put_pairs(to: Stdout, out: &mut [u8], n: usize, s: &[u8]) -> usize {
     let mut at = n;
     let mut i = 0;
     while i < s.len() {
-        at = put_hex(out, at, wide(s[i]), 2);
+        at = put_hex(to, out, at, wide(s[i]), 2);
         i += 1;
     }
     at
 }
 
 // A blank and the bytes, or `-` for none.
-pub fn put_bytes(out: &mut [u8], n: usize, s: &[u8]) -> usize {
-    let at = put(out, n, b' ');
+pub fn put_bytes(to: Stdout, out: &mut [u8], n: usize, s: &[u8]) -> usize {
+    let at = put(to, out, n, b' ');
     if s.len() == 0 {
-        return put(out, at, b'-');
+        return put(to, out, at, b'-');
     }
-    put_pairs(out, at, s)
+    put_pairs(to, out, at, s)
 }
 
 // One group more: its numbers.
-pub fn put_group(out: &mut [u8], n: usize, s: &[u64]) -> usize {
-    let at = put_text(out, n, b" ;");
-    put_numbers(out, at, s)
+pub fn put_group(to: Stdout, out: &mut [u8], n: usize, s: &[u64]) -> usize {
+    let at = put_text(to, out, n, b" ;");
+    put_numbers(to, out, at, s)
 }
 
-pub fn put_none(out: &mut [u8]) -> usize {
-    put_text(out, 0, b"no request")
+pub fn put_none(to: Stdout, out: &mut [u8]) -> usize {
+    put_text(to, out, 0, b"no request")
 }
 
 // ---- what came of a request
@@ -137,25 +142,25 @@ pub fn wrote(a: Wrote) -> Told
     }
 }
 
-fn put_verdict(out: &mut [u8], ok: bool) -> usize {
+fn put_verdict(to: Stdout, out: &mut [u8], ok: bool) -> usize {
     if ok {
-        return put_text(out, 0, b"ok");
+        return put_text(to, out, 0, b"ok");
     }
-    put_text(out, 0, b"refused")
+    put_text(to, out, 0, b"refused")
 }
 
-pub fn put_told(out: &mut [u8], t: Told) -> usize {
-    let at = put_verdict(out, t.ok);
-    let at = put_number(out, at, t.first);
+pub fn put_told(to: Stdout, out: &mut [u8], t: Told) -> usize {
+    let at = put_verdict(to, out, t.ok);
+    let at = put_number(to, out, at, t.first);
     if t.two {
-        return put_number(out, at, t.second);
+        return put_number(to, out, at, t.second);
     }
     at
 }
 
 // The same, and a lent room of bytes as it was left.
-pub fn put_left(out: &mut [u8], t: Told, room: &[u8]) -> usize {
-    let at = put_told(out, t);
-    let at = put_text(out, at, b" ;");
-    put_bytes(out, at, room)
+pub fn put_left(to: Stdout, out: &mut [u8], t: Told, room: &[u8]) -> usize {
+    let at = put_told(to, out, t);
+    let at = put_text(to, out, at, b" ;");
+    put_bytes(to, out, at, room)
 }

@@ -8,19 +8,32 @@ use native.Mathlib.Omega.{arith}
 use lib.Dec.{eqb, ltb}
 use lib.ListN.{length, get_or, take, drop, length-drop, drop_of_length-le}
 use lib.Seq.{drop-drop, length-take-le, take-nil, drop-length}
-use borrow.Author.Tests.{ltb-true, ltb-false}
-use Rattle.bytes.specs.Bytes.{index_of, index_after}
-use Rattle.sets.{specs.Lists.is_nil, proofs.Truth.decided}
-use Rattle.drive_request.specs.Words.{onto, words_of, is_part, ahead, ends_blank, filled, parts_in, groups_of}
+use borrow.Author.Tests.{ltb-true, ltb-false, eq-eqb, ne_eqb}
+use Rattle.sets.{specs.Lists.is_nil, proofs.Truth.decided, proofs.Places.drop-next}
+use Rattle.drive_request.specs.Words.{index_of, index_after, onto, words_of, is_part, ahead, ends_blank, filled, parts_in, groups_of}
 
 pub index-le : (b : ℕ) (t : List ℕ) → index_of b t ≤ length t
-unfolding index_of index_after
+unfolding index_of
 index-le b [] = omega arith
 index-le b (x ∷ t) = elim (eqb x b) as (λ e. index_after e (index_of b t) ≤ suc (length t))
     [ true ↦ omega arith | false ↦ omega (arith, index-le b t) ]
 
+-- where the byte stands, one place further on, and past the end
+module _ (b : ℕ) (t : List ℕ) (i : ℕ) where
+  pub index-stop : i < length t → get_or t i 0 ≡ b → index_of b (drop i t) ≡ 0
+  unfolding index_of
+  index-stop h e = rw (drop-next t i 0 h, eq-eqb (get_or t i 0) b e)
+
+  pub index_on : i < length t → (get_or t i 0 ≡ b → ⊥) → index_of b (drop i t) ≡ suc (index_of b (drop (i + 1) t))
+  unfolding index_of
+  index_on h e = rw (drop-next t i 0 h, ne_eqb (get_or t i 0) b e)
+
+  pub index-done : length t ≤ i → index_of b (drop i t) ≡ 0
+  unfolding index_of
+  index-done h = rw (drop_of_length-le t h)
+
 words-first : (t : List ℕ) → 1 ≤ length t → words_of t ≡ take (index_of 32 t) t ∷ words_of (drop (suc (index_of 32 t)) t)
-unfolding words_of index_of index_after
+unfolding words_of index_of
 words-first [] h = absurd (omega arith)
 words-first (b ∷ []) h = elim (eqb b 32)
     as (λ e. cond e ([] ∷ []) ((b ∷ []) ∷ []) ≡ take (index_after e 0) (b ∷ []) ∷ words_of (drop (suc (index_after e 0)) (b ∷ [])))

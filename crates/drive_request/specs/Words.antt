@@ -1,7 +1,16 @@
 -- A line as words, one blank apart, and as groups of words, parted by a lone `;`.
-use Rattle.std.specs.Prelude.{ℕ, ◌+◌, ◌-◌, Bool, false, cond, not, ◌&&◌, List, [], ◌∷◌, eqb, length, get_or, take, drop}
-use Rattle.bytes.specs.Bytes.{index_of}
+use Rattle.std.specs.Prelude.{ℕ, ◌+◌, ◌-◌, Bool, true, false, cond, not, ◌&&◌, List, [], ◌∷◌, suc, eqb, length, get_or, take, drop}
 use Rattle.sets.specs.Lists.{all, total, is_nil}
+
+-- a byte further on, unless it stands right here
+abbrev pub index_after : Bool → ℕ → ℕ
+index_after true k = 0
+index_after false k = suc k
+
+-- where a byte first stands; the length where it does not
+unfoldable pub index_of : ℕ → List ℕ → ℕ
+index_of b [] = 0
+index_of b (x ∷ t) = index_after (eqb x b) (index_of b t)
 
 -- a byte more at the front of the first word
 abbrev pub onto : ℕ → List (List ℕ) → List (List ℕ)

@@ -2,12 +2,9 @@
 #![tactic(auto)]
 
 ghost use Rattle.std.specs.Prelude.{◌≡◌, ◌+◌, ◌-◌, ◌≤◌, length, drop};
-ghost use Rattle.bytes.specs.Bytes.{index_of};
-ghost use Rattle.drive_request.specs.Words.{words_of, first_word, after_word, is_part, ahead, first_group, after_group, ends_blank, groups_of};
+ghost use Rattle.drive_request.specs.Words.{index_of, words_of, first_word, after_word, is_part, ahead, first_group, after_group, ends_blank, groups_of};
 ghost use Rattle.drive_request.specs.Numbers.{digit_of, well_led, number_of, number_in, numbers_of, pairs_of, bytes_of};
 ghost use Rattle.drive_request.specs.Reading.{Stored};
-
-use bytes::scan;
 
 // The most digits of a number.
 const DIGITS: usize = 16;
@@ -33,7 +30,14 @@ fn word_end(text: &[u8], at: usize) -> usize
     requires { at ≤ length text.now }
     ensures { (result ≡ at + index_of 32 (drop at text.now)) × (result ≤ length text.now) }
 {
-    scan::find(text, at, text.len(), b' ')
+    let mut e = at;
+    while e < text.len() {
+        if text[e] == b' ' {
+            return e;
+        }
+        e += 1;
+    }
+    e
 }
 
 // What stands from a place on.

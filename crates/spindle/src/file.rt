@@ -1,15 +1,19 @@
 // Files: read whole, and replaced whole.
 ghost use Rattle.std.specs.Prelude.{◌≤◌, length};
-ghost use Rattle.libc.specs.Io.{Ended};
 
 use crate::line::{complain, fail};
-use libc::{PATH_MAX, SEEK_END};
+use std::fs;
+use std::fs::{File, OpenOptions};
+use std::io::{Error, ErrorKind, Read, Result, Write};
 
-// The last byte of a path as C takes it: a zero.
-const LAST: usize = PATH_MAX - 1;
+// The most bytes of a path, and a zero after it.
+pub const PATH_MAX: usize = 4096;
 
 // Room for a path and `.new`.
 const NEW_PATH: usize = PATH_MAX + 4;
+
+// The system's number of a byte that is no text.
+const EILSEQ: i32 = 84;
 
 // ---- reading
 
@@ -20,156 +24,230 @@ pub struct Got {
     pub count: usize,
 }
 
+// Reads until the room is full, the input ends or a read fails; how many bytes came.
+fn read_full<R: Read>(input: &mut R, room: &mut [u8]) -> usize
+    ensures { result ≤ length room.old }
+{
+    let mut done = 0;
+    while done < room.len() {
+        match input.read(&mut room[done..]) {
+            Ok(n) if n > 0 => done += n,
+            _ => return done,
+        }
+    }
+    done
+}
+
 // A short count is the end of the file only where one more read says so.
-fn is_ended(fd: i32, path: &[u8]) -> bool {
+fn is_ended<R: Read>(rt: HostRuntime, input: &mut R, path: &[u8]) -> bool {
     let mut one = [0u8; 1];
-    let more = libc::read(fd, &mut one);
-    if more < 0 {
-        fail(path);
-        return false;
+    match input.read(&mut one) {
+        Ok(0) => true,
+        Ok(_) => {
+            complain(rt.stderr(), path, b": more came after its end");
+            false
+        }
+        Err(e) => {
+            fail(rt.stderr(), path, e);
+            false
+        }
     }
-    if more > 0 {
-        complain(path, b": more came after its end");
-        return false;
-    }
-    true
 }
 
 // What is left of an open file to the front of the room, as much as it has places for.
-pub fn fill(fd: i32, path: &[u8], room: &mut [u8]) -> Got
+pub fn fill<R: Read>(rt: HostRuntime, input: &mut R, path: &[u8], room: &mut [u8]) -> Got
     ensures { result.count ≤ length room.old }
 {
-    let count = io::read_full(fd, room);
+    let count = read_full(input, room);
     if count == room.len() {
         return Got { ok: true, count };
     }
-    let ok = is_ended(fd, path);
+    let ok = is_ended(rt, input, path);
     Got { ok, count }
 }
 
-// The file, open for reading. A failure is said, and is a number below 0.
-pub fn open(path: &[u8]) -> i32 {
-    let fd = os::open_read(path);
-    if fd < 0 {
-        fail(path);
+// The path as std takes it: text.
+fn text_of(path: &[u8]) -> Result<&str> {
+    match str::from_utf8(path) {
+        Ok(text) => Ok(text),
+        Err(_) => Err(Error::from_raw_os_error(EILSEQ)),
     }
-    fd
+}
+
+fn open_by(rt: HostRuntime, path: &[u8], how: OpenOptions) -> Result<File> {
+    match text_of(path) {
+        Ok(text) => how.open(&rt, text),
+        Err(e) => Err(e),
+    }
+}
+
+fn open_read(rt: HostRuntime, path: &[u8]) -> Result<File> {
+    let mut how = File::options();
+    how.read(true);
+    open_by(rt, path, how)
+}
+
+// The file, open for reading. A failure is said.
+pub fn open(rt: HostRuntime, path: &[u8]) -> Option<File> {
+    match open_read(rt, path) {
+        Ok(f) => Some(f),
+        Err(e) => {
+            fail(rt.stderr(), path, e);
+            None
+        }
+    }
 }
 
 // ---- what stands at a path
 
-// The path as C takes it.
-fn ended(path: &[u8]) -> [u8; PATH_MAX]
-    ensures { Ended result }
-{
-    let mut name = io::buffer();
-    letters::put_bytes(&mut name, 0, path);
-    name[LAST] = 0;
-    name
+fn is_link(rt: HostRuntime, path: &[u8]) -> bool {
+    let Ok(text) = text_of(path) else {
+        return false;
+    };
+    match fs::symlink_metadata(&rt, text) {
+        Ok(m) => m.is_symlink(),
+        Err(_) => false,
+    }
 }
 
-fn is_link(path: &[u8]) -> bool {
-    let name = ended(path);
-    let mut text = [0u8; 1];
-    libc::readlink(&name, &mut text) >= 0
-}
-
-// Only a regular file can be cut to a length, here to its own.
-fn is_regular(fd: i32) -> bool {
-    let length = libc::lseek(fd, 0, SEEK_END);
-    libc::ftruncate(fd, length) == 0
+// Only a regular file is replaced.
+fn is_regular(f: &File) -> bool {
+    match f.metadata() {
+        Ok(m) => m.is_file(),
+        Err(_) => false,
+    }
 }
 
 // Whether the open file, which is closed, is regular; if it is not, that is said.
-fn is_file(fd: i32, path: &[u8]) -> bool {
-    let regular = is_regular(fd);
-    libc::close(fd);
+fn is_file(rt: HostRuntime, f: File, path: &[u8]) -> bool {
+    let regular = is_regular(&f);
     if !regular {
-        complain(path, b": is no regular file, and is left as it is");
+        complain(
+            rt.stderr(),
+            path,
+            b": is no regular file, and is left as it is",
+        );
     }
     regular
 }
 
+fn open_update(rt: HostRuntime, path: &[u8]) -> Result<File> {
+    let mut how = File::options();
+    how.read(true).write(true);
+    open_by(rt, path, how)
+}
+
+// Whether nothing stands there.
+fn is_missing(e: Error) -> bool {
+    match e.kind() {
+        ErrorKind::NotFound => true,
+        _ => false,
+    }
+}
+
 // Whether nothing stands there, or a regular file that may be written; if not, that is said.
-fn is_free(path: &[u8]) -> bool {
-    if is_link(path) {
-        complain(path, b": is a link; name the file that it leads to");
+fn is_free(rt: HostRuntime, path: &[u8]) -> bool {
+    if is_link(rt, path) {
+        complain(
+            rt.stderr(),
+            path,
+            b": is a link; name the file that it leads to",
+        );
         return false;
     }
-    let fd = os::open_update(path);
-    if fd >= 0 {
-        return is_file(fd, path);
+    match open_update(rt, path) {
+        Ok(f) => is_file(rt, f, path),
+        Err(e) => {
+            if is_missing(e) {
+                return true;
+            }
+            fail(rt.stderr(), path, e);
+            false
+        }
     }
-    if os::errno() == libc::ENOENT {
-        return true;
-    }
-    fail(path);
-    false
 }
 
 // ---- writing
 
 // All bytes to the open file, which is closed.
-fn store(fd: i32, new: &[u8], bytes: &[u8]) -> bool {
-    if !io::write_all(fd, bytes) {
-        fail(new);
-        libc::close(fd);
+fn store(rt: HostRuntime, f: File, new: &[u8], bytes: &[u8]) -> bool {
+    let mut file = f;
+    if let Err(e) = file.write_all(bytes) {
+        fail(rt.stderr(), new, e);
         return false;
     }
-    if libc::fsync(fd) < 0 {
-        fail(new);
-        libc::close(fd);
-        return false;
-    }
-    if libc::close(fd) < 0 {
-        fail(new);
+    if let Err(e) = file.sync_all() {
+        fail(rt.stderr(), new, e);
         return false;
     }
     true
 }
 
 // The new file could not be made: why, and what to do where one is there.
-fn fail_new(new: &[u8]) {
-    if os::errno() == libc::EEXIST {
-        complain(
+fn fail_new(rt: HostRuntime, new: &[u8], e: Error) {
+    match e.kind() {
+        ErrorKind::AlreadyExists => complain(
+            rt.stderr(),
             new,
             b": is there, left by a run that was cut short: remove it, and try again",
-        );
-        return;
+        ),
+        _ => fail(rt.stderr(), new, e),
     }
-    fail(new);
+}
+
+fn create(rt: HostRuntime, path: &[u8]) -> Result<File> {
+    let mut how = File::options();
+    how.write(true).create_new(true);
+    open_by(rt, path, how)
+}
+
+// What cannot be removed is left.
+fn remove(rt: HostRuntime, path: &[u8]) {
+    if let Ok(text) = text_of(path) {
+        let _ = fs::remove_file(&rt, text);
+    }
+}
+
+fn rename(rt: HostRuntime, from: &[u8], to: &[u8]) -> Result<()> {
+    match (text_of(from), text_of(to)) {
+        (Ok(a), Ok(b)) => fs::rename(&rt, a, b),
+        (Err(e), _) => Err(e),
+        (_, Err(e)) => Err(e),
+    }
 }
 
 // The new file is made by this run alone, so it may be removed again.
-fn replace_by(new: &[u8], path: &[u8], bytes: &[u8]) -> bool {
-    let fd = os::create(new);
-    if fd < 0 {
-        fail_new(new);
+fn replace_by(rt: HostRuntime, new: &[u8], path: &[u8], bytes: &[u8]) -> bool {
+    let f = match create(rt, new) {
+        Ok(f) => f,
+        Err(e) => {
+            fail_new(rt, new, e);
+            return false;
+        }
+    };
+    if !store(rt, f, new, bytes) {
+        remove(rt, new);
         return false;
     }
-    if !store(fd, new, bytes) {
-        os::unlink(new);
-        return false;
-    }
-    if os::rename(new, path) < 0 {
-        fail(path);
-        os::unlink(new);
+    if let Err(e) = rename(rt, new, path) {
+        fail(rt.stderr(), path, e);
+        remove(rt, new);
         return false;
     }
     true
 }
 
 // The bytes become the file, whole; on a failure, which is said, the file is as it was.
-pub fn replace(path: &[u8], bytes: &[u8]) -> bool {
+pub fn replace(rt: HostRuntime, path: &[u8], bytes: &[u8]) -> bool {
     let mut new = [0u8; NEW_PATH];
     let at = letters::put_bytes(&mut new, 0, path);
     let n = letters::put_bytes(&mut new, at, b".new");
     if n > NEW_PATH {
-        complain(path, b": the name is too long");
+        complain(rt.stderr(), path, b": the name is too long");
         return false;
     }
-    if is_free(path) {
-        return replace_by(&new[0..n], path, bytes);
+    if is_free(rt, path) {
+        return replace_by(rt, &new[0..n], path, bytes);
     }
     false
 }

@@ -13,9 +13,13 @@ mod node;
 mod show;
 mod shown;
 
+use file::PATH_MAX;
 use letters::Wrote;
-use libc::{STDERR_FILENO, STDIN_FILENO, STDOUT_FILENO};
 use network::{Handed, Network};
+use std::env::FillError;
+use std::io;
+use std::io::Read;
+use std::rt::Env;
 
 // Room for any file: a byte more than the longest image whose fields are each in range, and than any table. A BLIF text has no
 // longest length: one that fills it is not read.
@@ -26,6 +30,14 @@ const SHORT: usize = table::MOST_BYTES + 1;
 
 // Room for the BLIF text of any network: 1,088 rows of 64 signs, 96 lines of 65 names, and the lines before them.
 const BLIF_ROOM: usize = 131072;
+
+// The most words of a command and one more, the program's own name among them.
+const MOST_WORDS: usize = 5;
+
+// The system's numbers of a word that is too long, and of one that is not there.
+const ENAMETOOLONG: i32 = 36;
+
+const EINVAL: i32 = 22;
 
 // What is asked: a table alone asks for its report.
 #[derive(Clone, Copy)]
@@ -65,23 +77,23 @@ fn without() -> Loaded {
 }
 
 // A refusal, printed.
-fn refused(number: u32) -> Loaded {
-    line::refuse(number, 0);
+fn refused(rt: HostRuntime, number: u32) -> Loaded {
+    line::refuse(rt.stdout(), number, 0);
     without()
 }
 
 // ---- reports
 
-fn print_front(page: &[u8], n: usize) {
-    line::put_front(0, page, n);
+fn print_front(rt: HostRuntime, page: &[u8], n: usize) {
+    line::put_front(rt.stdout(), 0, page, n);
 }
 
 // The table is read again, for its refusal.
-fn explain(path: &[u8], text: &[u8]) {
+fn explain(rt: HostRuntime, path: &[u8], text: &[u8]) {
     let t = table::read(text);
     let answer = t.answer;
     if let table::Answer::Refused(q) = answer {
-        fault::explain(path, text, q.number, q.line, q.column);
+        fault::explain(rt.stderr(), path, text, q.number, q.line, q.column);
     }
 }
 
@@ -93,47 +105,47 @@ fn is_refusal(page: &[u8]) -> bool {
     page[0] == b'r'
 }
 
-fn print_page(path: &[u8], text: &[u8], page: &[u8], n: usize) {
-    print_front(page, n);
+fn print_page(rt: HostRuntime, path: &[u8], text: &[u8], page: &[u8], n: usize) {
+    print_front(rt, page, n);
     if is_refusal(page) {
-        explain(path, text);
+        explain(rt, path, text);
     }
 }
 
-fn print_report(path: &[u8], text: &[u8]) {
+fn print_report(rt: HostRuntime, path: &[u8], text: &[u8]) {
     let mut room = [0u8; 16384];
     let a = report::report(text, &mut room);
     match a {
-        Wrote::Bytes(n) => print_page(path, text, &room, n),
-        Wrote::Refused(k) => line::refuse_table(k, 0, 0),
+        Wrote::Bytes(n) => print_page(rt, path, text, &room, n),
+        Wrote::Refused(k) => line::refuse_table(rt.stdout(), k, 0, 0),
     }
 }
 
 // ---- networks
 
 // The network of a table after its steps; the report of a refused one is its refusal.
-fn extracted(path: &[u8], text: &[u8]) -> Loaded {
+fn extracted(rt: HostRuntime, path: &[u8], text: &[u8]) -> Loaded {
     let t = table::read(text);
     let answer = t.answer;
     if let table::Answer::Refused(_) = answer {
-        print_report(path, text);
+        print_report(rt, path, text);
         return without();
     }
     let read = t.network;
     let r = extract::run(read, report::ASKED);
     let stop = r.answer;
     if let extract::Answer::Refused(k) = stop {
-        return refused(k);
+        return refused(rt, k);
     }
     let network = r.network;
     with(network)
 }
 
 // The network that was read; a refusal is printed.
-fn handed(h: Handed) -> Loaded {
+fn handed(rt: HostRuntime, h: Handed) -> Loaded {
     let answer = h.answer;
     if let expression::Verdict::Refused(k) = answer {
-        return refused(k);
+        return refused(rt, k);
     }
     let network = h.network;
     with(network)
@@ -142,47 +154,52 @@ fn handed(h: Handed) -> Loaded {
 // ---- images and BLIF texts
 
 // `orchards.image: 164 bytes, 80 literals`
-fn print_written(path: &[u8], bytes: usize, literals: u64) {
-    line::put_labelled(line::put(0, path), b": ", bytes as u64);
-    line::put_labelled(0, b" bytes, ", literals);
-    line::print(b" literals");
+fn print_written(rt: HostRuntime, path: &[u8], bytes: usize, literals: u64) {
+    line::put_labelled(
+        rt.stdout(),
+        line::put(rt.stdout(), 0, path),
+        b": ",
+        bytes as u64,
+    );
+    line::put_labelled(rt.stdout(), 0, b" bytes, ", literals);
+    line::print(rt.stdout(), b" literals");
 }
 
-fn store_front(bytes: &[u8], k: usize, path: &[u8], literals: u64) {
+fn store_front(rt: HostRuntime, bytes: &[u8], k: usize, path: &[u8], literals: u64) {
     if k > bytes.len() {
         return;
     }
-    if file::replace(path, &bytes[0..k]) {
-        print_written(path, k, literals);
+    if file::replace(rt, path, &bytes[0..k]) {
+        print_written(rt, path, k, literals);
     }
 }
 
 // What was written goes to a file.
-fn store(a: Wrote, bytes: &[u8], path: &[u8], literals: u64) {
+fn store(rt: HostRuntime, a: Wrote, bytes: &[u8], path: &[u8], literals: u64) {
     match a {
-        Wrote::Bytes(k) => store_front(bytes, k, path, literals),
-        Wrote::Refused(k) => line::refuse(k, 0),
+        Wrote::Bytes(k) => store_front(rt, bytes, k, path, literals),
+        Wrote::Refused(k) => line::refuse(rt.stdout(), k, 0),
     }
 }
 
-fn write_image(n: Network, path: &[u8]) {
+fn write_image(rt: HostRuntime, n: Network, path: &[u8]) {
     let mut bytes = [0u8; 32768];
     let a = image_write::write(n, &mut bytes);
-    store(a, &bytes, path, form::literals(n));
+    store(rt, a, &bytes, path, form::literals(n));
 }
 
-fn write_blif(n: Network, path: &[u8]) {
+fn write_blif(rt: HostRuntime, n: Network, path: &[u8]) {
     let mut text = [0u8; BLIF_ROOM];
     let a = blif_write::write(n, &mut text);
-    store(a, &text, path, form::literals(n));
+    store(rt, a, &text, path, form::literals(n));
 }
 
-fn print_blif(n: Network) {
+fn print_blif(rt: HostRuntime, n: Network) {
     let mut text = [0u8; BLIF_ROOM];
     let a = blif_write::write(n, &mut text);
     match a {
-        Wrote::Bytes(k) => print_front(&text, k),
-        Wrote::Refused(k) => line::refuse(k, 0),
+        Wrote::Bytes(k) => print_front(rt, &text, k),
+        Wrote::Refused(k) => line::refuse(rt.stdout(), k, 0),
     }
 }
 
@@ -228,23 +245,23 @@ fn kind_for(c: Command, k: Kind) -> Kind {
 }
 
 // The word is the path of a file to write, or a setting; the text of a table may name its inputs.
-fn on_network(c: Command, n: Network, word: &[u8], text: &[u8]) {
+fn on_network(rt: HostRuntime, c: Command, n: Network, word: &[u8], text: &[u8]) {
     match c {
-        Command::Image => write_image(n, word),
-        Command::Blif => print_blif(n),
-        Command::BlifTo => write_blif(n, word),
-        Command::Show => show::show(n),
-        Command::Ask => show::ask(n, word),
-        Command::Map => map::map(n, text),
+        Command::Image => write_image(rt, n, word),
+        Command::Blif => print_blif(rt, n),
+        Command::BlifTo => write_blif(rt, n, word),
+        Command::Show => show::show(rt.stdout(), n),
+        Command::Ask => show::ask(rt, n, word),
+        Command::Map => map::map(rt.stdout(), n, text),
         Command::Report => {}
         Command::Other => {}
     }
 }
 
-fn on_loaded(c: Command, l: Loaded, word: &[u8], text: &[u8]) {
+fn on_loaded(rt: HostRuntime, c: Command, l: Loaded, word: &[u8], text: &[u8]) {
     if l.ok {
         let network = l.network;
-        on_network(c, network, word, text);
+        on_network(rt, c, network, word, text);
     }
 }
 
@@ -257,10 +274,11 @@ fn takes_both(c: Command) -> bool {
 }
 
 // The network of an image; where the file might have been meant as a table, a refusal says what it was taken for.
-fn imaged(c: Command, path: &[u8], bytes: &[u8]) -> Loaded {
-    let l = handed(image_read::read(bytes));
+fn imaged(rt: HostRuntime, c: Command, path: &[u8], bytes: &[u8]) -> Loaded {
+    let l = handed(rt, image_read::read(bytes));
     if !l.ok && takes_both(c) {
         line::complain(
+            rt.stderr(),
             path,
             b": taken for an image; a table begins with a point, a blank, an empty line, or # for a comment",
         );
@@ -268,11 +286,11 @@ fn imaged(c: Command, path: &[u8], bytes: &[u8]) -> Loaded {
     l
 }
 
-fn on_kind(c: Command, k: Kind, bytes: &[u8], path: &[u8], word: &[u8]) {
+fn on_kind(rt: HostRuntime, c: Command, k: Kind, bytes: &[u8], path: &[u8], word: &[u8]) {
     match k {
-        Kind::Table => on_loaded(c, extracted(path, bytes), word, bytes),
-        Kind::Image => on_loaded(c, imaged(c, path, bytes), word, b""),
-        Kind::Blif => on_loaded(c, handed(blif_read::read(bytes)), word, b""),
+        Kind::Table => on_loaded(rt, c, extracted(rt, path, bytes), word, bytes),
+        Kind::Image => on_loaded(rt, c, imaged(rt, c, path, bytes), word, b""),
+        Kind::Blif => on_loaded(rt, c, handed(rt, blif_read::read(bytes)), word, b""),
     }
 }
 
@@ -284,102 +302,141 @@ fn is_whole(k: Kind, bytes: &[u8]) -> bool {
     true
 }
 
-fn on_whole(c: Command, k: Kind, bytes: &[u8], path: &[u8], word: &[u8]) {
+fn on_whole(rt: HostRuntime, c: Command, k: Kind, bytes: &[u8], path: &[u8], word: &[u8]) {
     if is_whole(k, bytes) {
-        on_kind(c, k, bytes, path, word);
+        on_kind(rt, c, k, bytes, path, word);
         return;
     }
-    line::complain(path, b": a BLIF text so long is not read");
+    line::complain(rt.stderr(), path, b": a BLIF text so long is not read");
 }
 
-fn on_bytes(c: Command, bytes: &[u8], path: &[u8], word: &[u8]) {
+fn on_bytes(rt: HostRuntime, c: Command, bytes: &[u8], path: &[u8], word: &[u8]) {
     if let Command::Report = c {
-        print_report(path, bytes);
+        print_report(rt, path, bytes);
         return;
     }
-    on_whole(c, kind_for(c, kind_of(bytes)), bytes, path, word);
+    on_whole(rt, c, kind_for(c, kind_of(bytes)), bytes, path, word);
 }
 
 // ---- files
 
 // What came of a file that is longer than any table, and the rest of it.
-fn long_into(c: Command, fd: i32, first: &[u8], path: &[u8], word: &[u8], room: &mut [u8]) {
+fn long_into<R: Read>(
+    rt: HostRuntime,
+    c: Command,
+    input: &mut R,
+    first: &[u8],
+    path: &[u8],
+    word: &[u8],
+    room: &mut [u8],
+) {
     let at = letters::put_bytes(room, 0, first);
     if at <= room.len() {
-        let got = file::fill(fd, path, &mut room[at..]);
+        let got = file::fill(rt, input, path, &mut room[at..]);
         let n = got.count;
         if got.ok {
             if n <= room.len() - at {
-                on_bytes(c, &room[0..at + n], path, word);
+                on_bytes(rt, c, &room[0..at + n], path, word);
             }
         }
     }
 }
 
 // So long an array is lent as one before it is lent as a slice: its length is then known by its type.
-fn long_by(c: Command, fd: i32, first: &[u8], path: &[u8], word: &[u8], room: &mut [u8; ROOM]) {
-    long_into(c, fd, first, path, word, room);
+fn long_by<R: Read>(
+    rt: HostRuntime,
+    c: Command,
+    input: &mut R,
+    first: &[u8],
+    path: &[u8],
+    word: &[u8],
+    room: &mut [u8; ROOM],
+) {
+    long_into(rt, c, input, first, path, word, room);
 }
 
-fn on_long(c: Command, fd: i32, first: &[u8], path: &[u8], word: &[u8]) {
+fn on_long<R: Read>(
+    rt: HostRuntime,
+    c: Command,
+    input: &mut R,
+    first: &[u8],
+    path: &[u8],
+    word: &[u8],
+) {
     let mut room = [0u8; ROOM];
-    long_by(c, fd, first, path, word, &mut room);
+    long_by(rt, c, input, first, path, word, &mut room);
 }
 
-fn short_into(c: Command, fd: i32, path: &[u8], word: &[u8], room: &mut [u8]) {
-    let got = file::fill(fd, path, room);
+fn short_into<R: Read>(
+    rt: HostRuntime,
+    c: Command,
+    input: &mut R,
+    path: &[u8],
+    word: &[u8],
+    room: &mut [u8],
+) {
+    let got = file::fill(rt, input, path, room);
     let n = got.count;
     if !got.ok {
         return;
     }
     if n < room.len() {
-        on_bytes(c, &room[0..n], path, word);
+        on_bytes(rt, c, &room[0..n], path, word);
         return;
     }
-    on_long(c, fd, room, path, word);
+    on_long(rt, c, input, room, path, word);
 }
 
-fn short_by(c: Command, fd: i32, path: &[u8], word: &[u8], room: &mut [u8; SHORT]) {
-    short_into(c, fd, path, word, room);
+fn short_by<R: Read>(
+    rt: HostRuntime,
+    c: Command,
+    input: &mut R,
+    path: &[u8],
+    word: &[u8],
+    room: &mut [u8; SHORT],
+) {
+    short_into(rt, c, input, path, word, room);
 }
 
 // An open file, by the name that complaints have for it. Only a longer one than any table needs the longer room.
-fn on_open(c: Command, fd: i32, path: &[u8], word: &[u8]) {
+fn on_open<R: Read>(rt: HostRuntime, c: Command, input: &mut R, path: &[u8], word: &[u8]) {
     let mut room = [0u8; SHORT];
-    short_by(c, fd, path, word, &mut room);
+    short_by(rt, c, input, path, word, &mut room);
 }
 
 // `-` is standard input.
-fn on_file(c: Command, path: &[u8], word: &[u8]) {
-    if check::same(path, b"-") {
-        on_open(c, STDIN_FILENO, b"standard input", word);
+fn on_file(rt: HostRuntime, c: Command, path: &[u8], word: &[u8]) {
+    if let b"-" = path {
+        let mut input = rt.stdin();
+        on_open(rt, c, &mut input, b"standard input", word);
         return;
     }
-    let fd = file::open(path);
-    if fd < 0 {
-        return;
+    if let Some(f) = file::open(rt, path) {
+        let mut input = f;
+        on_open(rt, c, &mut input, path, word);
     }
-    on_open(c, fd, path, word);
-    libc::close(fd);
 }
 
 // ---- words
 
-fn write_to(c: Command, from: &[u8], path: &[u8]) {
-    if check::same(from, path) {
-        line::complain(path, b": what is written needs a name of its own");
+fn write_to(rt: HostRuntime, c: Command, from: &[u8], path: &[u8]) {
+    if from == path {
+        line::complain(
+            rt.stderr(),
+            path,
+            b": what is written needs a name of its own",
+        );
         return;
     }
-    on_file(c, from, path);
+    on_file(rt, c, from, path);
 }
 
-// `spindle image TABLE FILE`, `spindle blif TABLE FILE`: where FILE is no path that can be held, that is said.
-fn write_at(c: Command, from: &[u8], path: &[u8], is_held: bool) {
-    if is_held {
-        write_to(c, from, path);
-        return;
+// Why a word cannot be held, in the system's words.
+fn failure(e: FillError) -> io::Error {
+    match e {
+        FillError::TooLong => io::Error::from_raw_os_error(ENAMETOOLONG),
+        FillError::NotPresent => io::Error::from_raw_os_error(EINVAL),
     }
-    line::fail(b"FILE");
 }
 
 // Whether a command writes a file.
@@ -390,60 +447,63 @@ fn writes(c: Command) -> bool {
     }
 }
 
-// `spindle show IMAGE`, `spindle ask IMAGE SETTING`, `spindle map FILE`, `spindle blif FILE`: a word too long to be held is no
-// setting, as an empty one is none.
-fn with_word(c: Command, path: &[u8]) {
-    let mut word = io::buffer();
-    let k = os::arg(3, &mut word);
-    let is_held = os::errno() == 0;
+// The word is the path of a file to write, or a setting, or none.
+fn with_held(rt: HostRuntime, c: Command, path: &[u8], word: &[u8]) {
     if writes(c) {
-        write_at(c, path, &word[..k], is_held);
+        write_to(rt, c, path, word);
         return;
     }
-    on_file(c, path, &word[..k]);
+    on_file(rt, c, path, word);
+}
+
+// `spindle image TABLE FILE`, `spindle blif TABLE FILE`: where FILE is no path that can be held, that is said. A setting that cannot
+// is none.
+fn without_word(rt: HostRuntime, c: Command, path: &[u8], e: FillError) {
+    if writes(c) {
+        line::fail(rt.stderr(), b"FILE", failure(e));
+        return;
+    }
+    on_file(rt, c, path, b"");
+}
+
+// `spindle show IMAGE`, `spindle ask IMAGE SETTING`, `spindle map FILE`, `spindle blif FILE`: a word too long to be held is no
+// setting, as an empty one is none.
+fn with_word(rt: HostRuntime, c: Command, path: &[u8]) {
+    let mut word = [0u8; PATH_MAX];
+    match rt.arg(3, &mut word) {
+        Ok(k) => with_held(rt, c, path, &word[..k]),
+        Err(e) => without_word(rt, c, path, e),
+    }
 }
 
 // The file to read cannot be held.
-fn fail_path(c: Command) {
-    match c {
-        Command::Image => line::fail(b"TABLE"),
-        Command::Show | Command::Ask => line::fail(b"IMAGE"),
-        _ => line::fail(b"FILE"),
-    }
+fn fail_path(rt: HostRuntime, c: Command, e: FillError) {
+    let name: &[u8] = match c {
+        Command::Image => b"TABLE",
+        Command::Show | Command::Ask => b"IMAGE",
+        _ => b"FILE",
+    };
+    line::fail(rt.stderr(), name, failure(e));
 }
 
-fn with_file(c: Command) {
-    let mut path = io::buffer();
-    let n = os::arg(2, &mut path);
-    if os::errno() != 0 {
-        fail_path(c);
-        return;
+fn with_file(rt: HostRuntime, c: Command) {
+    let mut path = [0u8; PATH_MAX];
+    match rt.arg(2, &mut path) {
+        Ok(n) => with_word(rt, c, &path[..n]),
+        Err(e) => fail_path(rt, c, e),
     }
-    with_word(c, &path[..n]);
-}
-
-fn image_or_show(word: &[u8]) -> Command {
-    if check::same(word, b"image") {
-        return Command::Image;
-    }
-    if check::same(word, b"show") {
-        return Command::Show;
-    }
-    Command::Other
 }
 
 // The command that a word names.
 fn which(word: &[u8]) -> Command {
-    if check::same(word, b"blif") {
-        return Command::Blif;
+    match word {
+        b"blif" => Command::Blif,
+        b"ask" => Command::Ask,
+        b"map" => Command::Map,
+        b"image" => Command::Image,
+        b"show" => Command::Show,
+        _ => Command::Other,
     }
-    if check::same(word, b"ask") {
-        return Command::Ask;
-    }
-    if check::same(word, b"map") {
-        return Command::Map;
-    }
-    image_or_show(word)
 }
 
 // How many words a command has that is named.
@@ -465,42 +525,73 @@ fn with_count(c: Command, count: usize) -> Command {
     c
 }
 
-fn on_command(c: Command, count: usize) {
+fn on_command(rt: HostRuntime, c: Command, count: usize) {
     if words(c) != count {
-        help::help(STDERR_FILENO);
+        help::help(&rt.stderr());
         return;
     }
-    with_file(c);
+    with_file(rt, c);
 }
 
 // One word: help, or a table; a file with the name of a command is written ./show.
-fn on_word(word: &[u8]) {
-    if check::same(word, b"help") {
-        help::help(STDOUT_FILENO);
+fn on_word(rt: HostRuntime, word: &[u8]) {
+    if let b"help" = word {
+        help::help(&rt.stdout());
         return;
     }
     if words(which(word)) > 0 {
-        help::help(STDERR_FILENO);
+        help::help(&rt.stderr());
         return;
     }
-    on_file(Command::Report, word, word);
+    on_file(rt, Command::Report, word, word);
 }
 
-fn main() {
-    let mut word = io::buffer();
-    let n = os::arg(1, &mut word);
-    let count = os::arg_count();
-    if count < 2 {
-        help::help(STDERR_FILENO);
-        return;
+// Whether there is a word number i; 0 is the program's own name.
+fn is_there(rt: HostRuntime, i: usize) -> bool {
+    let mut byte = [0u8; 1];
+    match rt.arg(i, &mut byte) {
+        Err(FillError::NotPresent) => false,
+        _ => true,
     }
+}
+
+// How many words there are, the program's own name among them; past the most of a command no more are counted.
+fn word_count(rt: HostRuntime) -> usize {
+    for i in 0..MOST_WORDS {
+        if !is_there(rt, i) {
+            return i;
+        }
+    }
+    MOST_WORDS
+}
+
+// The first word, where it could be held, of so many words.
+fn on_first(rt: HostRuntime, word: &[u8], count: usize) {
     if count > 2 {
-        on_command(with_count(which(&word[..n]), count), count);
+        on_command(rt, with_count(which(word), count), count);
         return;
     }
-    if os::errno() != 0 {
-        line::fail(b"TABLE");
+    on_word(rt, word);
+}
+
+// The first word could not be held: it is no command, and no path.
+fn without_first(rt: HostRuntime, count: usize, e: FillError) {
+    if count > 2 {
+        on_command(rt, Command::Other, count);
         return;
     }
-    on_word(&word[..n]);
+    line::fail(rt.stderr(), b"TABLE", failure(e));
+}
+
+fn main(rt: HostRuntime) {
+    let count = word_count(rt);
+    if count < 2 {
+        help::help(&rt.stderr());
+        return;
+    }
+    let mut word = [0u8; PATH_MAX];
+    match rt.arg(1, &mut word) {
+        Ok(n) => on_first(rt, &word[..n], count),
+        Err(e) => without_first(rt, count, e),
+    }
 }

@@ -3,6 +3,7 @@ ghost use Rattle.std.specs.Prelude.{◌≡◌, ◌-◌, min};
 ghost use Rattle.spindle.specs.Shown.{shown_byte, under_byte, window_of};
 
 use crate::line;
+use std::io::Stderr;
 use table_lines::Span;
 
 // The most bytes of a line that are shown, and the most of them before the column when bytes after it are cut.
@@ -87,9 +88,9 @@ fn window(n: usize, p: usize) -> Span
 // ---- lines
 
 // What stands for bytes that are cut, where some are.
-fn tell_cut(is_cut: bool, text: &[u8]) {
+fn tell_cut(err: Stderr, is_cut: bool, text: &[u8]) {
     if is_cut {
-        line::tell(text);
+        line::tell(err, text);
     }
 }
 
@@ -101,36 +102,36 @@ fn drawn(b: u8, is_under: bool) -> u8 {
     shown(b)
 }
 
-fn tell_part(part: &[u8], is_under: bool) {
+fn tell_part(err: Stderr, part: &[u8], is_under: bool) {
     let mut i = 0;
     while i < part.len() {
-        line::tell_byte(drawn(part[i], is_under));
+        line::tell_byte(err, drawn(part[i], is_under));
         i += 1;
     }
 }
 
-fn tell_text(part: &[u8], is_cut_before: bool, is_cut_after: bool) {
-    line::tell(b"    ");
-    tell_cut(is_cut_before, b"...");
-    tell_part(part, false);
-    tell_cut(is_cut_after, b"...");
-    line::tell(b"\n");
+fn tell_text(err: Stderr, part: &[u8], is_cut_before: bool, is_cut_after: bool) {
+    line::tell(err, b"    ");
+    tell_cut(err, is_cut_before, b"...");
+    tell_part(err, part, false);
+    tell_cut(err, is_cut_after, b"...");
+    line::tell(err, b"\n");
 }
 
 // What stands under the bytes before the caret has their width, so that tabs do not shift it.
-fn tell_caret(part: &[u8], is_cut_before: bool) {
-    line::tell(b"    ");
-    tell_cut(is_cut_before, b"   ");
-    tell_part(part, true);
-    line::tell(b"^\n");
+fn tell_caret(err: Stderr, part: &[u8], is_cut_before: bool) {
+    line::tell(err, b"    ");
+    tell_cut(err, is_cut_before, b"   ");
+    tell_part(err, part, true);
+    line::tell(err, b"^\n");
 }
 
 // The line, or a part of a long one, and a caret under the column.
-pub fn tell_line(l: &[u8], column: usize) {
+pub fn tell_line(err: Stderr, l: &[u8], column: usize) {
     let p = place_of(column, l.len());
     let w = window(l.len(), p);
     let start = w.start;
     let end = w.end;
-    tell_text(&l[start..end], start > 0, end < l.len());
-    tell_caret(&l[start..p], start > 0);
+    tell_text(err, &l[start..end], start > 0, end < l.len());
+    tell_caret(err, &l[start..p], start > 0);
 }

@@ -1,0 +1,6 @@
+-- `fault::explain_line` is safe and ends. Assumes nothing.
+use Rattle.table_lines.proofs.Lining.{line-ends}
+use Rattle.spindle.proofs.fault.explain_line.Goals as goal
+
+pub slice_bounds-l-end : goal.slice_bounds-l-end
+slice_bounds-l-end c = (line-ends _ _ _ c.line_end-e.ensures c.reach-reached.ensures.inside).1
