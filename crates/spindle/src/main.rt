@@ -355,6 +355,8 @@ fn long_by<R: Read>(
     long_into(rt, c, input, first, path, word, room);
 }
 
+// It stands apart, so that its room is no part of the stack of a run that does not need it.
+#[inline(never)]
 fn on_long<R: Read>(
     rt: HostRuntime,
     c: Command,
