@@ -355,7 +355,7 @@ fn long_by<R: Read>(
     long_into(rt, c, input, first, path, word, room);
 }
 
-// It stands apart, so that its room is no part of the stack of a run that does not need it.
+// Apart, so that its room is no part of the stack of a run that does not need it.
 #[inline(never)]
 fn on_long<R: Read>(
     rt: HostRuntime,
@@ -496,15 +496,21 @@ fn with_file(rt: HostRuntime, c: Command) {
     }
 }
 
+fn image_or_show(word: &[u8]) -> Command {
+    match word {
+        b"image" => Command::Image,
+        b"show" => Command::Show,
+        _ => Command::Other,
+    }
+}
+
 // The command that a word names.
 fn which(word: &[u8]) -> Command {
     match word {
         b"blif" => Command::Blif,
         b"ask" => Command::Ask,
         b"map" => Command::Map,
-        b"image" => Command::Image,
-        b"show" => Command::Show,
-        _ => Command::Other,
+        _ => image_or_show(word),
     }
 }
 
