@@ -4,7 +4,7 @@ ghost use Rattle.std.specs.Prelude.{◌≤◌, length};
 use crate::line::{complain, fail};
 use std::fs;
 use std::fs::{File, OpenOptions};
-use std::io::{Error, ErrorKind, Read, Result, Write};
+use std::io::{Error, ErrorKind, Read, Result, Seek, SeekFrom, Write};
 
 // The most bytes of a path, and a zero after it.
 pub const PATH_MAX: usize = 4096;
@@ -110,10 +110,10 @@ fn is_link(rt: HostRuntime, path: &[u8]) -> bool {
     }
 }
 
-// Only a regular file is replaced.
-fn is_regular(f: &File) -> bool {
-    match f.metadata() {
-        Ok(m) => m.is_file(),
+// Only a regular file can be cut to a length, here to its own.
+fn is_regular(mut f: &File) -> bool {
+    match f.seek(SeekFrom::End(0)) {
+        Ok(length) => f.set_len(length).is_ok(),
         Err(_) => false,
     }
 }

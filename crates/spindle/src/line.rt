@@ -180,10 +180,10 @@ pub fn complain(err: Stderr, name: &[u8], text: &[u8]) {
     say(&err, text);
 }
 
-// Where the number of a failure begins, as std has it after the system's words.
+// Where the number of a failure begins, as std has it after the system's words; where it has none, the end of the words in their room.
 fn number_place(text: &[u8]) -> usize {
     for i in 0..text.len() {
-        if text[i..].starts_with(BEFORE_NUMBER) {
+        if text[i] == 0 || text[i..].starts_with(BEFORE_NUMBER) {
             return i;
         }
     }
