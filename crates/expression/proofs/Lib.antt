@@ -4,3 +4,4 @@ pub mod Absorbing
 pub mod Sorting
 pub mod Members
 pub mod Placing
+pub mod Chains

@@ -41,6 +41,20 @@ cubes-at (p ∷ []) i h = absurd (omega arith)
 cubes-at (p ∷ n ∷ ws) zero h = refl
 cubes-at (p ∷ n ∷ ws) (suc i) h = rw (twice i, twice-next i) (cubes-at ws i (omega arith))
 
+-- the first cube, and the words after it
+pub cubes-first : (ws : List ℕ) → 2 ≤ length ws → cubes_of ws ≡ literals width (get_or ws 0 0) (get_or ws 1 0) ∷ cubes_of (take (length ws - 2) (drop 2 ws))
+unfolding cubes_of
+cubes-first [] h = absurd (omega arith)
+cubes-first (p ∷ []) h = absurd (omega arith)
+cubes-first (p ∷ n ∷ ws) h = ap (λ vs. literals width p n ∷ cubes_of vs) (sym (take_all (length (p ∷ n ∷ ws) - 2) ws (omega arith)))
+
+-- words too few for a cube
+pub cubes-none : (ws : List ℕ) → length ws < 2 → cubes_of ws ≡ []
+unfolding cubes_of
+cubes-none [] h = refl
+cubes-none (p ∷ []) h = refl
+cubes-none (p ∷ n ∷ ws) h = absurd (omega arith)
+
 -- past the last cube stands none
 pub cubes-past : (ws : List ℕ) (i : ℕ) → length ws / 2 ≤ i → get_or (cubes_of ws) i [] ≡ []
 cubes-past ws i h = get_or-eq_default (cubes_of ws) [] (omega (arith, cubes-length ws))

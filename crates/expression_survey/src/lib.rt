@@ -15,18 +15,10 @@ use expression::Position;
 pub fn literals(s: &[u64]) -> u64
     ensures { result ≡ capped (literals_of (cubes_of s.now)) }
 {
-    let mut sum: u64 = 0;
-    let mut i = 0;
-    while i < expression::number(s) {
-        let n = cube_sets::count(expression::cube_at(s, i)) as u64;
-        if n <= sets::WORD_MOST - sum {
-            sum += n;
-        } else {
-            sum = sets::WORD_MOST;
-        }
-        i += 1;
-    }
-    sum
+    expression::each(s).fold(
+        0,
+        |sum, c| u64::saturating_add(sum, u64::from(cube_sets::count(c))),
+    )
 }
 
 // Where c stands among cubes in cube order, by halving.
@@ -72,12 +64,5 @@ pub fn is_ordered(f: &[u64]) -> bool
 pub fn reaches(f: &[u64], v: usize) -> bool
     ensures { result ≡ reach v (cubes_of f.now) }
 {
-    let mut i = 0;
-    while i < expression::number(f) {
-        if !cube_order::is_below(expression::cube_at(f, i), v) {
-            return false;
-        }
-        i += 1;
-    }
-    true
+    expression::each(f).all(|c| cube_order::is_below(c, v))
 }

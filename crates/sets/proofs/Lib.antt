@@ -12,3 +12,4 @@ pub mod Halves
 pub mod Places
 pub mod Rows
 pub mod Packing
+pub mod Chains
