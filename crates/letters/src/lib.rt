@@ -2,12 +2,9 @@
 // so that a text's length is known before a byte of it is written.
 #![tactic(auto)]
 
-ghost use Rattle.std.specs.Prelude.{◌≡◌, [], ◌∷◌, ◌+◌};
+ghost use Rattle.std.specs.Prelude.{[], ◌∷◌};
 ghost use Rattle.letters.specs.Letters.{decimal, name_text};
-ghost use Rattle.letters.specs.Laid.{counted, Laid};
-
-// Counting stops here: no room has a byte at this place.
-const FARTHEST: usize = sets::WORD_MOST as usize;
+ghost use Rattle.letters.specs.Laid.{Laid};
 
 // What writing into a lent room answers: how many bytes, or the number of the refusal.
 #[derive(Clone, Copy)]
@@ -16,24 +13,14 @@ pub enum Wrote {
     Refused(u32),
 }
 
-// The place after one byte.
-fn next(at: usize) -> usize
-    ensures { result ≡ counted (at + 1) }
-{
-    if at < FARTHEST {
-        return at + 1;
-    }
-    FARTHEST
-}
-
-// One byte, where there is room for it; the next place.
+// One byte, where there is room for it; the next place. Counting stops at the largest place, where no room has a byte.
 pub fn put(o: &mut [u8], at: usize, b: u8) -> usize
     ensures { Laid o.old o.new at result (b ∷ []) }
 {
     if at < o.len() {
         o[at] = b;
     }
-    next(at)
+    at.saturating_add(1)
 }
 
 // A fixed word.
@@ -41,10 +28,8 @@ pub fn put_bytes(o: &mut [u8], at: usize, s: &[u8]) -> usize
     ensures { Laid o.old o.new at result s.now }
 {
     let mut p = at;
-    let mut i = 0;
-    while i < s.len() {
-        p = put(o, p, s[i]);
-        i += 1;
+    for &b in s {
+        p = put(o, p, b);
     }
     p
 }
@@ -54,10 +39,10 @@ pub fn put_number(o: &mut [u8], at: usize, n: u64) -> usize
     ensures { Laid o.old o.new at result (decimal n) }
 {
     if n < 10 {
-        return put(o, at, (48 + n) as u8);
+        return put(o, at, b'0' + n as u8);
     }
     let p = put_number(o, at, n / 10);
-    put(o, p, (48 + n % 10) as u8)
+    put(o, p, b'0' + (n % 10) as u8)
 }
 
 // A letter and a number after it: `x3`, `y0`.
