@@ -10,8 +10,8 @@ use Rattle.expression.proofs.clear.Goals as goal
 use Rattle.expression.proofs.clear.Goals.{At-loop-i}
 
 -- the end of the places, held to what there is
-stop : (l : At-loop-i) → l.least-stop.result ≡ min l.args.e (length (cubes_of l.args.s.now))
-stop l = l.least-stop.ensures ∙ ap (min _) l.number.ensures
+stop : (l : At-loop-i) → l.min-stop.result ≡ min l.args.e (length (cubes_of l.args.s.now))
+stop l = l.min-stop.ensures ∙ ap (min _) l.number.ensures
 
 pub loop-i-init : goal.loop-i-init
 loop-i-init c =

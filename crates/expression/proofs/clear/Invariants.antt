@@ -8,6 +8,3 @@ use Rattle.expression.proofs.clear.Given as goal
 
 abbrev pub invariant-loop-i : goal.invariant-loop-i
 invariant-loop-i l = (l.a ≤ l.i) × (l.i - l.a ≤ l.stop - l.a) × (length l.s ≡ length l.initial.s) × Placed l.initial.s l.s l.a (replicate (l.i - l.a) [])
-
-abbrev pub decreases-loop-i : goal.decreases-loop-i
-decreases-loop-i l = l.stop - l.i

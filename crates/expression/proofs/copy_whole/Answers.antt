@@ -14,8 +14,8 @@ room : (l : At-loop-i) → l.number-room.result ≡ length (cubes_of l.args.to.n
 room l = l.number-room.ensures
 
 number : (l : At-loop-i)
-    → l.least-n.result ≡ min (length (cubes_of l.args.s.now)) (length (cubes_of l.args.to.now) - l.args.at)
-number l = l.least-n.ensures ∙ ap₂ (λ x y. min x (y - l.args.at)) l.number.ensures (room l)
+    → l.min-n.result ≡ min (length (cubes_of l.args.s.now)) (length (cubes_of l.args.to.now) - l.args.at)
+number l = l.min-n.ensures ∙ ap₂ (λ x y. min x (y - l.args.at)) l.number.ensures (room l)
 
 pub returns-then-room-at : goal.returns-then-room-at
 returns-then-room-at c =

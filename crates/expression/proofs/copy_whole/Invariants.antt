@@ -7,6 +7,3 @@ use Rattle.expression.proofs.copy_whole.Given as goal
 
 abbrev pub invariant-loop-i : goal.invariant-loop-i
 invariant-loop-i l = (l.i ≤ l.n) × (length l.to ≡ length l.initial.to) × Placed l.initial.to l.to l.at (take l.i (cubes_of l.s))
-
-abbrev pub decreases-loop-i : goal.decreases-loop-i
-decreases-loop-i l = l.n - l.i

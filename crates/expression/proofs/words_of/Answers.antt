@@ -17,7 +17,7 @@ pub returns : goal.returns
 returns c =
     let a = c.args in
     let n = cubes-length a.s.now in
-    let h : c.least-high.result ≡ min a.e (length (cubes_of a.s.now)) = c.least-high.ensures
+    let h : c.min-high.result ≡ min a.e (length (cubes_of a.s.now)) = c.min-high.ensures
     ∙ ap (min _) c.number.ensures in
-    let l : c.least-low.result ≡ min a.a (min a.e (length (cubes_of a.s.now))) = c.least-low.ensures ∙ ap (min _) h in
+    let l : c.min-low.result ≡ min a.a (min a.e (length (cubes_of a.s.now))) = c.min-low.ensures ∙ ap (min _) h in
     record { start = ap (2 *◌) l; stop = ap (2 *◌) h; forth = omega arith; within = omega arith }
