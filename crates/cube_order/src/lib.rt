@@ -2,6 +2,7 @@
 #![tactic(auto)]
 
 ghost use Rattle.std.specs.Prelude.{◌≡◌};
+ghost use Rattle.std.specs.Iterator.{YieldsFirstBy, item_count};
 ghost use Rattle.sets.specs.Lists.{is_some};
 ghost use Rattle.sets.specs.Literal.{plain_of};
 ghost use Rattle.sets.specs.Sets.{reads_below, first_from};
@@ -91,6 +92,36 @@ pub fn compare(a: Cube, b: Cube) -> Order
             }
             Order::Before
         }
+    }
+}
+
+// The literals of a cube in turn, the smallest first.
+#[derive(Drop)]
+pub struct Literals {
+    rest: Cube,
+}
+
+// Each literal of c.
+pub fn each(c: Cube) -> Literals
+    ensures { result.rest ≡ c }
+{
+    Literals { rest: c }
+}
+
+impl Iterator for Literals {
+    type Item = Literal;
+
+    ghost next_gives = { YieldsFirstBy (λ l. l.0) (λ s. lits s.rest) };
+
+    ghost remaining = { item_count (λ s. lits s.rest) };
+
+    fn next(&mut self) -> Option<Literal> {
+        let found = first_at(self.rest, Variable(0));
+        let Found::At(l) = found else {
+            return None;
+        };
+        self.rest = cube_sets::without(self.rest, cube::with(cube::empty(), l));
+        Some(l)
     }
 }
 
