@@ -1,10 +1,11 @@
 -- Nodes cut from cubes: how many there are, which cubes each has, and sums over them. Assumes nothing.
-use Prim.Native.Nat.{ℕ, zero, suc, ◌+◌, ◌≤◌}
-use mathlib.Core.Path.{◌≡◌, refl, ap, ◌∙◌}
+use Prim.Native.Nat.{ℕ, zero, suc, ◌+◌, ◌-◌, ◌≤◌}
+use mathlib.Core.Path.{◌≡◌, refl, sym, ap, ap₂, ◌∙◌}
 use mathlib.Core.List.{List, [], ◌∷◌}
 use native.Mathlib.Omega.{arith}
 use lib.ListN.{length, get_or, take, drop, length-drop}
-use lib.Seq.{length-take-le, drop-drop, take-add}
+use lib.Seq.{length-take-le, drop-drop, take-add, take_all}
+use Rattle.std.proofs.Math.Nat.{sub-zero}
 use Rattle.sets.{specs.Lists.total, proofs.Lists.total-append}
 use Rattle.network_nodes.specs.Nodes.{cut, count_before}
 
@@ -12,6 +13,19 @@ pub cut-length : (ns : List ℕ) (f : List (List ℕ)) → length (cut ns f) ≡
 unfolding cut
 cut-length [] f = refl
 cut-length (n ∷ ns) f = ap suc (cut-length ns (drop n f))
+
+-- no counts, no nodes
+pub cut-none : (ns : List ℕ) (f : List (List ℕ)) → length ns ≡ 0 → cut ns f ≡ []
+unfolding cut
+cut-none [] f e = refl
+cut-none (n ∷ ns) f e = absurd (omega arith)
+
+-- the first node, and those that the counts after its own cut from the cubes after its own
+pub cut-first : (ns : List ℕ) (f : List (List ℕ)) {n m : ℕ} {rest : List ℕ} {g h : List (List ℕ)} → ns ≡ n ∷ rest → m ≡ length f → g ≡ take (n - 0) f
+    → h ≡ take (m - n) (drop n f) → cut ns f ≡ g ∷ cut rest h
+unfolding cut
+cut-first ns f {n} {m} {rest} e q d k =
+    rw e (ap₂ (λ a b. a ∷ cut rest b) (ap (λ k. take k f) (sym (sub-zero n)) ∙ sym d) (sym (k ∙ take_all (m - n) (drop n f) (rw length-drop (omega arith)))))
 
 -- node i has the cubes after those of the nodes before it
 pub cut-node : (ns : List ℕ) (f : List (List ℕ)) (i : ℕ) → get_or (cut ns f) i [] ≡ take (get_or ns i 0) (drop (count_before i ns) f)

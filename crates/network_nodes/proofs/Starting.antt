@@ -4,8 +4,7 @@ use mathlib.Core.Path.{◌≡◌, refl, sym, ap, ap₂, ◌∙◌}
 use mathlib.Core.List.{List, []}
 use native.Mathlib.Omega.{arith}
 use lib.ListN.{length, take, drop, get_or, get_or-eq_default}
-use lib.Seq.{take_all}
-use Rattle.sets.{specs.Lists.total, proofs.Places.total-next}
+use Rattle.sets.{proofs.Places.total-next}
 use Rattle.expression.proofs.Words.{part_held}
 use Rattle.network_nodes.specs.Nodes.{cut, count_before}
 use Rattle.network_nodes.proofs.Cutting.{cut-node, cut-length}
@@ -13,10 +12,6 @@ use Rattle.network_nodes.proofs.Cutting.{cut-node, cut-length}
 -- one count more
 pub start-next : (cs : List ℕ) (i sum : ℕ) → i < length cs → sum ≡ count_before i cs → sum + get_or cs i 0 ≡ count_before (i + 1) cs
 start-next cs i sum h e = omega (arith, total-next (λ c. c) cs i 0 h)
-
--- past the counts there is nothing more to add
-pub start-all : (cs : List ℕ) (i : ℕ) → length cs ≤ i → count_before (length cs) cs ≡ count_before i cs
-start-all cs i h = ap (total (λ c. c)) (take_all (length cs) cs (omega arith) ∙ sym (take_all i cs h))
 
 -- the cubes between two starts are those of the node
 pub node-is : (counts : List ℕ) (f r : List (List ℕ)) (i a e : ℕ) → i < length counts → a ≡ min (count_before i counts) (length f)

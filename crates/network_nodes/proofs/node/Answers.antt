@@ -13,7 +13,7 @@ returns-then-counts-i c =
 pub returns : goal.returns
 returns c =
     let h : c.args.i < length c.args.counts.now = omega arith in (
-      node-is c.args.counts.now _ _ c.args.i _ _ h (c.summed-a.ensures ∙ ap (min _) c.number-most.ensures)
-          (c.summed-e.ensures ∙ ap (min _) c.number-most.ensures) c.part-2.ensures.0,
+      node-is c.args.counts.now _ _ c.args.i _ _ h (c.start-a.ensures ∙ ap (min _) c.number-most.ensures)
+          (c.start-e.ensures ∙ ap (min _) c.number-most.ensures) c.part-2.ensures.0,
       c.part-2.ensures.1,
     )

@@ -1,10 +1,24 @@
--- `network_nodes::start` meets its contract: past the counts there is nothing more to add. Assumes nothing.
-use Prim.Native.Nat.{min}
-use mathlib.Core.Path.{◌∙◌, ap}
-use native.Mathlib.Omega.{arith}
-use Rattle.network_nodes.proofs.{Starting.start-all}
+-- `network_nodes::start` meets its contract: a sum that stops at the most. Assumes nothing.
+use Rattle.std.proofs.Common.{rules, ◌≡◌, ◌∙◌, ap, zero-add, ◌≤◌, min, take, ℕ, ◌+◌, ◌-◌, ◌^◌, List, [], ◌∷◌, arith}
+use Rattle.std.specs.List.{fold}
+use Rattle.std.proofs.lemmas.Iterator.{YieldsList-from_slice, YieldsList-from_take}
+use Rattle.std.proofs.lemmas.Iterator.Consumers.{fold_from_yields_List, YieldsList-at}
+use Rattle.sets.specs.Lists.{total}
 use Rattle.network_nodes.proofs.start.Goals as goal
 
-pub returns-then-counts-i : goal.returns-then-counts-i
-returns-then-counts-i c =
-    c.summed.ensures ∙ ap (λ t. min t c.args.most) (start-all c.args.counts.now c.args.i (omega arith))
+-- one more, at most the word's and the asked most
+abbrev more : ℕ → ℕ → ℕ → ℕ
+more most a n = min (min (a + n) (2 ^ 64 - 1)) most
+
+fold-more : (most : ℕ) → most ≤ 2 ^ 64 - 1 → (ns : List ℕ) (a b : ℕ) → b ≡ min a most → fold (more most) b ns ≡ min (a + total (λ n. n) ns) most
+fold-more most h [] a b e = omega (arith, e)
+fold-more most h (n ∷ ns) a b e =
+    let r : more most b n ≡ min (a + n) most = omega arith in
+    fold-more most h ns (a + n) _ r ∙ omega arith
+
+pub returns : goal.returns
+returns c =
+    fold_from_yields_List _ (more c.args.most) 0 _ c.fold.ensures.ran
+    (YieldsList-from_take c.args.i (YieldsList-at c.take.ensures.source (YieldsList-from_slice c.args.counts.now cc)) c.take.ensures.count)
+    (λ a x b q k. search rules) ∙ fold-more c.args.most (omega (arith, c.ranges.most.fits)) (take c.args.i c.args.counts.now) 0 0 (omega arith)
+    ∙ ap (λ s. min s c.args.most) (zero-add _)
