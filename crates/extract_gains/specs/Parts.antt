@@ -1,8 +1,7 @@
--- What a search for a key answers.
-use Rattle.std.specs.Prelude.{ℕ, ◌<◌, ◌≤◌, get_or}
+-- What a search for a key answers, and another gain in an entry.
+use Rattle.std.specs.Prelude.{ℕ, ◌<◌, ◌≤◌, get_or, slice_set, Option, Some, None}
 use mathlib.Core.{Path.◌≡◌, List.List}
 use Rattle.extract_gains.specs.Gains.{entries, first, many, link_at, key_at, head_of, newest}
-use Rattle.extract_gains.specs.declared.{Entry.Entry, Entry.TheVariants.At, Entry.TheVariants.Nothing}
 
 -- the part of a sound table that a search goes by
 pub record Chained (t : List ℕ) : Type 0 where
@@ -15,6 +14,11 @@ abbrev pub Missing : List ℕ → ℕ → Type 0
 Missing t k = (e : ℕ) → e < many t → key_at t e ≡ k → ⊥
 
 -- the answer is an entry, which in a chained table has the key, or there is none
-abbrev pub Finds : List ℕ → ℕ → Entry → Type 0
-Finds t k (At e) = (e < entries) × (Chained t → (e < many t) × (key_at t e ≡ k))
-Finds t k Nothing = Chained t → Missing t k
+abbrev pub Finds : List ℕ → ℕ → Option ℕ → Type 0
+Finds t k (Some e) = (e < entries) × (Chained t → (e < many t) × (key_at t e ≡ k))
+Finds t k None = Chained t → Missing t k
+
+-- entry e holds another gain, or the table is full
+abbrev pub Holds : List ℕ → List ℕ → List ℕ → List ℕ → ℕ → Option ℕ → Type 0
+Holds t g u h e (Some x) = (u ≡ t) × (h ≡ slice_set g e x)
+Holds t g u h e None = many u ≡ entries

@@ -1,9 +1,9 @@
 // Gains by key, in a table that is lent: a key has what was put in for it, less what was taken out.
 #![tactic(auto)]
 
-ghost use Rattle.std.specs.Prelude.{◌≡◌, ◌+◌, ◌<◌, length, get_or};
-ghost use Rattle.extract_gains.specs.Gains.{entries, slots, most_gain, many, key_at, head_of, Sound, Turns, only, none};
-ghost use Rattle.extract_gains.specs.Parts.{Missing, Finds};
+ghost use Rattle.std.specs.Prelude.{◌≡◌, ◌<◌, get_or};
+ghost use Rattle.extract_gains.specs.Gains.{entries, first, many, key_at, head_of, Sound, Turns, only, none};
+ghost use Rattle.extract_gains.specs.Parts.{Missing, Finds, Holds};
 
 // The chains, and the entries. A table of so many entries is full: it says nothing.
 const CHAINS: usize = 65536;
@@ -16,110 +16,54 @@ const FIRST_ENTRY: usize = CHAINS + 1;
 // An entry has a link and a key.
 pub const TABLE_WORDS: usize = FIRST_ENTRY + 2 * MOST_ENTRIES;
 
-// The most that an entry holds.
-const MOST: u16 = 65535;
-
-#[derive(Clone, Copy)]
-enum Entry {
-    At(usize),
-    Nothing,
-}
-
-// A word as a number of places.
-fn wide(x: u32) -> usize
-    ensures { result ≡ x }
-{
-    x as usize
-}
-
-// What an entry that holds so much has room for.
-fn room(x: u16) -> u16
-    ensures { result + x ≡ most_gain }
-{
-    MOST - x
-}
-
-// The number of words that are lent.
-fn words(s: &[u32]) -> usize
-    ensures { result ≡ length s.now }
-{
-    s.len()
-}
-
-// The number of gains that are lent.
-fn gains(s: &[u16]) -> usize
-    ensures { result ≡ length s.now }
-{
-    s.len()
-}
-
-// A table is as long as its type says: a contract that speaks of its length learns that here.
-fn whole(t: &[u32; TABLE_WORDS])
-    ensures { length t.now ≡ slots }
-{
-    words(t);
-}
-
-// The same of the gains.
-fn whole_gains(g: &[u16; MOST_ENTRIES])
-    ensures { length g.now ≡ entries }
-{
-    gains(g);
-}
-
 // The number of entries.
 pub fn number(t: &[u32; TABLE_WORDS]) -> usize
     ensures { result ≡ many t.now }
 {
-    wide(t[0])
+    t[0] as usize
 }
 
 // The place of the head of a key's chain. It decides how long a search takes, and nothing else.
 fn head_of(key: u32) -> usize
-    ensures { result ≡ head_of key }
+    ensures is { result ≡ head_of key }
+    ensures within { result < first }
 {
-    1 + (key as u64 * 2654435761 / 16384 % 65536) as usize
+    1 + (u64::from(key) * 2654435761 / 16384 % 65536) as usize
 }
 
 // The entry of a key, by its chain: each link leads to an earlier place.
-fn find(t: &[u32; TABLE_WORDS], key: u32) -> Entry
+fn find(t: &[u32; TABLE_WORDS], key: u32) -> Option<usize>
     ensures { Finds t.now key result }
 {
-    let mut at = wide(t[head_of(key)]);
+    let mut at = t[head_of(key)] as usize;
+    // By links: each place is read at the one before it.
     while at >= FIRST_ENTRY {
         if at >= TABLE_WORDS - 1 {
-            return Entry::Nothing;
+            return None;
         }
         if t[at + 1] == key {
-            return Entry::At((at - FIRST_ENTRY) / 2);
+            return Some((at - FIRST_ENTRY) / 2);
         }
-        let next = wide(t[at]);
+        let next = t[at] as usize;
         if next >= at {
-            return Entry::Nothing;
+            return None;
         }
         at = next;
     }
-    Entry::Nothing
+    None
 }
 
 // A table with no entry.
 pub fn clear(t: &mut [u32; TABLE_WORDS], g: &mut [u16; MOST_ENTRIES])
     ensures { Sound t.new g.new × (many t.new ≡ 0) }
 {
-    whole(t);
-    whole_gains(g);
-    let mut i = 0;
-    while i < FIRST_ENTRY {
-        t[i] = 0;
-        i += 1;
-    }
+    t[..FIRST_ENTRY].fill(0);
 }
 
 // The table is full from here on.
 fn give_up(t: &mut [u32; TABLE_WORDS])
     ensures { many t.new ≡ entries }
 {
-    whole(t);
     t[0] = MOST_ENTRIES as u32;
 }
 
@@ -141,6 +85,17 @@ fn enter(t: &mut [u32; TABLE_WORDS], g: &mut [u16; MOST_ENTRIES], key: u32, by: 
     g[e] = by;
 }
 
+// An entry holds another gain; where there is none that it can hold, the table is full.
+fn set(t: &mut [u32; TABLE_WORDS], g: &mut [u16; MOST_ENTRIES], e: usize, gain: Option<u16>)
+    requires { e < entries }
+    ensures { Holds t.old g.old t.new g.new e gain }
+{
+    match gain {
+        Some(x) => g[e] = x,
+        None => give_up(t),
+    }
+}
+
 // The gain of a key rises; where there is no room for that, the table is full.
 pub fn put(t: &mut [u32; TABLE_WORDS], g: &mut [u16; MOST_ENTRIES], key: u32, by: u16)
     ensures { Turns t.old g.old t.new g.new none (only key by) }
@@ -148,19 +103,12 @@ pub fn put(t: &mut [u32; TABLE_WORDS], g: &mut [u16; MOST_ENTRIES], key: u32, by
     if by == 0 {
         return;
     }
-    let f = find(t, key);
-    match f {
-        Entry::At(i) => {
-            let old = g[i];
-            if by <= room(old) {
-                g[i] = old + by;
-            } else {
-                give_up(t);
-            }
+    match find(t, key) {
+        Some(e) => {
+            let held = g[e];
+            set(t, g, e, held.checked_add(by));
         }
-        Entry::Nothing => {
-            enter(t, g, key, by);
-        }
+        None => enter(t, g, key, by),
     }
 }
 
@@ -171,19 +119,12 @@ pub fn take(t: &mut [u32; TABLE_WORDS], g: &mut [u16; MOST_ENTRIES], key: u32, b
     if by == 0 {
         return;
     }
-    let f = find(t, key);
-    match f {
-        Entry::At(i) => {
-            let old = g[i];
-            if by <= old {
-                g[i] = old - by;
-            } else {
-                give_up(t);
-            }
+    match find(t, key) {
+        Some(e) => {
+            let held = g[e];
+            set(t, g, e, held.checked_sub(by));
         }
-        Entry::Nothing => {
-            give_up(t);
-        }
+        None => give_up(t),
     }
 }
 
@@ -194,7 +135,6 @@ pub fn key_at(t: &[u32; TABLE_WORDS], e: usize) -> u32
     if e < MOST_ENTRIES {
         t[FIRST_ENTRY + 2 * e + 1]
     } else {
-        whole(t);
         0
     }
 }
@@ -203,10 +143,5 @@ pub fn key_at(t: &[u32; TABLE_WORDS], e: usize) -> u32
 pub fn gain_at(g: &[u16; MOST_ENTRIES], e: usize) -> u16
     ensures { result ≡ get_or g.now e 0 }
 {
-    if e < MOST_ENTRIES {
-        g[e]
-    } else {
-        whole_gains(g);
-        0
-    }
+    g.get(e).copied().unwrap_or(0)
 }

@@ -1,36 +1,27 @@
--- The answers of `extract_gains::clear`.
-use mathlib.Core.{Path.◌≡◌, Path.◌∙◌, List.List}
-use Prim.Native.Nat.{ℕ, ◌+◌, ◌<◌}
+-- `extract_gains::clear` meets its contract: the number of entries and the heads are 0. Assumes nothing.
+use mathlib.Core.Path.{◌≡◌, ◌∙◌}
+use mathlib.Core.List.{List, ◌++◌}
+use Prim.Native.Nat.{ℕ, ◌<◌, ◌≤◌}
 use native.Mathlib.Omega.{arith}
-use lib.ListN as list
-use lib.ListN.{length, get_or, length-set}
-use lib.Seq.{get_or-set_same, get_or-set_other}
+use lib.ListN.{length, get_or, replicate, take, drop}
 use borrow.Author.Rules.{rules}
-use Rattle.sets.proofs.Truth.{Stand, below, equal, beyond, compared}
-use Rattle.extract_gains.proofs.{Changing.sound_empty}
+use Rattle.std.proofs.Common.{length-append, length-drop}
+use Rattle.std.proofs.lemmas.List.{get_or_append_left, get_or-replicate, length-replicate, length-take-le}
+use Rattle.extract_gains.specs.Gains.{first}
+use Rattle.extract_gains.proofs.Changing.{sound_empty}
 use Rattle.extract_gains.proofs.clear.Goals as goal
 
--- a word more
-next : (l : List ℕ) (i : ℕ) → i < length l → ((j : ℕ) → j < i → get_or l j 0 ≡ 0) → (j : ℕ) → j < i + 1 → get_or (list.set l i 0) j 0 ≡ 0
-next l i h old j b = go (compared j i)
-  where
-    go : Stand j i → get_or (list.set l i 0) j 0 ≡ 0
-    go (below k _ _) = get_or-set_other l i j 0 0 (λ q. omega arith) ∙ old j k
-    go (equal k _ _) = rw k (get_or-set_same l i 0 0 h)
-    go (beyond k _ _) = absurd (omega arith)
+-- the words of a part that was filled
+filled : (n : ℕ) (xs ys : List ℕ) → xs ≡ replicate n 0 → (i : ℕ) → i < n → get_or (xs ++ ys) i 0 ≡ 0
+filled n xs ys q i b = rw q (get_or_append_left (replicate n 0) ys 0 i (rw length-replicate b) ∙ get_or-replicate n i 0 0 b)
 
-pub loop-i-init : goal.loop-i-init
-loop-i-init c = (search rules, c.whole.ensures, λ j h. absurd (omega arith))
-
-pub loop-i-preserved : goal.loop-i-preserved
-loop-i-preserved c =
-    let l = c.loop-i in (
-      search rules,
-      length-set l.t l.i 0 ∙ l.invariant.1,
-      next l.t l.i (omega (arith, l.invariant.1)) l.invariant.2,
-    )
+-- a part with the rest is as long as the whole was
+rejoined : (n : ℕ) (t xs : List ℕ) → n ≤ length t → length xs ≡ length (take n t) → length (xs ++ drop n t) ≡ length t
+rejoined n t xs b q = rw (length-append, q, length-take-le n t b, length-drop) (omega arith)
 
 pub returns : goal.returns
 returns c =
-    let l = c.loop-i in
-    sound_empty l.invariant.1 c.whole_gains.ensures (λ i b. l.invariant.2 i (omega arith))
+    sound_empty (rejoined first c.args.t.now _ (omega (arith, c.told-t)) c.fill.ensures.len ∙ c.told-t) c.told-g
+    (λ i b.
+    let long : length (take first c.args.t.now) ≡ first = length-take-le first c.args.t.now (omega (arith, c.told-t)) in
+    filled _ _ _ (c.fill.ensures.after (λ y p. search rules)) i (rw long b))
