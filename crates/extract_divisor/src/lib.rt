@@ -43,12 +43,9 @@ pub fn is_use(s: &[u64], c: Cube, a: Cube, b: Cube) -> bool
         return false;
     }
     let base = cube_sets::without(c, a);
-    if !cube_sets::is_empty(cube_sets::common(base, b)) {
-        return false;
-    }
-    let f = expression_survey::find(s, cube_sets::union(base, b));
-    match f {
-        Position::At(_) => true,
-        Position::Nothing => false,
-    }
+    cube_sets::is_empty(cube_sets::common(base, b))
+        && matches!(
+            expression_survey::find(s, cube_sets::union(base, b)),
+            Position::At(_)
+        )
 }

@@ -1,19 +1,18 @@
 -- Which divisors a network can take: the test in the words of the laws of extraction, and as the code makes it. Assumes nothing.
 use Prim.Native.Nat.{ℕ, ◌/◌, ◌<◌, ◌≤◌}
 use mathlib.Core.Path.{◌≡◌, refl, sym, subst}
-use mathlib.Core.Logic.{◌↔◌}
-use mathlib.Core.Bool.{true, false, ◌&&◌}
+use mathlib.Core.Logic.{inl, inr, ◌↔◌}
+use mathlib.Core.Bool.{true, false, not, ◌&&◌}
 use mathlib.Core.List.Memᴰ
 use mathlib.Core.List.Memᴰ.{head as here}
 use mathlib.Core.List.Memᴰ.{tail as there}
 use mathlib.Core.List.{List, [], ◌∷◌}
 use native.Mathlib.Omega.{arith}
-use lib.Dec.{ltb}
-use lib.ListN.{length}
-use borrow.Author.Tests.{ltb-true, lt-ltb, le-ltb, ne_eqb}
+use lib.Dec.{eqb, ltb}
+use borrow.Author.Tests.{ltb-true, ltb-false, eqb-true, eqb-false, lt-ltb, ne_eqb}
 use Rattle.sets.{specs.Literal.opposite_of, proofs.Lists.◌∈◌, proofs.Lists.all_in, proofs.Sets.mem-of, proofs.Sets.proper-out}
 use Rattle.sets.specs.Sets.{mem, apart, asc, proper, reads_below, before}
-use Rattle.sets.proofs.Truth.{both, iff, clash, refuted}
+use Rattle.sets.proofs.Truth.{both, iff, clash, refuted, decided}
 use Rattle.expression.{specs.Expression.expression, proofs.Absorbing.loose-in}
 use Rattle.network.{specs.Net.Net, specs.Net.variables, specs.Held.reach, specs.Meaning.Reads, proofs.Numbering.reach-out, proofs.Numbering.reach-in}
 use Rattle.extract_laws.specs.Divisor.{Divisor, pair, sum, own, small, sound}
@@ -64,10 +63,10 @@ module _ (v p q : ℕ) where
       let t = fitting-out v (pair p q) h in
       (ltb-true p q t.whole, t.known (q / 2) (p ∷ q ∷ [], here refl, (q, there (here refl), refl)))
 
-  pub pair-falls : q ≤ p → false ≡ fitting v (pair p q)
+  pair-falls : q ≤ p → false ≡ fitting v (pair p q)
   pair-falls l = sym (refuted (λ h. let b = (pair-below h).0 in omega arith))
 
-  pub pair-both-ways : opposite_of p ≡ q → false ≡ fitting v (pair p q)
+  pair-both-ways : opposite_of p ≡ q → false ≡ fitting v (pair p q)
   pair-both-ways e = sym (refuted (λ h. clash (mem-of (there (here refl)))
       (subst (λ x. mem x (p ∷ q ∷ []) ≡ false) e (proper-out (p ∷ q ∷ []) p (cube-proper (own (pair p q)) (fitting-out v (pair p q) h).formed (here refl))
       (mem-of (here refl))))))
@@ -83,26 +82,23 @@ module _ (v p q : ℕ) where
           (opposite_of q) q (λ e. omega arith),
     )
 
-    pub pair_fits : ltb (q / 2) v ≡ fitting v (pair p q)
+    pair_fits : ltb (q / 2) v ≡ fitting v (pair p q)
     unfolding fitting
     pair_fits = iff
         (λ e. let h = ltb-true (q / 2) v e in rw (lt-ltb p q l, pair-proper, lt-ltb (p / 2) v (omega arith), e))
         (λ h. lt-ltb (q / 2) v (pair-below h).1)
 
+  -- the tests, one after the other
+  pub pair-tests : fitting v (pair p q) ≡ ((ltb p q && not (eqb (opposite_of p) q)) && ltb (q / 2) v)
+  pair-tests = elim (decided (ltb p q)) [
+    | inl h ↦ elim (decided (eqb (opposite_of p) q)) [
+      | inl e ↦ rw (h, e) (sym (pair-both-ways (eqb-true (opposite_of p) q e)))
+      | inr e ↦ rw (h, e) (sym (pair_fits (ltb-true p q h) (eqb-false (opposite_of p) q e)))
+    ]
+    | inr h ↦ rw h (sym (pair-falls (ltb-false p q h)))
+  ]
+
 -- ---- the parts of a sum
-
-module _ (a : List ℕ) where
-  pub small-none : length a < 1 → small a ≡ false
-  unfolding small
-  small-none h = rw (le-ltb 0 (length a) (omega arith))
-
-  pub small-many : 2 < length a → small a ≡ false
-  unfolding small
-  small-many h = rw (lt-ltb 0 (length a) (omega arith)) (le-ltb (length a) 3 (omega arith))
-
-  pub small-few : 1 ≤ length a → length a ≤ 2 → small a ≡ true
-  unfolding small
-  small-few h k = rw (lt-ltb 0 (length a) (omega arith)) (lt-ltb (length a) 3 (omega arith))
 
 part_out : (v : ℕ) (a : List ℕ) → fit_part v a ≡ true → (small a ≡ true) × (proper a ≡ true) × (reads_below v a ≡ true)
 part_out v a h =

@@ -15,53 +15,24 @@ use extract_divisor::Divisor;
 fn is_pair(p: Literal, q: Literal, v: usize) -> bool
     ensures { result ≡ fitting v (pair p.0 q.0) }
 {
-    if p.0 >= q.0 {
-        return false;
-    }
-    let o = cube::opposite(p);
-    if o.0 == q.0 {
-        return false;
-    }
-    let x = cube::variable_of(q);
-    (x.0 as usize) < v
+    p.0 < q.0 && cube::opposite(p).0 != q.0 && (cube::variable_of(q).0 as usize) < v
 }
 
 // Whether a part has one or two literals, of different variables below v.
 fn is_part(a: Cube, v: usize) -> bool
     ensures { result ≡ fit_part v (lits a) }
 {
-    let n = cube_sets::count(a);
-    if n < 1 {
-        return false;
-    }
-    if n > 2 {
-        return false;
-    }
-    if !cube_sets::is_proper(a) {
-        return false;
-    }
-    cube_order::is_below(a, v)
+    matches!(cube_sets::count(a), 1 | 2) && cube_sets::is_proper(a) && cube_order::is_below(a, v)
 }
 
 // Whether two parts are fit, share no literal and stand in cube order.
 fn is_sum(a: Cube, b: Cube, v: usize) -> bool
     ensures { result ≡ fitting v (sum (lits a) (lits b)) }
 {
-    if !is_part(a, v) {
-        return false;
-    }
-    if !is_part(b, v) {
-        return false;
-    }
-    if !cube_sets::is_empty(cube_sets::common(a, b)) {
-        return false;
-    }
-    let o = cube_order::compare(a, b);
-    match o {
-        Order::Before => true,
-        Order::Same => false,
-        Order::After => false,
-    }
+    is_part(a, v)
+        && is_part(b, v)
+        && cube_sets::is_empty(cube_sets::common(a, b))
+        && matches!(cube_order::compare(a, b), Order::Before)
 }
 
 // Whether the divisor's own node is an expression over v variables, the smaller literal or part first.
