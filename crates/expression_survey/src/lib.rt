@@ -22,6 +22,7 @@ pub fn literals(s: &[u64]) -> u64
 }
 
 // Where c stands among cubes in cube order, by halving.
+// By hand: what it answers is promised for cubes in any order, which `binary_search_by` leaves open.
 pub fn find(s: &[u64], c: Cube) -> Position
     ensures { place_of result ≡ find_in (lits c) (cubes_of s.now) }
 {
@@ -49,15 +50,7 @@ pub fn find(s: &[u64], c: Cube) -> Position
 pub fn is_ordered(f: &[u64]) -> bool
     ensures { result ≡ ordered (cubes_of f.now) }
 {
-    let mut i = 1;
-    while i < expression::number(f) {
-        let o = cube_order::compare(expression::cube_at(f, i - 1), expression::cube_at(f, i));
-        let Order::Before = o else {
-            return false;
-        };
-        i += 1;
-    }
-    true
+    expression::each(f).is_sorted_by(|a, b| matches!(cube_order::compare(*a, *b), Order::Before))
 }
 
 // Whether every literal is of a variable below v.

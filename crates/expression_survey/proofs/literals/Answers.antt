@@ -1,5 +1,5 @@
 -- The answers of `expression_survey::literals`.
-use Rattle.std.proofs.Common.{rules, ◌≡◌, ◌∙◌, ◌+◌, min, length}
+use Rattle.std.proofs.Common.{rules, ◌∙◌, ◌+◌, min, length}
 use borrow.Author.Tests.{tests}
 use Rattle.sets.specs.Word.{largest}
 use Rattle.expression.specs.Words.{cubes_of}
