@@ -1,5 +1,5 @@
 -- Cubes with the literals of known variables, all or those of value 1: what one variable more makes of them. Assumes nothing.
-use Prim.Native.Nat.{ℕ, ◌+◌, ◌/◌, ◌%◌, ◌<◌, ◌≤◌, ◌*◌}
+use Prim.Native.Nat.{ℕ, ◌+◌, ◌/◌, ◌%◌, ◌<◌, ◌*◌}
 use mathlib.Core.Path.{◌≡◌, refl, sym, ap, ◌∙◌}
 use mathlib.Core.Logic.{inl, inr}
 use mathlib.Core.Bool.{Bool, true, false, cond, not, ◌&&◌, ◌||◌, or-true, or-false, or_assoc}
@@ -21,16 +21,9 @@ pub signed-small : (v : ℕ) (b : Bool) → v < width → signed v b < 2 * width
 signed-small v true h = omega arith
 signed-small v false h = omega arith
 
-signed-large : (v : ℕ) (b : Bool) → width ≤ v → 2 * width ≤ signed v b
-signed-large v true h = omega arith
-signed-large v false h = omega arith
-
--- the literal of a variable is one of a cube's, that of another adds nothing
+-- the literal of a variable is one of a cube's
 pub joined-signed : (v : ℕ) (b : Bool) (c : List ℕ) → v < width → joined (signed v b) c ≡ insert (signed v b) c
 joined-signed v b c h = rw (lt-ltb (signed v b) (2 * width) (signed-small v b h))
-
-pub joined-past : (v : ℕ) (b : Bool) (c : List ℕ) → width ≤ v → c ≡ joined (signed v b) c
-joined-past v b c h = rw (le-ltb (signed v b) (2 * width) (signed-large v b h))
 
 -- ---- known variables
 

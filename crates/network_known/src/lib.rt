@@ -14,14 +14,12 @@ const VARIABLES: usize = cube::VARIABLES as usize;
 pub fn within(f: &[u64], k: Cube, every: bool) -> bool
     ensures { result ≡ within every (lits k) (cubes_of f.now) }
 {
-    let mut i = 0;
-    while i < expression::number(f) {
-        if cube_sets::contains(k, expression::cube_at(f, i)) != every {
-            return !every;
-        }
-        i += 1;
+    let mut cubes = expression::each(f);
+    if every {
+        cubes.all(|c| cube_sets::contains(k, c))
+    } else {
+        cubes.any(|c| cube_sets::contains(k, c))
     }
-    every
 }
 
 // The literal of the variable v that has value 1 where v has the value b.
@@ -29,10 +27,7 @@ fn literal_of(v: Variable, b: bool) -> Literal
     requires { v.0 < width }
     ensures { result.0 ≡ signed v.0 b }
 {
-    if b {
-        return cube::plain(v);
-    }
-    cube::negated(v)
+    if b { cube::plain(v) } else { cube::negated(v) }
 }
 
 // c with that literal; a number past the last variable adds nothing.

@@ -1,7 +1,7 @@
 // The nodes of a network by value: cubes node after node, and how many of them each node has.
 #![tactic(auto)]
 
-ghost use Rattle.std.specs.Prelude.{◌≡◌, [], ◌≤◌, min, length, get_or, take};
+ghost use Rattle.std.specs.Prelude.{◌≡◌, [], min, get_or, take};
 ghost use Rattle.std.specs.Iterator.{YieldsFirstBy, item_count};
 ghost use Rattle.expression.specs.Words.{cubes_of, spare_of};
 ghost use Rattle.network_nodes.specs.Nodes.{cut, count_before};
