@@ -1,18 +1,18 @@
--- `extract_rank::is_before` meets its contract: what the three answers of a comparison say. Assumes nothing.
-use mathlib.Core.Path.{refl, sym, ap, ◌∙◌}
-use Rattle.sets.{specs.Sets.before, proofs.Ordering.before-irrefl, proofs.Ordering.before-asym}
-use Rattle.cube.{specs.Cube.lits, proofs.Verdict.Told, proofs.Verdict.told_of_lem}
+-- `extract_rank::is_before` meets its contract: what a comparison says. Assumes nothing.
+use mathlib.Core.Path.{refl, sym, ◌∙◌}
+use mathlib.Core.Logic.{inl, inr}
+use Rattle.sets.specs.Sets.{before}
+use Rattle.sets.proofs.Truth.{decided}
+use Rattle.cube.specs.Cube.{lits}
+use Rattle.cube.proofs.Verdict.{is-before, told_of_lem}
 use Rattle.extract_rank.proofs.is_before.Goals as goal
-use Rattle.extract_rank.proofs.is_before.Goals.{After-compare-o}
-
-says : (c : After-compare-o) → Told (lits c.args.a) (lits c.args.b) c.compare-o.result
-says c = told_of_lem _ _ _ _ _ c.compare-o.ensures refl refl
 
 pub returns-in-Before : goal.returns-in-Before
-returns-in-Before c = sym ((says (goal.at.returns-in-Before c).After-compare-o).first c.in-Before.is)
+returns-in-Before c = sym ((told_of_lem _ _ _ _ _ c.in-Before.ensures refl refl).first refl)
 
-pub returns-in-Same : goal.returns-in-Same
-returns-in-Same c = sym (ap (before _) (sym ((says (goal.at.returns-in-Same c).After-compare-o).alike c.in-Same.is)) ∙ before-irrefl _)
-
-pub returns-in-After : goal.returns-in-After
-returns-in-After c = sym (before-asym _ _ ((says (goal.at.returns-in-After c).After-compare-o).last c.in-After.is))
+pub returns-in_default : goal.returns-in_default
+returns-in_default c =
+    elim (decided (before (lits c.args.a) (lits c.args.b))) [
+      | inl t ↦ absurd (c.in_default.not-Before (sym (is-before _ _ t ∙ sym c.compare.ensures)))
+      | inr f ↦ sym f
+    ]
