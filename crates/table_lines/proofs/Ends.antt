@@ -1,16 +1,20 @@
 -- Where a part of a text ends: up to the first b, without the blanks at either end, as the turns of a loop. Assumes nothing.
-use Prim.Native.Nat.{ℕ, zero, suc, ◌+◌, ◌-◌, ◌<◌, ◌≤◌}
+use Prim.Native.Nat.{ℕ, suc, ◌+◌, ◌-◌, ◌≤◌}
 use mathlib.Core.Path.{◌≡◌, refl, sym, ◌∙◌, ap}
-use mathlib.Core.Bool.{true, false, cond, and-false}
+use mathlib.Core.Bool.{Bool, true, false, cond, not, ◌&&◌, and-false}
 use mathlib.Core.List.{List, [], ◌∷◌, ◌++◌}
 use native.Mathlib.Omega.{arith}
 use lib.Dec.{eqb}
-use lib.ListN.{length, get_or, take, drop, length-drop, drop_of_length-le}
-use lib.Seq.{take-suc, take_all}
-use borrow.Author.Tests.{eq-eqb, ne_eqb}
-use Rattle.sets.{specs.Lists.is_nil, proofs.Places.drop-next}
+use lib.ListN.{length, take, drop, length-drop}
+use lib.Seq.{take_all}
+use Rattle.sets.{specs.Lists.is_nil}
 use Rattle.table_lines.specs.Text.{is_blank, line_of, uncommented, trim_front, trim_end}
-use Rattle.table_lines.specs.Parts.{until_byte}
+use Rattle.std.specs.List.{prefix_len, suffix_len, position_or_len, before_first}
+use Rattle.std.proofs.lemmas.List.Folds.{length-prefix_len}
+use Rattle.std.proofs.lemmas.Grind.{reverse_onto}
+use Rattle.std.proofs.lemmas.List.{reverse-reverse, length-reverse}
+use Rattle.std.proofs.lemmas.List.Sums.{take_while-cons}
+use Rattle.std.proofs.Common.{reverse, length-append}
 
 -- what is left from a place on
 pub rest-whole : (a : ℕ) (l : List ℕ) → take (length l - a) (drop a l) ≡ drop a l
@@ -18,58 +22,39 @@ rest-whole a l = take_all (length l - a) (drop a l) (simp length-drop (omega ari
 
 -- ---- up to the first b
 
-pub line-upto : (t : List ℕ) → line_of t ≡ until_byte 10 t
-unfolding line_of until_byte
-line-upto [] = refl
-line-upto (x ∷ t) = rw (line-upto t)
+module _ (F : List ℕ → List ℕ) (b : ℕ) (none : F [] ≡ []) (step : (x : ℕ) (t : List ℕ) → F (x ∷ t) ≡ cond (eqb x b) [] (x ∷ F t)) where
+  upto : (t : List ℕ) → F t ≡ before_first (λ x. eqb x b) t
+  upto [] = none
+  upto (x ∷ t) = step x t ∙ go (eqb x b) (upto t) ∙ sym (take_while-cons (λ y. not (eqb y b)) x t)
+    where
+      go : (e : Bool) → F t ≡ before_first (λ y. eqb y b) t → cond e [] (x ∷ F t) ≡ cond (not e) (x ∷ before_first (λ y. eqb y b) t) []
+      go true h = refl
+      go false h = ap (λ (l : List ℕ). x ∷ l) h
 
-pub uncommented-upto : (t : List ℕ) → uncommented t ≡ until_byte 35 t
-unfolding uncommented until_byte
-uncommented-upto [] = refl
-uncommented-upto (x ∷ t) = rw (uncommented-upto t)
+pub line-upto : (t : List ℕ) → line_of t ≡ before_first (λ x. eqb x 10) t
+unfolding line_of
+line-upto t = upto line_of 10 refl (λ x l. refl) t
 
--- it is what stands at the front
-pub upto_take : (b : ℕ) (t : List ℕ) → take (length (until_byte b t)) t ≡ until_byte b t
-unfolding until_byte
-upto_take b [] = refl
-upto_take b (x ∷ t) = elim (eqb x b) as (λ e. take (length (cond e [] (x ∷ until_byte b t))) (x ∷ t) ≡ cond e [] (x ∷ until_byte b t))
-    [ true ↦ refl | false ↦ ap (λ l. x ∷ l) (upto_take b t) ]
+pub line-length : (t : List ℕ) → length (line_of t) ≡ position_or_len (λ x. eqb x 10) t
+line-length t = ap length (line-upto t) ∙ length-prefix_len (λ x. not (eqb x 10)) t
 
-pub upto_le : (b : ℕ) (t : List ℕ) → length (until_byte b t) ≤ length t
-unfolding until_byte
-upto_le b [] = omega arith
-upto_le b (x ∷ t) = elim (eqb x b) as (λ e. length (cond e [] (x ∷ until_byte b t)) ≤ suc (length t)) [ true ↦ omega arith | false ↦ omega (arith, upto_le b t) ]
+pub uncommented-upto : (t : List ℕ) → uncommented t ≡ before_first (λ x. eqb x 35) t
+unfolding uncommented
+uncommented-upto t = upto uncommented 35 refl (λ x l. refl) t
 
-module _ (b : ℕ) (t : List ℕ) (i : ℕ) where
-  -- b stands at i
-  pub upto-stop : i < length t → get_or t i 0 ≡ b → i ≡ i + length (until_byte b (drop i t))
-  unfolding until_byte
-  upto-stop h e = rw (drop-next t i 0 h, eq-eqb (get_or t i 0) b e) (omega arith)
-
-  -- another byte stands at i
-  pub upto-on : i < length t → (get_or t i 0 ≡ b → ⊥) → i + length (until_byte b (drop i t)) ≡ (i + 1) + length (until_byte b (drop (i + 1) t))
-  unfolding until_byte
-  upto-on h e = rw (drop-next t i 0 h, ne_eqb (get_or t i 0) b e) (omega arith)
-
-  -- nothing stands at i
-  pub upto_done : length t ≤ i → i ≡ i + length (until_byte b (drop i t))
-  unfolding until_byte
-  upto_done h = rw (drop_of_length-le t h) (omega arith)
+pub uncommented-length : (t : List ℕ) → length (uncommented t) ≡ position_or_len (λ x. eqb x 35) t
+uncommented-length t = ap length (uncommented-upto t) ∙ length-prefix_len (λ x. not (eqb x 35)) t
 
 -- ---- without the blanks at the front
 
-module _ (l : List ℕ) (i : ℕ) where
-  pub front-stop : i < length l → is_blank (get_or l i 0) ≡ false → trim_front (drop i l) ≡ drop i l
-  unfolding trim_front
-  front-stop h e = rw (drop-next l i 0 h, e)
-
-  pub front-on : i < length l → is_blank (get_or l i 0) ≡ true → trim_front (drop i l) ≡ trim_front (drop (i + 1) l)
-  unfolding trim_front
-  front-on h e = rw (drop-next l i 0 h, e)
-
-  pub front-done : length l ≤ i → trim_front (drop i l) ≡ drop i l
-  unfolding trim_front
-  front-done h = rw (drop_of_length-le l h)
+pub front_is : (l : List ℕ) → drop (prefix_len is_blank l) l ≡ trim_front l
+unfolding trim_front
+front_is [] = refl
+front_is (b ∷ l) = go (is_blank b) (front_is l)
+  where
+    go : (e : Bool) → drop (prefix_len is_blank l) l ≡ trim_front l → drop (cond e (1 + prefix_len is_blank l) 0) (b ∷ l) ≡ cond e (trim_front l) (b ∷ l)
+    go true h = let n : 1 + prefix_len is_blank l ≡ suc (prefix_len is_blank l) = omega arith in ap (λ (k : ℕ). drop k (b ∷ l)) n ∙ h
+    go false h = refl
 
 pub front-le : (l : List ℕ) → length (trim_front l) ≤ length l
 unfolding trim_front
@@ -94,22 +79,29 @@ unfolding trim_end
 end-solid [] b e = rw e
 end-solid (x ∷ l) b e = rw (end-solid l b e, solid-end l b, and-false (is_blank x))
 
-module _ (l : List ℕ) (e : ℕ) (left : 0 < e) (inside : e ≤ length l) where
-  -- the first e bytes, the last of them by itself
-  last_out : take e l ≡ take (e - 1) l ++ (get_or l (e - 1) 0 ∷ [])
-  last_out = let h : e - 1 < length l = omega arith in let q : suc (e - 1) ≡ e = omega arith in ap (λ (k : ℕ). take k l) (sym q) ∙ take-suc l (e - 1) 0 h
-
-  pub end-stop : is_blank (get_or l (e - 1) 0) ≡ false → trim_end (take e l) ≡ take e l
-  end-stop b = rw last_out (end-solid (take (e - 1) l) (get_or l (e - 1) 0) b)
-
-  pub end_on : is_blank (get_or l (e - 1) 0) ≡ true → trim_end (take e l) ≡ trim_end (take (e - 1) l)
-  end_on b = rw last_out (end-blank (take (e - 1) l) (get_or l (e - 1) 0) b)
-
-pub end-done : (l : List ℕ) (e : ℕ) → e ≤ 0 → trim_end (take e l) ≡ take e l
+pub end-le : (l : List ℕ) → length (trim_end l) ≤ length l
 unfolding trim_end
-end-done l zero h = refl
-end-done l (suc e) h = absurd (omega arith)
+end-le [] = omega arith
+end-le (b ∷ l) = elim (is_blank b && is_nil (trim_end l)) as
+    (λ e. length (cond e [] (b ∷ trim_end l)) ≤ suc (length l)) [ true ↦ omega arith | false ↦ omega (arith, end-le l) ]
 
--- what stands before the comment, whose place is found
-pub uncommented-take : (l : List ℕ) (e : ℕ) → e ≡ 0 + length (until_byte 35 l) → take e l ≡ uncommented l
-uncommented-take l e h = let q : e ≡ length (until_byte 35 l) = omega arith in rw q (upto_take 35 l ∙ sym (uncommented-upto l))
+pub end_take : (l : List ℕ) → take (length (trim_end l)) l ≡ trim_end l
+unfolding trim_end
+end_take [] = refl
+end_take (b ∷ l) = elim (is_blank b && is_nil (trim_end l)) as (λ e. take (length (cond e [] (b ∷ trim_end l))) (b ∷ l) ≡ cond e [] (b ∷ trim_end l))
+    [ true ↦ refl | false ↦ ap (λ (x : List ℕ). b ∷ x) (end_take l) ]
+
+-- what is trimmed from the end of r backwards is the blanks at the front of r
+back-blanks : (r : List ℕ) → length (trim_end (reverse r)) + prefix_len is_blank r ≡ length r
+unfolding trim_end
+back-blanks [] = refl
+back-blanks (b ∷ r) = rw (reverse_onto r b []) (go (is_blank b) refl (back-blanks r))
+  where
+    go : (e : Bool) → is_blank b ≡ e → length (trim_end (reverse r)) + prefix_len is_blank r ≡ length r
+        → length (trim_end (reverse r ++ (b ∷ []))) + cond e (1 + prefix_len is_blank r) 0 ≡ suc (length r)
+    go true e h = rw (end-blank (reverse r) b e) (omega arith)
+    go false e h = rw (end-solid (reverse r) b e) (omega (arith, length-append (reverse r) (b ∷ []), length-reverse r))
+
+pub end_is : (l : List ℕ) → take (length l - suffix_len is_blank l) l ≡ trim_end l
+end_is l = let n : length (trim_end l) ≡ length l - suffix_len is_blank l =
+    omega (arith, rw (reverse-reverse l) at (back-blanks (reverse l)), length-reverse l) in rw (← n) (end_take l)

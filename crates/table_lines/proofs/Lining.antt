@@ -1,21 +1,22 @@
 -- The lines of a text: the first ends at the first LF, and the others are those of what follows it. Assumes nothing.
 use Prim.Native.Nat.{ℕ, suc, ◌+◌, ◌-◌, ◌<◌, ◌≤◌}
 use mathlib.Core.Path.{◌≡◌, refl, sym, ap, ◌∙◌}
-use mathlib.Core.Bool.{Bool, true, false, cond}
+use mathlib.Core.Bool.{Bool, true, false, cond, not}
 use mathlib.Core.List.{List, [], ◌∷◌}
 use native.Mathlib.Omega.{arith}
 use lib.Dec.{eqb}
 use lib.ListN.{length, take, drop, length-drop}
 use lib.Seq.{drop-drop}
+use Rattle.std.proofs.lemmas.List.Sums.{prefix_len-le-length}
 use Rattle.table_lines.specs.Text.{line_of, onto, lines_of}
-use Rattle.table_lines.proofs.Ends.{line-upto, upto_take, upto_le}
+use Rattle.table_lines.proofs.Ends.{line-upto, line-length}
 
 -- a line is what stands at the front
 pub line-take : (t : List ℕ) → line_of t ≡ take (length (line_of t)) t
-line-take t = rw (line-upto t) (sym (upto_take 10 t))
+line-take t = line-upto t ∙ ap (λ (k : ℕ). take k t) (sym (line-length t))
 
 pub line-le : (t : List ℕ) → length (line_of t) ≤ length t
-line-le t = rw (line-upto t) (upto_le 10 t)
+line-le t = rw (line-length t) (prefix_len-le-length (λ x. not (eqb x 10)) t)
 
 -- a line that ends before the text is followed by the lines of what stands after its LF
 pub lines_next : (t : List ℕ) → length (line_of t) < length t → lines_of t ≡ line_of t ∷ lines_of (drop (suc (length (line_of t))) t)
