@@ -1,5 +1,5 @@
 -- Which words are refused, and with which number; what is accepted, in the paper's words. Assumes nothing.
-use Prim.Native.Nat.{ℕ, ◌*◌, ◌%◌, ◌<◌, ◌≤◌}
+use Prim.Native.Nat.{ℕ, zero, suc, ◌+◌, ◌*◌, ◌%◌, ◌<◌, ◌≤◌}
 use mathlib.Core.Path.{◌≡◌, refl, sym, ◌∙◌, ap}
 use mathlib.Core.Logic.{◌↔◌, inl, inr}
 use mathlib.Core.Bool.{Bool, true, false, cond, ◌&&◌}
@@ -7,9 +7,10 @@ use mathlib.Core.List.{List, []}
 use mathlib.Core.Option.{Option, none, some}
 use native.Mathlib.Omega.{arith}
 use lib.Dec.{ltb, eqb}
-use lib.ListN.{length, get_or}
+use lib.ListN.{length, get_or, drop, drop_of_length-le}
+use Rattle.std.specs.List.{range_with_len}
 use borrow.Author.Tests.{ltb-true, ltb-false, lt-ltb, le-ltb, eqb-true, eqb-false}
-use Rattle.sets.{specs.Lists.all, specs.Lists.pairwise, proofs.First.some-not-none, proofs.Places.pairwise-at, proofs.Places.at-pairwise}
+use Rattle.sets.{specs.Lists.all, specs.Lists.pairwise, proofs.First.some-not-none, proofs.Places.pairwise-at, proofs.Places.at-pairwise, proofs.Places.drop-next}
 use Rattle.sets.specs.Sets.{sub, asc, proper}
 use Rattle.sets.proofs.Truth.{both, decided, compared, below, equal, beyond}
 use Rattle.sets.proofs.Lists.{all_in, all-out, all-cong}
@@ -18,6 +19,17 @@ use Rattle.expression.specs.Expression.{is_cube, loose, expression}
 use Rattle.expression.specs.Answers.{most_handed, refusal, Acceptable}
 use Rattle.expression.proofs.Words.{cubes-asc, spare-length, spare-none, spare-some}
 use Rattle.expression.proofs.Absorbing.{loose-in, loose-out}
+
+-- a relation between each element and every later one, place by place
+module _ {A : Type 0} (r : A → A → Bool) (d : A) (l : List A) where
+  abbrev pub from_place : ℕ → Bool
+  from_place i = all (r (get_or l i d)) (drop (i + 1) l)
+
+  pub places-pairwise : (k n : ℕ) → k + n ≡ length l → all from_place (range_with_len k n) ≡ pairwise r (drop k l)
+  places-pairwise k zero h = let e = drop_of_length-le l {i = k} (omega arith) in rw e
+  places-pairwise k (suc n) h =
+      let lt : k < length l = omega arith in
+      rw (drop-next l k d lt) (ap (from_place k &&◌) (places-pairwise (k + 1) n (omega arith)))
 
 -- no cube contains or equals another, by places
 pub loose-iff : (f : List (List ℕ))
@@ -49,15 +61,15 @@ module _ (ws : List ℕ) where
     unfolding refusal
     refused-spare h = rw (le-ltb (cube_words * most_handed) (length ws) few, spare-some ws h)
 
-    pub refused-else : length ws % cube_words ≡ 0 → refusal ws ≡ cond (all proper (cubes_of ws) && pairwise loose (cubes_of ws)) none (some 7)
+    pub refused-else : length ws % cube_words ≡ 0 → refusal ws ≡ cond (expression (cubes_of ws)) none (some 7)
     unfolding refusal
-    refused-else h = rw (le-ltb (cube_words * most_handed) (length ws) few, spare-none ws h, cubes-proper)
+    refused-else h = rw (le-ltb (cube_words * most_handed) (length ws) few, spare-none ws h)
 
   pub accepted-iff : (refusal ws ≡ none) ↔ Acceptable ws
   accepted-iff = (
     out,
     λ (few, even, one, apart). refused-else few even
-        ∙ rw (all_in proper (cubes_of ws) one, (loose-iff (cubes_of ws)).1 apart),
+        ∙ rw (cubes-proper, all_in proper (cubes_of ws) one, (loose-iff (cubes_of ws)).1 apart),
   )
     where
       few-of : refusal ws ≡ none → length ws ≤ cube_words * most_handed
@@ -78,7 +90,8 @@ module _ (ws : List ℕ) where
 
       out : refusal ws ≡ none → Acceptable ws
       out h =
-          let q = both (all proper (cubes_of ws)) (pairwise loose (cubes_of ws)) (rest _ (sym (refused-else (few-of h) (even-of h)) ∙ h)) in
+          let e = rest (expression (cubes_of ws)) (sym (refused-else (few-of h) (even-of h)) ∙ h) in
+          let q = both (all proper (cubes_of ws)) (pairwise loose (cubes_of ws)) (rw cubes-proper at e) in
           (few-of h, even-of h, λ c m. all-out proper m q.0, (loose-iff (cubes_of ws)).0 q.1)
 
 -- so what is accepted is an expression, of no more cubes than may be handed in

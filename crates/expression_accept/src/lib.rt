@@ -21,24 +21,14 @@ pub const WORDS: usize = expression::WORDS * CUBES;
 fn all_proper(s: &[u64]) -> bool
     ensures { result ≡ all proper (cubes_of s.now) }
 {
-    let mut i = 0;
-    while i < expression::number(s) {
-        if !cube_sets::is_proper(expression::cube_at(s, i)) {
-            return false;
-        }
-        i += 1;
-    }
-    true
+    expression::each(s).all(|c| cube_sets::is_proper(c))
 }
 
 // Whether neither of a and b contains the other.
 fn is_loose(a: Cube, b: Cube) -> bool
     ensures { result ≡ loose (lits a) (lits b) }
 {
-    if cube_sets::contains(b, a) {
-        return false;
-    }
-    !cube_sets::contains(a, b)
+    !cube_sets::contains(b, a) && !cube_sets::contains(a, b)
 }
 
 // Whether cube i and each later one are loose.
@@ -47,38 +37,22 @@ fn is_loose_from(s: &[u64], i: usize) -> bool
     ensures { result ≡ all (loose (get_or (cubes_of s.now) i [])) (drop (i + 1) (cubes_of s.now)) }
 {
     let c = expression::cube_at(s, i);
-    let mut j = i + 1;
-    while j < expression::number(s) {
-        if !is_loose(c, expression::cube_at(s, j)) {
-            return false;
-        }
-        j += 1;
-    }
-    true
+    let later = expression::part(s, i + 1, expression::number(s));
+    expression::each(later).all(|d| is_loose(c, d))
 }
 
 // Whether no cube contains or equals another.
 fn all_loose(s: &[u64]) -> bool
     ensures { result ≡ pairwise loose (cubes_of s.now) }
 {
-    let mut i = 0;
-    while i < expression::number(s) {
-        if !is_loose_from(s, i) {
-            return false;
-        }
-        i += 1;
-    }
-    true
+    (0..expression::number(s)).all(|i| is_loose_from(s, i))
 }
 
 // Whether the cubes are an expression: no variable both ways, none containing or equal to another.
 pub fn is_expression(s: &[u64]) -> bool
     ensures { result ≡ expression (cubes_of s.now) }
 {
-    if !all_proper(s) {
-        return false;
-    }
-    all_loose(s)
+    all_proper(s) && all_loose(s)
 }
 
 // 6 over 1,024 cubes; else 7 where a word is left over, a cube has a variable both ways, or one cube contains or equals another.
@@ -88,13 +62,7 @@ pub fn accept(s: &[u64]) -> Verdict
     if s.len() > WORDS {
         return Verdict::Refused(6);
     }
-    if s.len() % expression::WORDS != 0 {
-        return Verdict::Refused(7);
-    }
-    if !all_proper(s) {
-        return Verdict::Refused(7);
-    }
-    if !all_loose(s) {
+    if s.len() % expression::WORDS != 0 || !is_expression(s) {
         return Verdict::Refused(7);
     }
     Verdict::Accepted

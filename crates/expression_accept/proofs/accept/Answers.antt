@@ -2,23 +2,17 @@
 use mathlib.Core.Path.{sym, ◌∙◌}
 use Rattle.expression_accept.proofs.Accepting.{refused-many, refused-spare, refused-else}
 use Rattle.expression_accept.proofs.accept.Goals as goal
+use Rattle.expression_accept.proofs.accept.Goals.{then-s-ne0-via-then-s-ne0, then-s-ne0-via-else-s-ne0+then-not-is_expression}
 
 pub returns-then-s-gt-WORDS : goal.returns-then-s-gt-WORDS
 returns-then-s-gt-WORDS c = sym (refused-many _ c.if-s-gt-WORDS.true)
 
 pub returns-then-s-ne0 : goal.returns-then-s-ne0
-returns-then-s-ne0 c = sym (refused-spare _ c.if-s-gt-WORDS.false c.if-s-ne0.true)
-
-pub returns-then-not-all_proper : goal.returns-then-not-all_proper
-returns-then-not-all_proper c =
-    sym (refused-else _ c.if-s-gt-WORDS.false c.if-s-ne0.false ∙ rw (sym c.all_proper.ensures ∙ c.if-not-all_proper.true))
-
-pub returns-then-not-all_loose : goal.returns-then-not-all_loose
-returns-then-not-all_loose c =
-    sym (refused-else _ c.if-s-gt-WORDS.false c.if-s-ne0.false
-    ∙ rw (sym c.all_proper.ensures ∙ c.if-not-all_proper.false, sym c.all_loose.ensures ∙ c.if-not-all_loose.true))
+returns-then-s-ne0 c = elim c.then-s-ne0.branch [
+  | then-s-ne0-via-then-s-ne0 w ↦ sym (refused-spare _ c.if-s-gt-WORDS.false w.if-s-ne0.true)
+  | then-s-ne0-via-else-s-ne0+then-not-is_expression w ↦
+      sym (refused-else _ c.if-s-gt-WORDS.false w.if-s-ne0.false ∙ rw (sym w.is_expression.ensures ∙ w.if-not-is_expression.true))
+]
 
 pub returns : goal.returns
-returns c =
-    sym (refused-else _ c.if-s-gt-WORDS.false c.if-s-ne0.false
-    ∙ rw (sym c.all_proper.ensures ∙ c.if-not-all_proper.false, sym c.all_loose.ensures ∙ c.if-not-all_loose.false))
+returns c = sym (refused-else _ c.if-s-gt-WORDS.false c.if-s-ne0.false ∙ rw (sym c.is_expression.ensures ∙ c.if-not-is_expression.false))

@@ -1,26 +1,17 @@
--- The answers of `expression_accept::all_loose`.
-use mathlib.Core.Path.{sym, ◌∙◌}
+-- `expression_accept::all_loose` meets its contract: what the chain over the places answers. Assumes nothing.
+use mathlib.Core.Path.{refl, ◌∙◌}
 use mathlib.Core.List.{[]}
 use native.Mathlib.Omega.{arith}
 use borrow.Author.Rules.{rules}
+use borrow.Author.Tests.{tests}
+use Rattle.std.proofs.lemmas.Iterator.{YieldsList-from_range}
+use Rattle.sets.proofs.Chains.{all-chain}
 use Rattle.expression.specs.{Words.cubes_of, Expression.loose}
-use Rattle.sets.proofs.Places.{pairwise-stop, pairwise-on, pairwise-done}
+use Rattle.expression_accept.proofs.Accepting.{from_place, places-pairwise}
 use Rattle.expression_accept.proofs.all_loose.Goals as goal
-
-pub returns-then-not-is_loose_from : goal.returns-then-not-is_loose_from
-returns-then-not-is_loose_from c =
-    sym (pairwise-stop (cubes_of c.args.s.now) c.loop-i.i [] (omega arith) loose
-    (sym c.is_loose_from.ensures ∙ c.if-not-is_loose_from.true))
-    ∙ c.loop-i.invariant.1
-
-pub loop-i-preserved : goal.loop-i-preserved
-loop-i-preserved c = (
-  search rules,
-  sym (pairwise-on (cubes_of c.args.s.now) c.loop-i.i [] (omega arith) loose
-      (sym c.is_loose_from.ensures ∙ c.if-not-is_loose_from.false))
-      ∙ c.loop-i.invariant.1,
-)
 
 pub returns : goal.returns
 returns c =
-    sym (pairwise-done (cubes_of c.args.s.now) c.loop-i.i (omega arith) loose) ∙ c.loop-i.invariant.1
+    let f = cubes_of c.args.s.now in
+    all-chain (from_place loose [] f) c.all.new.self _ _ c.all.ensures.ran (YieldsList-from_range 0 c.number.result c.number.result refl (omega arith)) (λ x b q k. search (rules, tests))
+    ∙ places-pairwise loose [] f 0 c.number.result (omega (arith, c.number.ensures))

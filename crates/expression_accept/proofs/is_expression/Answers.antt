@@ -1,10 +1,10 @@
 -- `expression_accept::is_expression` meets its contract: what words hold is ascending. Assumes nothing.
-use mathlib.Core.Path.{sym, ◌∙◌}
-use Rattle.expression_accept.proofs.{Accepting.cubes-proper}
+use borrow.Author.Rules.{rules}
+use Rattle.expression_accept.proofs.Accepting.{cubes-proper}
 use Rattle.expression_accept.proofs.is_expression.Goals as goal
 
-pub returns-then-not-all_proper : goal.returns-then-not-all_proper
-returns-then-not-all_proper c = rw (cubes-proper _ ∙ sym c.all_proper.ensures ∙ c.if-not-all_proper.true)
+pub returns-then-all_proper : goal.returns-then-all_proper
+returns-then-all_proper c = rw cubes-proper (search rules)
 
-pub returns : goal.returns
-returns c = c.all_loose.ensures ∙ rw (cubes-proper _ ∙ sym c.all_proper.ensures ∙ c.if-not-all_proper.false)
+pub returns-else-all_proper : goal.returns-else-all_proper
+returns-else-all_proper c = rw cubes-proper (search rules)

@@ -1,12 +1,12 @@
 -- `expression_accept::is_loose` meets its contract. Assumes nothing.
-use mathlib.Core.Path.{sym, ◌∙◌}
+use borrow.Author.Rules.{rules}
 use Rattle.expression.specs.Expression.{loose}
 use Rattle.expression_accept.proofs.is_loose.Goals as goal
 
-pub returns-then-contains : goal.returns-then-contains
+pub returns-then-not-contains : goal.returns-then-not-contains
 unfolding loose
-returns-then-contains c = rw (sym c.contains.ensures ∙ c.if-contains.true)
+returns-then-not-contains c = search rules
 
-pub returns : goal.returns
+pub returns-else-not-contains : goal.returns-else-not-contains
 unfolding loose
-returns c = rw (sym c.contains.ensures ∙ c.if-contains.false, c.contains-2.ensures)
+returns-else-not-contains c = search rules
