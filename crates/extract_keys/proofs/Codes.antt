@@ -1,9 +1,9 @@
 -- The codes of parts: how the program makes them, and that they tell the part, its size and its place in cube order. Assumes nothing.
 use Prim.Native.Nat.{ℕ, ◌+◌, ◌*◌, ◌/◌, ◌%◌, ◌<◌, ◌≤◌}
-use mathlib.Core.Path.{◌≡◌, refl, sym}
+use mathlib.Core.Path.{◌≡◌, refl}
 use mathlib.Core.Bool.{true, ◌&&◌}
 use mathlib.Core.List.{List, [], ◌∷◌}
-use mathlib.Core.Option.{Option, none, some}
+use mathlib.Core.Option.{some}
 use native.Mathlib.Omega.{arith}
 use lib.Dec.{ltb}
 use lib.ListN.{length}
@@ -13,19 +13,11 @@ use Rattle.sets.specs.Sets.{asc, apart, insert, before, first_from}
 use Rattle.sets.proofs.{Sets.all-mem, Sets.mem-head, Sets.apart_out}
 use Rattle.sets.proofs.Truth.{both, clash, below, equal, beyond, compared}
 use Rattle.cube.specs.{Cube.width, Cube.lits, declared.Cube.Cube}
-use Rattle.cube.proofs.Lits.{lits-inside, first-inside}
+use Rattle.cube.proofs.Lits.{lits-inside}
 use Rattle.extract_laws.specs.Divisor.{small}
 use Rattle.extract_keys.specs.Keys.{part_code, part_of, size_at}
 
 -- ---- the code of a cube
-
--- a literal of a cube, or another number below twice the width, is below that
-pub from-below : (c : Cube) (l o r : ℕ) → o < 2 * width → some r ≡ or_else (first_from l (lits c)) (some o) → r < 2 * width
-from-below c l o r h e = go (first_from l (lits c)) refl
-  where
-    go : (f : Option ℕ) → first_from l (lits c) ≡ f → r < 2 * width
-    go none k = let i : r ≡ o = cc (rw k at e) in omega arith
-    go (some x) k = let i : r ≡ x = cc (rw k at e) in omega (arith, first-inside c l x (sym k))
 
 -- the first literal, then the next one or else the first again, make the code
 pub first_two : (a : List ℕ) (p q : ℕ) → asc a ≡ true → some p ≡ or_else (first_from 0 a) (some 0)

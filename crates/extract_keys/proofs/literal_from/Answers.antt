@@ -1,16 +1,6 @@
--- `extract_keys::literal_from` meets its contract. Assumes nothing.
-use mathlib.Core.Path.{sym, ◌∙◌, ap}
-use mathlib.Core.Option.{some}
-use Rattle.sets.specs.Lists.{or_else}
-use Rattle.cube.specs.Cube.{answer}
+-- `extract_keys::literal_from` meets its contract: a literal of a cube is below twice the width. Assumes nothing.
+use Rattle.cube.proofs.Lits.{first-inside}
 use Rattle.extract_keys.proofs.literal_from.Goals as goal
 
-pub returns-in-At : goal.returns-in-At
-returns-in-At c =
-    let o = some c.args.other in
-    ap (λ f. or_else (answer f) o) (sym c.in-At.is) ∙ ap (λ r. or_else r o) c.first_from-f.ensures
-
-pub returns-in-Nothing : goal.returns-in-Nothing
-returns-in-Nothing c =
-    let o = some c.args.other in
-    ap (λ f. or_else (answer f) o) (sym c.in-Nothing.is) ∙ ap (λ r. or_else r o) c.first_from-f.ensures
+pub returns-in-At-clause-below : goal.returns-in-At-clause-below
+returns-in-At-clause-below c _ = first-inside c.args.a c.args.l c.in-At.m.0 c.in-At.ensures
