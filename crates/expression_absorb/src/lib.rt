@@ -13,13 +13,7 @@ use cube::Cube;
 fn absorbs(d: Cube, c: Cube, earlier: bool) -> bool
     ensures { result ≡ (sub (lits d) (lits c) && (earlier || not (same (lits d) (lits c)))) }
 {
-    if !cube_sets::contains(c, d) {
-        return false;
-    }
-    if earlier {
-        return true;
-    }
-    !cube_sets::same(d, c)
+    cube_sets::contains(c, d) && (earlier || !cube_sets::same(d, c))
 }
 
 // Each cube that strictly contains another or equals an earlier one is dropped; the rest stand at the front in their order, and their number is returned.
@@ -29,20 +23,15 @@ fn absorb(s: &mut [u64]) -> usize
 {
     let n = expression::number(s);
     let mut kept = 0;
-    let mut i = 0;
-    'next: while i < n {
+    'next: for i in 0..n {
         let c = expression::cube_at(s, i);
-        let mut j = 0;
-        while j < n {
+        for j in 0..n {
             if absorbs(expression::cube_at(s, j), c, j < i) {
-                i += 1;
                 continue 'next;
             }
-            j += 1;
         }
         expression::put_cube(s, kept, c);
         kept += 1;
-        i += 1;
     }
     kept
 }
@@ -53,7 +42,5 @@ pub fn absorb_part(s: &mut [u64], a: usize, e: usize) -> usize
     ensures cubes { Placed s.old s.new a (absorbed (take (e - a) (drop a (cubes_of s.old)))) }
 {
     let p = expression::words_of(s, a, e);
-    let from = p.from;
-    let to = p.to;
-    absorb(&mut s[from..to])
+    absorb(&mut s[p.from..p.to])
 }

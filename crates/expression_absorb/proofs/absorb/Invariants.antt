@@ -3,7 +3,7 @@
 use mathlib.Core.Path.{◌≡◌}
 use mathlib.Core.Bool.{false, not, ◌&&◌, ◌||◌}
 use mathlib.Core.List.{[]}
-use Prim.Native.Nat.{ℕ, ◌≤◌, ◌<◌, ◌-◌}
+use Prim.Native.Nat.{ℕ, ◌<◌}
 use lib.Dec.{ltb}
 use lib.ListN.{length, get_or}
 use Rattle.sets.specs.Sets.{sub, same}
@@ -14,14 +14,8 @@ use Rattle.expression_absorb.proofs.absorb.Given as goal
 
 abbrev pub invariant-loop-j : goal.invariant-loop-j
 invariant-loop-j l =
-    (l.i ≡ l.initial.i) × (l.j ≤ l.n) × ((k : ℕ) → k < l.j → (sub (get_or (cubes_of l.s) k []) (lits l.c) && (ltb k l.i || not (same (get_or (cubes_of l.s) k []) (lits l.c)))) ≡ false)
-
-abbrev pub decreases-loop-j : goal.decreases-loop-j
-decreases-loop-j l = l.n - l.j
+    (k : ℕ) → k < l.j → (sub (get_or (cubes_of l.s) k []) (lits l.c) && (ltb k l.i || not (same (get_or (cubes_of l.s) k []) (lits l.c)))) ≡ false
 
 abbrev pub invariant-next : goal.invariant-next
 invariant-next l =
-    (l.n ≡ length (cubes_of l.initial.s)) × Stands (cubes_of l.initial.s) (cubes_of l.s) l.i l.kept × (spare_of l.s ≡ spare_of l.initial.s) × (length l.s ≡ length l.initial.s)
-
-abbrev pub decreases-next : goal.decreases-next
-decreases-next l = l.n - l.i
+    Stands (cubes_of l.initial.s) (cubes_of l.s) l.i l.kept × (spare_of l.s ≡ spare_of l.initial.s) × (length l.s ≡ length l.initial.s)
