@@ -1,14 +1,16 @@
 -- What the parts of the reading of a kind answer.
-use Rattle.std.specs.Prelude.{ℕ, Bool, cond, ◌||◌, List, [], ◌∷◌, eqb}
+use Rattle.std.specs.Prelude.{ℕ, Bool, cond, ◌||◌, List, [], ◌∷◌, eqb, Some, None}
+use Rattle.std.specs.Prelude as std
 use Rattle.std.proofs.Math.Option.{Option, none, some}
 use Rattle.sets.specs.Sets.{same}
-use Rattle.table_kinds.specs.declared.{Kind.Kind, Number.Number, Number.TheVariants.Of, Number.TheVariants.Missing}
+use Rattle.table_kinds.specs.declared.Kind.{Kind}
 use Rattle.table_kinds.specs.declared.Kind.TheVariants.{Inputs, Outputs, Products, Other}
 use Rattle.table_kinds.specs.Kinds.{with_number}
 
-abbrev pub number_in : Number → Option ℕ
-number_in (Of n) = some n
-number_in Missing = none
+-- the number that is read, where one is
+abbrev pub number_in : std.Option ℕ → Option ℕ
+number_in (Some n) = some n
+number_in None = none
 
 -- the kind that the letter b names, of a number
 unfoldable pub lettered : ℕ → Option ℕ → Kind

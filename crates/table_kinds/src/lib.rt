@@ -1,8 +1,7 @@
 // The kind of a line: what is left of it says that it is empty, a number named, the end, or another.
 #![tactic(auto)]
 
-ghost use Rattle.std.specs.Prelude.{◌≡◌, ◌||◌, ◌+◌, ◌≤◌};
-ghost use Rattle.sets.specs.Sets.{same};
+ghost use Rattle.std.specs.Prelude.{◌≡◌};
 ghost use Rattle.table_kinds.specs.Kinds.{number_of, argument, named, kind_of};
 ghost use Rattle.table_kinds.specs.Parts.{number_in, lettered, ends};
 
@@ -19,115 +18,72 @@ pub enum Kind {
     Other,
 }
 
-// A decimal number, where one is written.
-#[derive(Clone, Copy)]
-enum Number {
-    Of(u32),
-    Missing,
-}
-
-// Whether two byte strings are the same.
-fn equal(a: &[u8], b: &[u8]) -> bool
-    ensures { result ≡ same a.now b.now }
-{
-    if a.len() != b.len() {
-        return false;
-    }
-    let mut i = 0;
-    while i < a.len() {
-        if a[i] != b[i] {
-            return false;
-        }
-        i += 1;
-    }
-    true
-}
-
-fn digit(b: u8) -> u32
-    requires { 48 ≤ b }
-    ensures { result + 48 ≡ b }
-{
-    (b as u32) - 48
-}
-
 // The number of one to five digits and nothing else.
-fn decimal_of(t: &[u8]) -> Number
+fn decimal_of(t: &[u8]) -> Option<u32>
     ensures { number_in result ≡ number_of t.now }
 {
-    if t.len() == 0 || t.len() > DIGITS {
-        return Number::Missing;
+    if t.is_empty() || t.len() > DIGITS {
+        return None;
     }
-    let mut n: u32 = 0;
-    let mut i = 0;
-    while i < t.len() {
-        let b = t[i];
-        if b < b'0' || b > b'9' {
-            return Number::Missing;
+    let mut n = 0;
+    for &b in t {
+        if !b.is_ascii_digit() {
+            return None;
         }
-        n = 10 * n + digit(b);
-        i += 1;
+        n = 10 * n + u32::from(b - b'0');
     }
-    Number::Of(n)
+    Some(n)
 }
 
 // The number after one or more blanks.
-fn argument_of(t: &[u8]) -> Number
+#[tactic(auto, unfolding(crate::specs::Kinds::argument))]
+fn argument_of(t: &[u8]) -> Option<u32>
     ensures { number_in result ≡ argument t.now }
 {
-    let r = table_lines::trim_front(t);
-    if r.len() == t.len() {
-        return Number::Missing;
+    match t {
+        [b, ..] if table_lines::is_blank(*b) => decimal_of(table_lines::trim_front(t)),
+        _ => None,
     }
-    decimal_of(r)
 }
 
 // The kind that the letter b names, of a number.
-fn lettered(b: u8, a: Number) -> Kind
+#[tactic(auto, unfolding(crate::specs::Parts::lettered))]
+fn lettered(b: u8, a: Option<u32>) -> Kind
     ensures { result ≡ lettered b (number_in a) }
 {
-    let Number::Of(n) = a else {
-        return Kind::Other;
-    };
-    if b == b'i' {
-        return Kind::Inputs(n);
+    match (b, a) {
+        (b'i', Some(n)) => Kind::Inputs(n),
+        (b'o', Some(n)) => Kind::Outputs(n),
+        (b'p', Some(n)) => Kind::Products(n),
+        _ => Kind::Other,
     }
-    if b == b'o' {
-        return Kind::Outputs(n);
-    }
-    if b == b'p' {
-        return Kind::Products(n);
-    }
-    Kind::Other
 }
 
 // `.i`, `.o` or `.p` and a number.
+#[tactic(auto, unfolding(crate::specs::Kinds::named, crate::specs::Parts::lettered, sets::specs::Sets::same))]
 fn named_of(c: &[u8]) -> Kind
     ensures { result ≡ named c.now }
 {
-    if c.len() < 2 {
+    let [b'.', b, t @ ..] = c else {
         return Kind::Other;
-    }
-    if c[0] != b'.' {
-        return Kind::Other;
-    }
-    lettered(c[1], argument_of(&c[2..]))
+    };
+    lettered(*b, argument_of(t))
 }
 
 // `.e` or `.end`.
+#[tactic(auto, using(crate::proofs::Reading::same_is))]
 fn is_end(c: &[u8]) -> bool
     ensures { result ≡ ends c.now }
 {
-    if equal(c, b".e") {
-        return true;
-    }
-    equal(c, b".end")
+    c == b".e".as_slice() || c == b".end".as_slice()
 }
 
 // The kind of a line by itself.
+#[tactic(auto, unfolding(crate::specs::Kinds::kind_of))]
 pub fn kind_of(c: &[u8]) -> Kind
     ensures { result ≡ kind_of c.now }
 {
-    if c.len() == 0 {
+    if c.is_empty() {
         return Kind::Empty;
     }
     if is_end(c) {
