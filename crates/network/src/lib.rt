@@ -4,7 +4,7 @@
 ghost use Rattle.std.specs.Prelude.{◌≡◌, [], ◌+◌, min};
 ghost use Rattle.network.specs.Handed.{AllZero, Told, refuses, Carries};
 ghost use Rattle.sets.specs.Word.{largest};
-ghost use Rattle.network.specs.Held.{up_to, sized, number_at, place_at};
+ghost use Rattle.network.specs.Held.{sized, number_at, place_at};
 ghost use Rattle.network.specs.Parts.{held_in};
 
 use expression::Verdict;
@@ -56,67 +56,35 @@ pub struct Listed {
     pub order: [u32; MOST_VARIABLES],
 }
 
-const WORD_MOST: usize = sets::WORD_MOST as usize;
-
-// The sum, or the largest number where it is past that.
-fn sum(a: usize, b: usize) -> usize
-    ensures { result ≡ min (a + b) largest }
-{
-    if a > WORD_MOST - b {
-        return WORD_MOST;
-    }
-    a + b
-}
-
 // The number of the divisor at a place among the divisors.
 pub fn number_of(inputs: usize, place: usize) -> usize
     ensures { result ≡ min (number_at inputs place) largest }
 {
-    sum(inputs, place)
+    inputs.saturating_add(place)
 }
 
 // The place among the nodes of the divisor with a number.
 pub fn place_of(inputs: usize, outputs: usize, number: usize) -> usize
     ensures { result ≡ min (place_at inputs outputs number) largest }
 {
-    if number < inputs {
-        return outputs;
-    }
-    sum(outputs, number - inputs)
-}
-
-// Whether x is from 1 to the most.
-fn up_to(most: usize, x: usize) -> bool
-    ensures { result ≡ up_to most x }
-{
-    if x < 1 {
-        return false;
-    }
-    x <= most
+    outputs.saturating_add(number.saturating_sub(inputs))
 }
 
 // Whether the numbers of inputs, outputs, divisors and cubes are within the limits; where counts are too few, of those that there are.
 pub fn is_within(inputs: usize, outputs: usize, divisors: usize, counts: &[usize]) -> bool
     ensures { result ≡ sized (held_in inputs outputs divisors counts.now []) }
 {
-    if !up_to(MOST_INPUTS, inputs) {
-        return false;
-    }
-    if !up_to(MOST_OUTPUTS, outputs) {
-        return false;
-    }
-    if divisors > MOST_VARIABLES - inputs {
-        return false;
-    }
-    network_nodes::start(counts, outputs + divisors, MOST_CUBES + 1) <= MOST_CUBES
+    (1..=MOST_INPUTS).contains(&inputs)
+        && (1..=MOST_OUTPUTS).contains(&outputs)
+        && divisors <= MOST_VARIABLES - inputs
+        && network_nodes::start(counts, outputs + divisors, MOST_CUBES + 1) <= MOST_CUBES
 }
 
 // The same of a network.
 pub fn is_sized(n: Network) -> bool
     ensures { result ≡ sized n }
 {
-    let counts = n.counts;
-    is_within(n.inputs, n.outputs, n.divisors, &counts)
+    is_within(n.inputs, n.outputs, n.divisors, &n.counts)
 }
 
 // The network of zeros, handed back beside a refusal.
