@@ -1,4 +1,2 @@
-pub mod Texts
-pub mod Walking
-pub mod Turns
 pub mod Printing
+pub mod Texts
