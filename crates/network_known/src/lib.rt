@@ -2,6 +2,8 @@
 #![tactic(auto)]
 
 ghost use Rattle.std.specs.Prelude.{◌≡◌, ◌<◌};
+ghost use Rattle.sets.specs.Literal.{plain_of};
+ghost use Rattle.sets.specs.Sets.{mem};
 ghost use Rattle.cube.specs.Cube.{lits, joined, width};
 ghost use Rattle.expression.specs.Words.{cubes_of};
 ghost use Rattle.network_known.specs.Known.{signed, within};
@@ -20,6 +22,13 @@ pub fn within(f: &[u64], k: Cube, every: bool) -> bool
     } else {
         cubes.any(|c| cube_sets::contains(k, c))
     }
+}
+
+// Whether the plain literal of the variable v is there; of a number past the last variable none is.
+pub fn has_plain(c: Cube, v: usize) -> bool
+    ensures { result ≡ mem (plain_of v) (lits c) }
+{
+    v < VARIABLES && cube::has(c, cube::plain(Variable(v as u32)))
 }
 
 // The literal of the variable v that has value 1 where v has the value b.
