@@ -1,21 +1,22 @@
 -- Nodes put in cube order one after the other are those of the network in cube order. Assumes nothing.
-use Prim.Native.Nat.{ℕ, zero, suc, ◌+◌, ◌-◌, ◌<◌, ◌≤◌}
-use mathlib.Core.Path.{◌≡◌, refl, sym, ap, ◌∙◌, subst}
+use Prim.Native.Nat.{ℕ, ◌+◌, ◌-◌, ◌<◌, ◌≤◌}
+use mathlib.Core.Path.{◌≡◌, sym, ap, ◌∙◌, subst}
 use mathlib.Core.Bool.{true}
 use mathlib.Core.List.{List, [], ◌∷◌, map}
 use native.Mathlib.Omega.{arith}
 use lib.ListN.{length, get_or, take, drop, set, replicate, length-map, length-append, length-replicate}
 use lib.Seq.{take_all}
+use Rattle.std.proofs.lemmas.List.{take-map}
 use Rattle.sets.{specs.Lists.total, proofs.Rows.take_next, proofs.Rows.get_d_map}
 use Rattle.sets.proofs.Lists.{total-append, total-map, total-le, total-take-le}
 use Rattle.expression.specs.Words.{cubes_of, Placed, fitting}
 use Rattle.expression.specs.Expression.{sort}
 use Rattle.expression.proofs.Placing.{placed-as, placed-fitting, placed-sort}
-use Rattle.network_nodes.{specs.Nodes.cut, proofs.Cutting.cut-lengths}
+use Rattle.network_nodes.{proofs.Cutting.cut-lengths}
 use Rattle.network.specs.Held.{used, net_of, rules}
 use Rattle.network.specs.Handed.{flat, cube_slots, Shaped, LaidNodes, Holds}
 use Rattle.network.specs.Parts.{nodes_of, held_in, Limited}
-use Rattle.network.{specs.declared.Network.Network, proofs.Handing.flat-length, proofs.Parts.nodes-length, proofs.Parts.nodes-at}
+use Rattle.network.{specs.declared.Network.Network, proofs.Handing.flat-length, proofs.Parts.nodes-length}
 use Rattle.network.proofs.Holding.{nodes-held, rules-outputs, rules-divisors}
 use Rattle.network.proofs.Laying.{laid_more, laid-all, laid-holds}
 use Rattle.extract_laws.specs.Run.{in_order}
@@ -29,11 +30,6 @@ limited-room n z = record {
   slots = omega (arith, z.narrow, z.variables);
   cubes = omega (arith, z.cubes, z.shape.places, cut-lengths (used n) (cubes_of n.words) (omega (arith, z.cubes, z.shape.places)));
 }
-
-take-map : {A B : Type 0} (g : A → B) (i : ℕ) (l : List A) → take i (map g l) ≡ map g (take i l)
-take-map g zero l = refl
-take-map g (suc i) [] = refl
-take-map g (suc i) (x ∷ l) = ap (g x ∷◌) (take-map g i l)
 
 -- all places are there
 pub laid-places : {ws sizes : List ℕ} {at : ℕ} {gs : List (List (List ℕ))} → LaidNodes ws sizes at gs → at ≤ cube_slots → length (cubes_of ws) ≡ cube_slots
@@ -65,22 +61,19 @@ module _ (op : List (List ℕ) → List (List ℕ)) (fewer : (f : List (List ℕ
   nodes-few = omega (arith, total-map length op ns, total-le (λ g. length (op g)) length ns (λ g m. fewer g), r.cubes)
 
   module _ {ws sizes : List ℕ} {at i : ℕ} (l : LaidNodes ws sizes at (take i fs)) where
-    pub nodes-laid : e ≤ i → LaidNodes ws sizes at fs
-    nodes-laid h = laid-all {i = i} fs l (omega (arith, many))
+    pub nodes-laid : length ns ≤ i → LaidNodes ws sizes at fs
+    nodes-laid h = laid-all {i = i} fs l (omega (arith, many, kept))
 
-    module _ (h : i < e) {f : List (List ℕ)} (q : f ≡ get_or (cut counts (cubes_of words)) i []) where
-      node-was : f ≡ get_or ns i []
-      node-was = q ∙ sym (nodes-at counts words e i h)
-
+    module _ (h : i < length ns) {f : List (List ℕ)} (q : f ≡ get_or ns i []) where
       before : at + length f ≤ cube_slots
       before = omega (
         arith,
         l.place ∙ ap (total length) (take-map op i ns) ∙ total-map length op (take i ns),
         total-le (λ g. length (op g)) length (take i ns) (λ g m. fewer g),
-        ap length node-was,
-        ap (total length) (take_next ns i [] (omega (arith, kept))),
+        ap length q,
+        ap (total length) (take_next ns i [] h),
         total-append length (take i ns) (get_or ns i [] ∷ []),
-        total-take-le length ns (i + 1) e (omega arith),
+        total-take-le length ns (i + 1) e (omega (arith, kept)),
         ap (total length) (take_all e ns (omega (arith, kept))),
         r.cubes,
       )
@@ -93,8 +86,8 @@ module _ (op : List (List ℕ) → List (List ℕ)) (fewer : (f : List (List ℕ
       pub node-laid : {next : List ℕ} {n t : ℕ} → n ≡ length (op f) → at + n ≡ t → Placed ws next at (op f) → LaidNodes next (set sizes i n) t (take (i + 1) fs)
       node-laid {next} {n} k e p =
           subst (λ z. LaidNodes next (set sizes i n) z (take (i + 1) fs)) e
-          (laid_more {i = i} fs l (omega (arith, many)) (omega (arith, many, r.slots))
-          (ap op node-was ∙ sym (get_d_map op ns i [] [] (omega (arith, kept)))) k p)
+          (laid_more {i = i} fs l (omega (arith, many, kept)) (omega (arith, many, r.slots))
+          (ap op q ∙ sym (get_d_map op ns i [] [] h)) k p)
 
 -- a node copied and put in cube order
 pub sorted-copy : {ws mid next : List ℕ} {at n : ℕ} (f : List (List ℕ)) → n ≡ length f → at + length f ≤ length (cubes_of ws)

@@ -1,2 +1,3 @@
 pub mod Arranged
 pub mod Laid
+pub mod Numbered

@@ -1,41 +1,23 @@
 // Networks with their cubes in cube order.
 #![tactic(auto)]
 
-ghost use Rattle.std.specs.Prelude.{◌≡◌, map, ◌≤◌, length, replicate};
-ghost use Rattle.sets.specs.Lists.{all};
-ghost use Rattle.expression.specs.Expression.{ordered, sort};
+ghost use Rattle.std.specs.Prelude.{◌≡◌, map, ◌+◌, replicate};
+ghost use Rattle.expression.specs.Expression.{sort};
 ghost use Rattle.network.specs.Held.{net_of};
 ghost use Rattle.network.specs.Handed.{node_slots, word_slots, by_rules, Told};
-ghost use Rattle.network.specs.Parts.{nodes_of, held_in};
+ghost use Rattle.network.specs.Parts.{nodes_of, held_in, Limited};
 ghost use Rattle.extract_laws.specs.Run.{in_order};
 ghost use Rattle.extract_tidy.specs.Tidy.{arranged};
-ghost use Rattle.extract_tidy.specs.Parts.{Room, Laid};
+ghost use Rattle.extract_tidy.specs.Parts.{Laid};
 
 use expression::Verdict;
 use network::{Handed, Network};
-
-// Whether each of the first e nodes stands in cube order.
-fn all_ordered(words: &[u64], counts: &[usize], e: usize) -> bool
-    requires { e ≤ length counts.now }
-    ensures { result ≡ all ordered (nodes_of e counts.now words.now) }
-{
-    let mut i = 0;
-    while i < e {
-        if !expression_survey::is_ordered(network_nodes::node(words, counts, i)) {
-            return false;
-        }
-        i += 1;
-    }
-    true
-}
 
 // Whether the network is within the limits on inputs, outputs, variables and cubes, and each node stands in cube order.
 pub fn is_arranged(n: Network) -> bool
     ensures { result ≡ arranged n }
 {
-    let words = n.words;
-    let counts = n.counts;
-    are_arranged(n.inputs, n.outputs, n.divisors, &words, &counts)
+    are_arranged(n.inputs, n.outputs, n.divisors, &n.words, &n.counts)
 }
 
 // The same of lent words and counts; where they are too few, of the nodes and cubes that there are.
@@ -52,28 +34,27 @@ pub fn are_arranged(
         return false;
     }
     let e = outputs + divisors;
-    if counts.len() < e {
-        return all_ordered(words, counts, counts.len());
-    }
-    all_ordered(words, counts, e)
+    network_nodes::each(words, counts)
+        .take(e)
+        .all(|f| expression_survey::is_ordered(f))
 }
 
-// The first e nodes in cube order, one after the other, and their numbers of cubes.
-fn lay_nodes(words: &[u64], counts: &[usize], e: usize, out: &mut [u64], sizes: &mut [usize])
-    requires fact_1 { Room e counts.now words.now }
-    requires fact_2 { (out.old ≡ replicate word_slots 0) × (sizes.old ≡ replicate node_slots 0) }
-    ensures { Laid out.new sizes.new (map sort (nodes_of e counts.now words.now)) }
+// The nodes of n in cube order, one after the other, and their numbers of cubes.
+fn lay_nodes(n: &Network, words: &mut [u64], counts: &mut [usize])
+    requires limited { Limited n.now }
+    requires zeros { (words.old ≡ replicate word_slots 0) × (counts.old ≡ replicate node_slots 0) }
+    ensures { Laid words.new counts.new (map sort (nodes_of (n.now.outputs + n.now.divisors) n.now.counts n.now.words)) }
 {
     let mut at = 0;
-    let mut i = 0;
-    while i < e {
-        let f = network_nodes::node(words, counts, i);
-        let n = expression::number(f);
-        expression::copy(f, 0, n, out, at);
-        expression_sort::sort_part(out, at, at + n);
-        sizes[i] = n;
-        at += n;
-        i += 1;
+    for (i, f) in network_nodes::each(&n.words, &n.counts)
+        .take(n.outputs + n.divisors)
+        .enumerate()
+    {
+        let size = expression::number(f);
+        expression::copy(f, 0, size, words, at);
+        expression_sort::sort_part(words, at, at + size);
+        counts[i] = size;
+        at += size;
     }
 }
 
@@ -81,26 +62,11 @@ fn lay_nodes(words: &[u64], counts: &[usize], e: usize, out: &mut [u64], sizes: 
 pub fn in_order(n: Network) -> Handed
     ensures { Told (by_rules n (in_order (net_of n))) result }
 {
-    let answer = network_rules::judge(n);
-    let Verdict::Accepted = answer else {
+    let Verdict::Accepted = network_rules::judge(n) else {
         return network::refuse(10);
     };
-    let words = n.words;
-    let counts = n.counts;
-    let mut out = [0u64; network::WORD_SLOTS];
-    let mut sizes = [0usize; network::NODE_SLOTS];
-    lay_nodes(
-        &words,
-        &counts,
-        n.outputs + n.divisors,
-        &mut out,
-        &mut sizes,
-    );
-    network::hand(Network {
-        inputs: n.inputs,
-        outputs: n.outputs,
-        divisors: n.divisors,
-        counts: sizes,
-        words: out,
-    })
+    let mut words = [0u64; network::WORD_SLOTS];
+    let mut counts = [0usize; network::NODE_SLOTS];
+    lay_nodes(&n, &mut words, &mut counts);
+    network::hand(Network { words, counts, ..n })
 }
