@@ -69,6 +69,9 @@ module _ {n m k : ℕ} {words counts : List ℕ} {d : Divisor} (s : Ready n m k 
       next-number (nodes-held (held_in n m k counts words)))
 
   module _ {ws sizes : List ℕ} {t : ℕ} where
+    pub laid-as : {x : ℕ} → x ≡ 2 * (n + k) → LaidNodes ws sizes t (map (rewrite x (divisor_of d)) (nodes_of (m + k) counts words)) → LaidNodes ws sizes t rewritten
+    laid-as e l = rw e at l
+
     -- no more cubes than there are places
     pub laid-few : LaidNodes ws sizes t rewritten → t ≤ cube_slots
     laid-few l = omega (arith, l.place, nodes-few (rewrite (2 * (n + k)) (divisor_of d)) (rewrite-length (2 * (n + k)) (divisor_of d)) s.source.room)

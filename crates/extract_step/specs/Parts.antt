@@ -1,9 +1,8 @@
 -- What the parts of a step promise each other.
-use Rattle.std.specs.Prelude.{ℕ, ◌+◌, ◌*◌, ◌<◌, List, [], ◌∷◌}
+use Rattle.std.specs.Prelude.{ℕ, ◌+◌, ◌*◌, ◌<◌, List, Option, None, Some}
 use mathlib.Core.{Path.◌≡◌, Bool.true, Bool.cond}
-use Rattle.std.proofs.Math.Option.{Option, none, some}
 use Rattle.sets.specs.Lists.{all}
-use Rattle.cube.specs.{Cube.width, Cube.lits, declared.Literal.Literal}
+use Rattle.cube.specs.{Cube.width, declared.Literal.Literal}
 use Rattle.expression.specs.Expression.{ordered}
 use Rattle.network.specs.{Held.most_variables, Handed.node_slots, Parts.nodes_of}
 use Rattle.extract_laws.specs.Divisor.{Divisor, part, hit, gone, swap}
@@ -11,28 +10,12 @@ use Rattle.extract_tidy.specs.Parts.{Room}
 use Rattle.extract_divisor.specs.Divisor.{divisor_of}
 use Rattle.extract_divisor.specs.declared.Divisor as declared
 use Rattle.extract_fit.specs.Fitness.{fitting}
-use Rattle.extract_step.specs.declared.{Remade.Remade, Remade.TheVariants.Becomes, Remade.TheVariants.Goes}
 
 -- ---- the cubes of a node
 
 -- a use's cube takes the literal x in place of the part, the other cube of a use goes, and any other cube stays
 unfoldable pub fate : ℕ → Divisor → List (List ℕ) → List ℕ → Option (List ℕ)
-fate x d f c = cond (hit d f c) (some (swap x (part d) c)) (cond (gone d f c) none (some c))
-
-abbrev pub fate_of : Remade → Option (List ℕ)
-fate_of (Becomes c) = some (lits c)
-fate_of Goes = none
-
-module _ {A : Type 0} where
-  abbrev pub push : Option A → List A → List A
-  push none l = l
-  push (some x) l = x ∷ l
-
-module _ {A B : Type 0} where
-  -- what the elements become, those left out that become nothing
-  abbrev pub become : (A → Option B) → List A → List B
-  become g [] = []
-  become g (x ∷ l) = push (g x) (become g l)
+fate x d f c = cond (hit d f c) (Some (swap x (part d) c)) (cond (gone d f c) None (Some c))
 
 -- the divisor is fit, and x is a literal
 pub record Fitted (d : declared.Divisor) (x : Literal) : Type 0 where

@@ -2,6 +2,8 @@
 #![tactic(auto)]
 
 ghost use Rattle.std.specs.Prelude.{◌≡◌, true, [], map, ◌+◌, ◌≤◌, length, replicate};
+ghost use Rattle.std.specs.List.{filter_map};
+ghost use Rattle.std.specs.Option.{option_map};
 ghost use Rattle.cube.specs.Cube.{width, lits};
 ghost use Rattle.expression.specs.Words.{cubes_of, Appends};
 ghost use Rattle.expression.specs.Expression.{ordered};
@@ -12,7 +14,7 @@ ghost use Rattle.extract_laws.specs.Run.{room_for};
 ghost use Rattle.extract_divisor.specs.Divisor.{divisor_of};
 ghost use Rattle.extract_fit.specs.Fitness.{fitting};
 ghost use Rattle.extract_step.specs.Replace.{allowed, Zeros, Stepped, outcome_of, SteppedIn};
-ghost use Rattle.extract_step.specs.Parts.{fate, fate_of, become, Fitted, SourceNodes, Ready};
+ghost use Rattle.extract_step.specs.Parts.{fate, Fitted, SourceNodes, Ready};
 
 use cube::{Cube, Literal, Variable};
 use extract_divisor::Divisor;
@@ -35,48 +37,21 @@ pub struct Next {
     pub literals: u64,
 }
 
-// What becomes of a cube in a step.
+// A node in cube order, the divisor that a step takes, and the literal that takes the divisor's place.
 #[derive(Clone, Copy)]
-enum Remade {
-    Becomes(Cube),
-    Goes,
+struct Source<'a> {
+    cubes: &'a [u64],
+    divisor: Divisor,
+    literal: Literal,
+    ghost ordered: { ordered (cubes_of cubes.now) ≡ true },
+    ghost fit: { Fitted divisor literal },
 }
 
 // Whether c has both literals.
 fn has_pair(p: Literal, q: Literal, c: Cube) -> bool
     ensures { result ≡ hit (divisor_of (Divisor.Pair p q)) [] (lits c) }
 {
-    if !cube::has(c, p) {
-        return false;
-    }
-    cube::has(c, q)
-}
-
-// Whether c is the cube that a use is named by.
-fn is_hit(f: &[u64], d: Divisor, c: Cube) -> bool
-    requires { ordered (cubes_of f.now) ≡ true }
-    ensures { result ≡ hit (divisor_of d) (cubes_of f.now) (lits c) }
-{
-    match d {
-        Divisor::Pair(p, q) => has_pair(p, q, c),
-        Divisor::Sum(a, b) => extract_divisor::is_use(f, c, a, b),
-    }
-}
-
-// Whether a use takes c away: it is of a use by either part.
-fn is_gone(f: &[u64], d: Divisor, c: Cube) -> bool
-    requires { ordered (cubes_of f.now) ≡ true }
-    ensures { result ≡ gone (divisor_of d) (cubes_of f.now) (lits c) }
-{
-    match d {
-        Divisor::Pair(p, q) => has_pair(p, q, c),
-        Divisor::Sum(a, b) => {
-            if extract_divisor::is_use(f, c, a, b) {
-                return true;
-            }
-            extract_divisor::is_use(f, c, b, a)
-        }
-    }
+    cube::has(c, p) && cube::has(c, q)
 }
 
 // The part that a use is named by.
@@ -90,53 +65,68 @@ fn part_of(d: Divisor) -> Cube
     }
 }
 
-// A use's cube takes the literal x in place of the part, the other cube of a use goes, and any other cube stays.
-fn remake(f: &[u64], d: Divisor, x: Literal, c: Cube) -> Remade
-    requires { (ordered (cubes_of f.now) ≡ true) × Fitted d x }
-    ensures { fate_of result ≡ fate x.0 (divisor_of d) (cubes_of f.now) (lits c) }
-{
-    if is_hit(f, d, c) {
-        return Remade::Becomes(cube::with(cube_sets::without(c, part_of(d)), x));
+impl<'a> Source<'a> {
+    // Whether c is the cube that a use is named by.
+    fn is_hit(self, c: Cube) -> bool
+        ensures { result ≡ hit (divisor_of self.entry.divisor) (cubes_of self.entry.cubes.now) (lits c) }
+    {
+        match self.divisor {
+            Divisor::Pair(p, q) => has_pair(p, q, c),
+            Divisor::Sum(a, b) => extract_divisor::is_use(self.cubes, c, a, b),
+        }
     }
-    if is_gone(f, d, c) {
-        return Remade::Goes;
-    }
-    Remade::Becomes(c)
-}
 
-// What the cubes of f become, from place `at` on; the place after them.
-fn write_node(f: &[u64], d: Divisor, x: Literal, out: &mut [u64], at: usize) -> usize
-    requires fact_1 { (ordered (cubes_of f.now) ≡ true) × Fitted d x }
-    requires fact_2 { at + length (cubes_of f.now) ≤ length (cubes_of out.old) }
-    ensures { Appends out.old out.new
-        at (become (fate x.0 (divisor_of d) (cubes_of f.now)) (cubes_of f.now)) result }
-{
-    let n = expression::number(f);
-    let mut to = at;
-    let mut i = 0;
-    while i < n {
-        let t = remake(f, d, x, expression::cube_at(f, i));
-        i += 1;
-        let Remade::Becomes(c) = t else {
-            continue;
-        };
-        expression::put_cube(out, to, c);
-        to += 1;
+    // Whether a use takes c away: it is of a use by either part.
+    fn is_gone(self, c: Cube) -> bool
+        ensures { result ≡ gone (divisor_of self.entry.divisor) (cubes_of self.entry.cubes.now) (lits c) }
+    {
+        match self.divisor {
+            Divisor::Pair(p, q) => has_pair(p, q, c),
+            Divisor::Sum(a, b) => {
+                extract_divisor::is_use(self.cubes, c, a, b)
+                    || extract_divisor::is_use(self.cubes, c, b, a)
+            }
+        }
     }
-    to
-}
 
-// The same, in cube order.
-fn put_node(f: &[u64], d: Divisor, x: Literal, out: &mut [u64], at: usize) -> usize
-    requires fact_1 { (ordered (cubes_of f.now) ≡ true) × Fitted d x }
-    requires fact_2 { at + length (cubes_of f.now) ≤ length (cubes_of out.old) }
-    ensures { Appends out.old out.new at (rewrite x.0 (divisor_of d) (cubes_of f.now)) result }
-{
-    let to = write_node(f, d, x, out, at);
-    if !expression_survey::is_ordered(expression::part(out, at, to)) {
-        expression_sort::sort_part(out, at, to);
+    // A use's cube takes the literal in place of the part, the other cube of a use goes, and any other cube stays.
+    fn remake(self, c: Cube) -> Option<Cube>
+        ensures { option_map lits result ≡ fate self.entry.literal.0 (divisor_of self.entry.divisor) (cubes_of self.entry.cubes.now) (lits c) }
+    {
+        if self.is_hit(c) {
+            let base = cube_sets::without(c, part_of(self.divisor));
+            return Some(cube::with(base, self.literal));
+        }
+        if self.is_gone(c) { None } else { Some(c) }
     }
-    to
+
+    // What the cubes become, from place `at` on; the place after them.
+    fn write(self, out: &mut [u64], at: usize) -> usize
+        requires { at + length (cubes_of self.cubes.now) ≤ length (cubes_of out.old) }
+        ensures { Appends out.old out.new at
+            (filter_map (fate self.entry.literal.0 (divisor_of self.entry.divisor) (cubes_of self.entry.cubes.now)) (cubes_of self.entry.cubes.now)) result }
+    {
+        let mut to = at;
+        for c in expression::each(self.cubes) {
+            if let Some(left) = self.remake(c) {
+                expression::put_cube(out, to, left);
+                to += 1;
+            }
+        }
+        to
+    }
+
+    // The same, in cube order.
+    fn put(self, out: &mut [u64], at: usize) -> usize
+        requires { at + length (cubes_of self.cubes.now) ≤ length (cubes_of out.old) }
+        ensures { Appends out.old out.new at (rewrite self.entry.literal.0 (divisor_of self.entry.divisor) (cubes_of self.entry.cubes.now)) result }
+    {
+        let to = self.write(out, at);
+        if !expression_survey::is_ordered(expression::part(out, at, to)) {
+            expression_sort::sort_part(out, at, to);
+        }
+        to
+    }
 }
 
 // The first e nodes rewritten, one after the other, and their numbers of cubes; the place after them.
@@ -149,18 +139,22 @@ fn put_nodes(
     out: &mut [u64],
     sizes: &mut [usize],
 ) -> usize
-    requires fact_1 { SourceNodes words.now counts.now e × Fitted d x }
-    requires fact_2 { (out.old ≡ replicate word_slots 0) × (sizes.old ≡ replicate node_slots 0) }
+    requires source { SourceNodes words.now counts.now e }
+    requires fit { Fitted d x }
+    requires zeros { (out.old ≡ replicate word_slots 0) × (sizes.old ≡ replicate node_slots 0) }
     ensures { LaidNodes out.new sizes.new result
         (map (rewrite x.0 (divisor_of d)) (nodes_of e counts.now words.now)) }
 {
     let mut to = 0;
-    let mut i = 0;
-    while i < e {
-        let next = put_node(network_nodes::node(words, counts, i), d, x, out, to);
+    for (i, cubes) in network_nodes::each(words, counts).take(e).enumerate() {
+        let source = Source {
+            cubes,
+            divisor: d,
+            literal: x,
+        };
+        let next = source.put(out, to);
         sizes[i] = next - to;
         to = next;
-        i += 1;
     }
     to
 }
@@ -243,9 +237,7 @@ fn made(words: &[u64], counts: &[usize], n: usize, m: usize, k: usize, d: Diviso
 pub fn step(n: Network, d: Divisor) -> Next
     ensures { Stepped n (outcome_of n d) result }
 {
-    let words = n.words;
-    let counts = n.counts;
-    step_in(n.inputs, n.outputs, n.divisors, &words, &counts, d)
+    step_in(n.inputs, n.outputs, n.divisors, &n.words, &n.counts, d)
 }
 
 // The same of lent words and counts; unfit where they are not as many as a network has.

@@ -1,12 +1,13 @@
 -- `extract_step::has_pair` meets its contract: it asks for one literal, then for the other. Assumes nothing.
-use mathlib.Core.{Path.sym, Path.◌∙◌, Bool.and-true}
+use Rattle.std.proofs.Common.{arith}
+use Rattle.std.proofs.lemmas.Grind.{common_steps}
 use Rattle.sets.specs.Sets.{sub}
 use Rattle.extract_step.proofs.has_pair.Goals as goal
 
-pub returns-then-not-has : goal.returns-then-not-has
+pub returns-then-has : goal.returns-then-has
 unfolding sub
-returns-then-not-has c = rw (sym c.has.ensures ∙ c.if-not-has.true)
+returns-then-has c = grind (arith, common_steps)
 
-pub returns : goal.returns
+pub returns-else-has : goal.returns-else-has
 unfolding sub
-returns c = rw (sym c.has.ensures ∙ c.if-not-has.false, and-true) c.has-2.ensures
+returns-else-has c = grind (arith, common_steps)

@@ -1,5 +1,5 @@
 -- `extract_step::made` meets its contract: the nodes are laid rewritten, and the divisor's own after them where there is room. Assumes nothing.
-use Prim.Native.Nat.{◌+◌, ◌-◌, ◌*◌, ◌≤◌}
+use Prim.Native.Nat.{◌+◌, ◌-◌, ◌≤◌}
 use mathlib.Core.Path.{◌≡◌, refl, ap, ◌∙◌}
 use native.Mathlib.Omega.{arith}
 use lib.ListN.{set}
@@ -7,40 +7,42 @@ use Rattle.expression.specs.Answers.{capped}
 use Rattle.network.specs.Net.{nodes, cube_count, literal_count}
 use Rattle.network.specs.{Held.most_cubes, Handed.LaidNodes}
 use Rattle.extract_tidy.proofs.Laid.{laid-places}
-use Rattle.extract_step.proofs.Answering.{after, rewritten, next-number, laid-few, laid-count, laid-literals, step-laid, step-held}
+use Rattle.extract_step.proofs.Answering.{after, rewritten, next-number, laid-as, laid-few, laid-count, laid-literals, step-laid, step-held}
 use Rattle.extract_step.proofs.Answering.{room-rows, room-over, room-literals, room-made}
 use Rattle.extract_step.proofs.made.Goals as goal
-use Rattle.extract_step.proofs.made.Goals.{After-literals-literals, After-plain-x, After-put_nodes-to, After-put_own-end}
+use Rattle.extract_step.proofs.made.Goals.{After-literals-literals, After-put_nodes-to, After-put_own-end}
 
 -- ---- what holds there
--- the new literal is the plain one of the next free number
-literal : (c : After-plain-x) → c.plain-x.result.0 ≡ 2 * (c.args.n + c.args.k)
-literal c = omega (arith, c.plain-x.ensures, c.requires.number)
 
-laid : (c : After-put_nodes-to)
-    → LaidNodes c.put_nodes-to.new.out c.put_nodes-to.new.sizes c.put_nodes-to.result (rewritten c.requires)
-laid c = rw ((let it : c.plain-x.result.0 ≡ 2 * (c.args.n + c.args.k) = omega (arith, c.plain-x.ensures, c.requires.number) in it)) at c.put_nodes-to.ensures
+-- the nodes rewritten by the plain literal of the next free number
+laid : (c : After-put_nodes-to) → LaidNodes c.put_nodes-to.new.out c.put_nodes-to.new.sizes c.put_nodes-to.result (rewritten c.requires)
+laid c = laid-as c.requires (omega (arith, c.plain-x.ensures, c.requires.number)) c.put_nodes-to.ensures
 
 -- the divisor's own node stands after the others
 whole : (w : After-put_own-end) → let a = w.args in
     LaidNodes w.put_own-end.new.out (set w.put_nodes-to.new.sizes (a.m + a.k) (w.put_own-end.result - w.put_nodes-to.result))
     w.put_own-end.result (nodes (after w.requires))
-whole w = step-laid w.requires ((let it : LaidNodes w.put_nodes-to.new.out w.put_nodes-to.new.sizes w.put_nodes-to.result (rewritten w.requires) = rw ((let it : w.plain-x.result.0 ≡ 2 * (w.args.n + w.args.k) = omega (arith, w.plain-x.ensures, w.requires.number) in it)) at w.put_nodes-to.ensures in it)) w.put_own-end.ensures
+whole w = step-laid w.requires (laid-as w.requires (omega (arith, w.plain-x.ensures, w.requires.number)) w.put_nodes-to.ensures) w.put_own-end.ensures
 
 rows : (w : After-put_own-end) → cube_count (after w.requires) ≤ most_cubes
 rows w =
     let r = w.requires in
-    omega (arith, laid-count r ((let it : LaidNodes w.put_nodes-to.new.out w.put_nodes-to.new.sizes w.put_nodes-to.result (rewritten w.requires) = rw ((let it : w.plain-x.result.0 ≡ 2 * (w.args.n + w.args.k) = omega (arith, w.plain-x.ensures, w.requires.number) in it)) at w.put_nodes-to.ensures in it)), w.own_size.ensures, laid-few r ((let it : LaidNodes w.put_nodes-to.new.out w.put_nodes-to.new.sizes w.put_nodes-to.result (rewritten w.requires) = rw ((let it : w.plain-x.result.0 ≡ 2 * (w.args.n + w.args.k) = omega (arith, w.plain-x.ensures, w.requires.number) in it)) at w.put_nodes-to.ensures in it)))
+    let l = laid-as r (omega (arith, w.plain-x.ensures, r.number)) w.put_nodes-to.ensures in
+    omega (arith, laid-count r l, w.own_size.ensures, laid-few r l)
 
 counted : (c : After-literals-literals) → c.literals-literals.result ≡ capped (literal_count (after c.requires))
-counted c = c.literals-literals.ensures ∙ ap capped (laid-literals c.requires ((let it : let a = c.args in LaidNodes c.put_own-end.new.out (set c.put_nodes-to.new.sizes (a.m + a.k) (c.put_own-end.result - c.put_nodes-to.result)) c.put_own-end.result (nodes (after c.requires)) = step-laid c.requires ((let it : LaidNodes c.put_nodes-to.new.out c.put_nodes-to.new.sizes c.put_nodes-to.result (rewritten c.requires) = rw ((let it : c.plain-x.result.0 ≡ 2 * (c.args.n + c.args.k) = omega (arith, c.plain-x.ensures, c.requires.number) in it)) at c.put_nodes-to.ensures in it)) c.put_own-end.ensures in it)) c.part.ensures.0)
+counted c =
+    let r = c.requires in
+    let l = laid-as r (omega (arith, c.plain-x.ensures, r.number)) c.put_nodes-to.ensures in
+    c.literals-literals.ensures ∙ ap capped (laid-literals r (step-laid r l c.put_own-end.ensures) c.part.ensures.0)
 
 pub put_nodes-to-requires : goal.put_nodes-to-requires
 put_nodes-to-requires c =
     let r = c.requires in
     record {
-      fact_1 = (r.source, record { divisor = r.divisor; literal = omega (arith, literal (goal.at.put_nodes-to-requires c).After-plain-x, r.number) });
-      fact_2 = (refl, refl);
+      source = r.source;
+      fit = record { divisor = r.divisor; literal = omega (arith, c.plain-x.ensures, r.number) };
+      zeros = (refl, refl);
     }
 
 pub overflow_sub-to : goal.overflow_sub-to
