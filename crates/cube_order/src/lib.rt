@@ -96,7 +96,7 @@ pub fn compare(a: Cube, b: Cube) -> Order
 }
 
 // The literals of a cube in turn, the smallest first.
-#[derive(Drop)]
+#[derive(Clone, Copy)]
 pub struct Literals {
     rest: Cube,
 }

@@ -1,15 +1,15 @@
 -- Gains that rise or fall together, one amount after the other; the amounts of a cube's pairs, and of two cubes. Assumes nothing.
-use Prim.Native.Nat.{ℕ, ◌+◌, ◌*◌, ◌-◌, ◌<◌, ◌≤◌}
+use Prim.Native.Nat.{ℕ, ◌+◌, ◌*◌, ◌-◌, ◌<◌}
 use mathlib.Core.Path.{◌≡◌, refl, ap, ◌∙◌}
 use mathlib.Core.Logic.{inl, inr}
 use mathlib.Core.Bool.{Bool, true, false, cond}
 use mathlib.Core.List.{List, [], ◌∷◌, map}
 use native.Mathlib.Omega.{arith}
 use lib.Dec.{eqb, ltb}
-use lib.ListN.{length, drop, get_or, drop_of_length-le}
-use borrow.Author.Tests.{lt-ltb, le-ltb, ltb-true}
+use lib.ListN.{length}
+use borrow.Author.Tests.{lt-ltb, ltb-true}
 use Rattle.sets.specs.{Lists.all, Lists.total, Sets.meet, Sets.without, Sets.before}
-use Rattle.sets.proofs.{Truth.both, Truth.decided, Lists.total-append, Lists.total-map, Sets.all-mem, Places.drop-next}
+use Rattle.sets.proofs.{Truth.both, Truth.decided, Lists.total-append, Lists.total-map, Sets.all-mem, Sets.mem-head}
 use Rattle.cube.{specs.Cube.width, specs.Cube.lits, specs.declared.Cube.Cube}
 use Rattle.cube.proofs.Lits.{lits-asc, lits-inside}
 use Rattle.extract_laws.specs.Divisor.{Divisor, pair, small}
@@ -63,8 +63,8 @@ pub record Due (up : Bool) (t g u h : List ℕ) (rest whole : ℕ → ℕ) : Typ
   sums : (k : ℕ) → done k + rest k ≡ whole k
 
 -- at first all of it is
-pub due_all : (up : Bool) (t g : List ℕ) (whole : ℕ → ℕ) → Due up t g t g whole whole
-due_all up t g whole = record { done = λ k. 0; counts = counts-none up t g; sums = λ k. omega arith }
+pub due_all : (up : Bool) (t g : List ℕ) {rest whole : ℕ → ℕ} → ((k : ℕ) → rest k ≡ whole k) → Due up t g t g rest whole
+due_all up t g e = record { done = λ k. 0; counts = counts-none up t g; sums = λ k. omega (arith, e k) }
 
 -- the next part is counted
 pub due-next : {up : Bool} {t g u h v i : List ℕ} {rest left whole : ℕ → ℕ} (by : ℕ → ℕ) → Due up t g u h rest whole
@@ -80,6 +80,10 @@ pub due-done : {up : Bool} {t g u h : List ℕ} {rest whole : ℕ → ℕ} → D
 due-done {up} d e = counts-as up (λ k. omega (arith, d.sums k, e k)) d.counts
 
 -- ---- the pairs of a cube
+
+-- the first literal of a cube
+pub led-inside : (c : Cube) {x : ℕ} {l : List ℕ} → lits c ≡ x ∷ l → x < 2 * width
+led-inside c {x} {l} e = lits-inside c x (rw e (mem-head x l))
 
 module _ (k : ℕ) where
   -- the pairs of one literal and each of some others
@@ -102,35 +106,22 @@ module _ (k : ℕ) where
       let f : Divisor → ℕ = λ x. cond (eqb k (key_of x)) 1 0 in
       rw e (total-append f (map (pair p) d) (pairs_in d) ∙ ap (◌+ total f (pairs_in d)) (total-map f (pair p) d))
 
-  -- ---- a cube and others, from a place on
+  -- ---- a cube and others
 
-  pub row-none : (c : List ℕ) (f : List (List ℕ)) (i : ℕ) → length f ≤ i → row_gain k c (drop i f) ≡ 0
+  pub row-none : (c : List ℕ) {f : List (List ℕ)} → f ≡ [] → row_gain k c f ≡ 0
   unfolding row_gain
-  row-none c f i h = rw (drop_of_length-le f h)
+  row-none c e = rw e
 
-  pub row_next : (c : List ℕ) (f : List (List ℕ)) (i : ℕ) {d : List ℕ} → i < length f → d ≡ get_or f i []
-      → row_gain k c (drop i f) ≡ two_gain k c d + row_gain k c (drop (i + 1) f)
+  pub row_next : (c : List ℕ) {d : List ℕ} {f g : List (List ℕ)} → f ≡ d ∷ g → row_gain k c f ≡ two_gain k c d + row_gain k c g
   unfolding row_gain
-  row_next c f i h e = rw (drop-next f i [] h, e)
+  row_next c e = rw e
 
--- ---- one or two literals
-
-module _ (a : List ℕ) (n : ℕ) (e : n ≡ length a) where
-  -- what the tests of its length answer
-  pub small-none : n < 1 → false ≡ small a
-  unfolding small
-  small-none h = rw (le-ltb 0 (length a) (omega arith))
-
-  pub small-some : 1 ≤ n → ltb n 3 ≡ small a
-  unfolding small
-  small-some h = rw (lt-ltb 0 (length a) (omega arith), ← e)
-
-  -- what is known of a small part
-  pub small-out : small a ≡ true → (0 < n) × (n < 3)
-  unfolding small
-  small-out h =
-      let q = both (ltb 0 (length a)) (ltb (length a) 3) h in
-      (omega (arith, ltb-true 0 (length a) q.0), omega (arith, ltb-true (length a) 3 q.1))
+-- what is known of a small part
+pub small-out : (a : List ℕ) (n : ℕ) → n ≡ length a → small a ≡ true → (0 < n) × (n < 3)
+unfolding small
+small-out a n e h =
+    let q = both (ltb 0 (length a)) (ltb (length a) 3) h in
+    (omega (arith, ltb-true 0 (length a) q.0), omega (arith, ltb-true (length a) 3 q.1))
 
 -- ---- two cubes
 

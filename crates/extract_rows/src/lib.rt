@@ -9,7 +9,8 @@ ghost use Rattle.extract_gains.specs.Gains.{only};
 ghost use Rattle.extract_counts.specs.Counts.{pairs_gain, two_gain, row_gain};
 ghost use Rattle.extract_rows.specs.Parts.{Counts, pairs_with};
 
-use cube::{Cube, Found, Literal};
+use cube::{Cube, Literal};
+use cube_order::Literals;
 
 const TABLE_WORDS: usize = extract_gains::TABLE_WORDS;
 
@@ -28,24 +29,18 @@ fn count_use(t: &mut [u32; TABLE_WORDS], g: &mut [u16; MOST_ENTRIES], up: bool, 
     }
 }
 
-// The pairs of p and a literal of c.
+// The pairs of p and each of some others.
 fn count_pairs_of(
     t: &mut [u32; TABLE_WORDS],
     g: &mut [u16; MOST_ENTRIES],
     up: bool,
     p: Literal,
-    c: Cube,
+    others: Literals,
 )
     requires { p.0 < 2 * width }
-    ensures { Counts up t.old g.old t.new g.new (λ k. pairs_with k p.0 (lits c)) }
+    ensures { Counts up t.old g.old t.new g.new (λ k. pairs_with k p.0 (lits others.rest)) }
 {
-    let mut rest = c;
-    loop {
-        let found = cube_order::first_from(rest, Literal(0));
-        let Found::At(q) = found else {
-            return;
-        };
-        rest = cube_sets::without(rest, cube::with(cube::empty(), q));
+    for q in others {
         count_use(t, g, up, extract_keys::pair_key(p, q), 1);
     }
 }
@@ -54,26 +49,19 @@ fn count_pairs_of(
 pub fn count_pairs(t: &mut [u32; TABLE_WORDS], g: &mut [u16; MOST_ENTRIES], up: bool, c: Cube)
     ensures { Counts up t.old g.old t.new g.new (λ k. pairs_gain k (lits c)) }
 {
-    let mut rest = c;
-    loop {
-        let found = cube_order::first_from(rest, Literal(0));
-        let Found::At(p) = found else {
-            return;
-        };
-        rest = cube_sets::without(rest, cube::with(cube::empty(), p));
+    let mut rest = cube_order::each(c);
+    // No `for`: each turn needs those that are left.
+    while let Some(p) = rest.next() {
         count_pairs_of(t, g, up, p, rest);
     }
 }
 
 // One or two literals.
+#[tactic(auto, unfolding(extract_laws::specs::Divisor::small))]
 fn is_small(a: Cube) -> bool
     ensures { result ≡ small (lits a) }
 {
-    let n = cube_sets::count(a);
-    if n < 1 {
-        return false;
-    }
-    n < 3
+    matches!(cube_sets::count(a), 1 | 2)
 }
 
 // Two cubes of one node are partners where each has one or two literals that the other lacks: a use of their sum, which gains the
@@ -105,11 +93,8 @@ pub fn count_row(
     ensures { Counts up t.old g.old t.new g.new
         (λ k. row_gain k (lits c) (cubes_of s.now)) }
 {
-    let n = expression::number(s);
-    let mut i = 0;
-    while i < n {
-        count_two(t, g, up, c, expression::cube_at(s, i));
-        i += 1;
+    for d in expression::each(s) {
+        count_two(t, g, up, c, d);
     }
 }
 

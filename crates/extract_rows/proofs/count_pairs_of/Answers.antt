@@ -1,33 +1,18 @@
 -- The answers of `extract_rows::count_pairs_of`.
-use mathlib.Core.Path.{◌≡◌, ap, ◌∙◌}
-use mathlib.Core.List.{◌∷◌}
-use native.Mathlib.Omega.{arith}
-use lib.ListN.{length}
-use Rattle.cube.specs.Cube.{lits}
-use Rattle.cube_order.proofs.Taking.{taken_none, taken-small, taken_next}
+use mathlib.Core.{Path.ap, Path.◌∙◌}
+use Rattle.cube_order.proofs.Chains.{left}
 use Rattle.extract_keys.proofs.Keys.{pair-key-of}
-use Rattle.extract_rows.proofs.Counting.{due_all, due-next, due-done, with_none, with-next}
+use Rattle.extract_rows.specs.Parts.{pairs_with}
+use Rattle.extract_rows.proofs.Counting.{due_all, due-next, due-done, led-inside, with_none, with-next}
 use Rattle.extract_rows.proofs.count_pairs_of.Goals as goal
-use Rattle.extract_rows.proofs.count_pairs_of.Goals.{After-count_use}
 
 pub loop-q-init : goal.loop-q-init
-loop-q-init c = due_all _ _ _ _
-
-pub returns-in_default : goal.returns-in_default
-returns-in_default c =
-    due-done c.loop-q.invariant (λ k. with_none k _ (taken_none _ c.first_from-found.ensures c.in_default.is))
-
--- the literal found and the others
-others : (c : After-count_use)
-    → lits c.loop-q.rest ≡ c.in-At.q.0 ∷ lits c.without-rest.result
-others c =
-    taken_next _ c.first_from-found.ensures c.in-At.is c.empty.ensures c.with.ensures
-    c.without-rest.ensures
-
-pub loop-q-smaller : goal.loop-q-smaller
-loop-q-smaller c = omega (arith, ap length (others c))
+loop-q-init c = due_all _ _ _ (λ k. ap (λ s. pairs_with k c.args.p.0 (left s)) c.into_iter-q-iterator.ensures.into_iter_gives)
 
 pub loop-q-preserved : goal.loop-q-preserved
 loop-q-preserved c =
-    let e = pair-key-of _ _ c.requires (taken-small _ c.first_from-found.ensures c.in-At.is) in
-    due-next _ c.loop-q.invariant c.count_use.ensures (λ k. with-next k _ (others c) (c.pair_key.ensures ∙ e))
+    let e = pair-key-of _ _ c.requires (led-inside _ c.in-Some.ensures.steps) in
+    due-next _ c.loop-q.invariant c.count_use.ensures (λ k. with-next k _ c.in-Some.ensures.steps (c.pair_key.ensures ∙ e))
+
+pub returns : goal.returns
+returns c = due-done c.loop-q.invariant (λ k. with_none k _ c.in-None.ensures.steps.0)

@@ -1,17 +1,18 @@
 -- The answers of `extract_rows::count_row`.
-use native.Mathlib.Omega.{arith}
+use mathlib.Core.Path.{ap, ◌∙◌}
+use Rattle.cube.specs.Cube.{lits}
+use Rattle.expression.specs.Words.{cubes_of}
+use Rattle.expression.proofs.Chains.{left}
+use Rattle.extract_counts.specs.Counts.{row_gain}
 use Rattle.extract_rows.proofs.Counting.{due_all, due-next, due-done, row-none, row_next}
 use Rattle.extract_rows.proofs.count_row.Goals as goal
 
-pub loop-i-init : goal.loop-i-init
-loop-i-init c = (omega arith, due_all _ _ _ _)
+pub loop-d-init : goal.loop-d-init
+loop-d-init c =
+    due_all _ _ _ (λ k. ap (row_gain k (lits c.args.c)) (ap left c.into_iter-d-iterator.ensures.into_iter_gives ∙ ap cubes_of c.each-d-items.ensures))
 
-pub loop-i-preserved : goal.loop-i-preserved
-loop-i-preserved c = (
-  omega arith,
-  due-next _ c.loop-i.invariant.1 c.count_two.ensures (λ k. row_next k _ _ c.loop-i.i
-      (omega (arith, c.number-n.ensures)) c.cube_at.ensures),
-)
+pub loop-d-preserved : goal.loop-d-preserved
+loop-d-preserved c = due-next _ c.loop-d.invariant c.count_two.ensures (λ k. row_next k _ c.in-Some.ensures.steps)
 
 pub returns : goal.returns
-returns c = due-done c.loop-i.invariant.1 (λ k. row-none k _ _ c.loop-i.i (omega (arith, c.number-n.ensures)))
+returns c = due-done c.loop-d.invariant (λ k. row-none k _ c.in-None.ensures.steps.0)
