@@ -5,11 +5,10 @@ use mathlib.Core.Bool.{Bool, ◌&&◌, and-true, and_assoc}
 use mathlib.Core.List.{List, [], ◌∷◌, ◌++◌, map, map-append}
 use native.Mathlib.Omega.{arith}
 use lib.Dec.{leb}
-use lib.ListN.{length, drop, set, length-append, length-map, length-set}
-use lib.Seq.{sets}
+use lib.ListN.{length, take, drop, set, length-append, length-map, length-set}
 use borrow.Author.Rules.{rules}
 use borrow.Author.Tests.{le-leb, lt-leb}
-use Rattle.sets.{specs.Lists.all, specs.Sets.asc, specs.Sets.proper, proofs.Lists.all_append, proofs.Lists.total-append, proofs.Rows.sets-append}
+use Rattle.sets.{specs.Lists.all, specs.Sets.asc, specs.Sets.proper, proofs.Lists.all_append, proofs.Lists.total-append}
 use Rattle.cube.specs.Cube.{lits}
 use Rattle.expression.specs.Words.{Put, Placed}
 use Rattle.expression.proofs.Placing.{placed-none, placed-as, put-placed, placed-then}
@@ -17,9 +16,9 @@ use Rattle.network.{specs.Handed.flat, proofs.Handing.flat-last, specs.Held.most
 use Rattle.image_laws.specs.Widths.{edition1, most_cube_bits, most_cubes_bits, most_node_bits}
 use Rattle.image_laws.specs.Reading.{Parsed, bad, get_many, get_cube, get_node}
 use Rattle.image_read.specs.Parts.{FieldIs, set_of, CubeGot, added, GrowsBy, Gathered, CubesGot, CubesAre, NodesGot}
-use Rattle.image_read.specs.declared.fields.Field.TheVariants.{Value, Cut}
-use Rattle.image_read.specs.declared.{fields.Taken.Taken, nodes.State.State, nodes.Step.Step}
-use Rattle.image_read.specs.declared.nodes.Step.TheVariants.{On, Bad}
+use Rattle.std.proofs.Common.{Some, None, Result, Ok, Err}
+use Rattle.std.proofs.{lemmas.List.take_more_set, Math.Seq.take-length}
+use Rattle.image_read.specs.declared.{fields.Taken.Taken, nodes.State.State, Fault.Fault}
 use Rattle.image_read.proofs.Fielding.{field_cut, field-bad, field-got}
 use Rattle.image_read.proofs.Going.{Begun, going-none, going_next, going_end}
 
@@ -105,11 +104,11 @@ abbrev past : State → State
 past s = record { at = s.at + edition1.cubes; cubes = s.cubes; literals = s.literals; ascending = s.ascending }
 
 module _ (bits : List Bool) (v : ℕ) (s : State) where
-  pub node-cut : FieldIs edition1.cubes (drop s.at bits) Cut → get_node v (drop s.at bits) ≡ bad 11
+  pub node-cut : FieldIs edition1.cubes (drop s.at bits) None → get_node v (drop s.at bits) ≡ bad 11
   unfolding get_node
   node-cut h = rw (field_cut edition1.cubes (λ c. leb c most_cubes) (drop s.at bits) h)
 
-  module _ (k : ℕ) (h : FieldIs edition1.cubes (drop s.at bits) (Value k)) where
+  module _ (k : ℕ) (h : FieldIs edition1.cubes (drop s.at bits) (Some k)) where
     pub node-bad : most_cubes < k → get_node v (drop s.at bits) ≡ bad 12
     unfolding get_node
     node-bad m = rw (field-bad edition1.cubes (λ c. leb c most_cubes) (drop s.at bits) k h (lt-leb k most_cubes m))
@@ -119,11 +118,11 @@ module _ (bits : List Bool) (v : ℕ) (s : State) where
     node-on m = rw (field-got edition1.cubes (λ c. leb c most_cubes) bits s.at k h (le-leb k most_cubes m))
 
     -- the cubes after the count
-    pub node-are : k ≤ most_cubes → (old new : List ℕ) (r : Step)
+    pub node-are : k ≤ most_cubes → (old new : List ℕ) (r : Result State Fault)
         → CubesAre most_cubes_bits bits (past s) (get_many (get_cube v) k (drop (past s).at bits)) old new r
         → CubesAre most_node_bits bits s (get_node v (drop s.at bits)) old new r
-    node-are m old new (Bad e) q = node-on m ∙ q
-    node-are m old new (On t) c = record {
+    node-are m old new (Err e) q = node-on m ∙ q
+    node-are m old new (Ok t) c = record {
       read = c.read;
       is = node-on m ∙ c.is;
       put = let p = c.put in record {
@@ -139,45 +138,42 @@ module _ (bits : List Bool) (v : ℕ) (s : State) where
 
 -- ---- nodes
 
--- i of k nodes are read and put, their counts too
-pub record Counting (bits : List Bool) (v k i : ℕ) (start : State) (old new : List ℕ) (first : ℕ) (was are : List ℕ) (s : State) : Type 0 where
+-- i of k nodes are read and put, and counted
+pub record Counting (bits : List Bool) (v k i : ℕ) (start : State) (old new counts : List ℕ) (s : State) : Type 0 where
   pub read : List (List (List ℕ))
   pub going : Begun (get_node v) k i (drop start.at bits) (drop s.at bits) read
   pub put : Gathered start s old new (flat read)
-  pub counts : are ≡ sets was first (map length read)
+  pub counted : take i counts ≡ map length read
   pub near : GrowsBy (most_node_bits * i) start s
 
-pub count_none : (bits : List Bool) (v k : ℕ) (start : State) (ws : List ℕ) (first : ℕ) (cs : List ℕ) → Counting bits v k 0 start ws ws first cs cs start
-count_none bits v k start ws first cs = record {
+pub count_none : (bits : List Bool) (v k : ℕ) (start : State) (ws cs : List ℕ) → Counting bits v k 0 start ws ws cs start
+count_none bits v k start ws cs = record {
   read = [];
   going = going-none (get_node v) k (drop start.at bits);
   put = added_none start ws;
-  counts = refl;
+  counted = refl;
   near = search rules;
 }
 
-module _ {bits : List Bool} {v k i : ℕ} {start : State} {old new : List ℕ} {first : ℕ} {was are : List ℕ} {s : State}
-    (h : Counting bits v k i start old new first was are s) where
-  pub count_next : i < k → (new' : List ℕ) (t : State) → CubesGot most_node_bits bits s (get_node v (drop s.at bits)) new new' t
-      → Counting bits v k (i + 1) start old new' first was (set are (first + i) (t.cubes - s.cubes)) t
-  count_next more new' t c = record {
+module _ {bits : List Bool} {v k i : ℕ} {start : State} {old new counts : List ℕ} {s : State} (h : Counting bits v k i start old new counts s) where
+  pub count_next : i < k → i < length counts → (new' : List ℕ) (t : State) → CubesGot most_node_bits bits s (get_node v (drop s.at bits)) new new' t
+      → Counting bits v k (i + 1) start old new' (set counts i (t.cubes - s.cubes)) t
+  count_next more there new' t c = record {
     read = h.read ++ (c.read ∷ []);
     going = going_next (get_node v) k h.going more c.read (drop t.at bits) c.is;
     put = subst (Gathered start t old new') (sym (flat-last h.read c.read)) (added_then h.put c.put);
-    counts =
-        let a : first + i ≡ first + length (map length h.read) = omega (arith, length-map h.read length, h.going.number) in
+    counted =
         let b : t.cubes - s.cubes ≡ length c.read = omega (arith, c.put.cubes) in
-        ap₂ (λ n x. set are n x) a b ∙ ap (λ l. set l (first + length (map length h.read)) (length c.read)) h.counts
-        ∙ sym (sets-append was first (map length h.read) (length c.read ∷ [])) ∙ ap (sets was first) (sym (map-append length h.read (c.read ∷ [])));
+        take_more_set counts i (t.cubes - s.cubes) there ∙ ap₂ (λ l x. l ++ (x ∷ [])) h.counted b ∙ sym (map-append length h.read (c.read ∷ []));
     near = search rules;
   }
 
-  pub count-end : i ≡ k → i ≤ most_variables → NodesGot k bits start (get_many (get_node v) k (drop start.at bits)) old new first was are s
-  count-end done few = record {
+  pub count-end : i ≡ k → k ≡ length counts → i ≤ most_variables → NodesGot k bits start (get_many (get_node v) k (drop start.at bits)) old new counts s
+  count-end done whole few = record {
     read = h.read;
     number = omega (arith, h.going.number);
     is = going_end (get_node v) k h.going (omega arith);
     put = h.put;
-    counts = h.counts;
+    counted = sym (take-length counts) ∙ ap (λ n. take n counts) (sym (done ∙ whole)) ∙ h.counted;
     near = search rules;
   }

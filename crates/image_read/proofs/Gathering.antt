@@ -17,8 +17,8 @@ use Rattle.image_laws.specs.Widths.{edition1, most_literal_bits, most_cube_bits}
 use Rattle.image_laws.specs.Reading.{got, bad, allowed, get_literals, get_cube}
 use Rattle.image_laws.proofs.{NewNumbers.set-mem, Reading.proper-more}
 use Rattle.image_read.specs.Parts.{FieldIs, set_of, CubeGot, CubeIs}
-use Rattle.image_read.specs.declared.fields.Field.TheVariants.{Value, Cut}
-use Rattle.image_read.specs.declared.fields.Turn.{Turn}
+use Rattle.std.proofs.Common.{Some, None, Result, Ok, Err}
+use Rattle.image_read.specs.declared.{fields.Taken.Taken, Fault.Fault}
 use Rattle.image_read.proofs.Fielding.{field_cut, field-bad, field-got}
 use Rattle.image_read.proofs.Going.{onto, onto-none, onto-more}
 
@@ -90,11 +90,11 @@ module _ {bits : List Bool} {v k start at i : ℕ} {set : List ℕ} {up : Bool} 
     same_test x = ap (λ b. ltb (x / 2) v && not b)
         (ap (mem (opposite_of x)) g.held ∙ set-mem (opposite_of x) g.read ∙ sym (g.same (opposite_of x)))
 
-    pub gather-cut : FieldIs edition1.literal (drop at bits) Cut → get_literals v k [] (drop start bits) ≡ bad 11
+    pub gather-cut : FieldIs edition1.literal (drop at bits) None → get_literals v k [] (drop start bits) ≡ bad 11
     unfolding get_literals
     gather-cut h = opened ∙ rw (field_cut edition1.literal (allowed v g.seen) (drop at bits) h) refl
 
-    module _ (x : ℕ) (h : FieldIs edition1.literal (drop at bits) (Value x)) where
+    module _ (x : ℕ) (h : FieldIs edition1.literal (drop at bits) (Some x)) where
       pub gather-bad : allowed v set x ≡ false → get_literals v k [] (drop start bits) ≡ bad 12
       unfolding get_literals
       gather-bad e = opened ∙ rw (field-bad edition1.literal (allowed v g.seen) (drop at bits) x h (sym (same_test x) ∙ e)) refl
@@ -138,11 +138,11 @@ module _ {bits : List Bool} {v k start at i : ℕ} {set : List ℕ} {up : Bool} 
 -- ---- the literal count before them
 
 module _ (bits : List Bool) (v at : ℕ) where
-  pub cube-cut : FieldIs edition1.literals (drop at bits) Cut → get_cube v (drop at bits) ≡ bad 11
+  pub cube-cut : FieldIs edition1.literals (drop at bits) None → get_cube v (drop at bits) ≡ bad 11
   unfolding get_cube
   cube-cut h = rw (field_cut edition1.literals (λ c. leb c v) (drop at bits) h)
 
-  module _ (k : ℕ) (h : FieldIs edition1.literals (drop at bits) (Value k)) where
+  module _ (k : ℕ) (h : FieldIs edition1.literals (drop at bits) (Some k)) where
     pub cube-bad : v < k → get_cube v (drop at bits) ≡ bad 12
     unfolding get_cube
     cube-bad m = rw (field-bad edition1.literals (λ c. leb c v) (drop at bits) k h (lt-leb k v m))
@@ -152,10 +152,10 @@ module _ (bits : List Bool) (v at : ℕ) where
     cube-on m = rw (field-got edition1.literals (λ c. leb c v) bits at k h (le-leb k v m))
 
     -- the literals after the count
-    pub cube-is : k ≤ v → (r : Turn) → CubeIs most_literal_bits bits (at + edition1.literals) (get_literals v k [] (drop (at + edition1.literals) bits)) r
+    pub cube-is : k ≤ v → (r : Result Taken Fault) → CubeIs most_literal_bits bits (at + edition1.literals) (get_literals v k [] (drop (at + edition1.literals) bits)) r
         → CubeIs most_cube_bits bits at (get_cube v (drop at bits)) r
-    cube-is m (Turn.Bad e) q = cube-on m ∙ q
-    cube-is m (Turn.On r) c = record {
+    cube-is m (Err e) q = cube-on m ∙ q
+    cube-is m (Ok r) c = record {
       read = c.read;
       is = cube-on m ∙ c.is;
       cube = c.cube;

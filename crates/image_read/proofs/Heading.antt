@@ -1,27 +1,25 @@
 -- The fields before the first node. Assumes nothing.
-use Prim.Native.Nat.{ℕ, suc, ◌+◌, ◌*◌, ◌^◌, ◌<◌, ◌≤◌}
+use Prim.Native.Nat.{ℕ, suc, ◌+◌, ◌^◌, ◌<◌}
 use mathlib.Core.Path.{◌≡◌, refl, sym, ap, subst, ◌∙◌}
 use mathlib.Core.Bool.{Bool, true, false}
 use mathlib.Core.{List.List, Logic.⊎_elim}
 use native.Mathlib.Omega.{arith}
 use native.Mathlib.Numerals.{add-one}
 use lib.Dec.{leb, eqb}
-use lib.ListN.{length, take, drop}
-use borrow.Author.Tests.{ne_eqb, eq-eqb, leb-true, leb-false}
+use lib.ListN.{drop}
+use borrow.Author.Tests.{ne_eqb, eq-eqb, leb-true}
 use Rattle.sets.proofs.Truth.{decided}
-use Rattle.image_fields.specs.Fields.{bytes_for, value_of, bits_in}
-use Rattle.image_fields.proofs.Bytes.{left-length}
 use Rattle.network.specs.Held.{most_variables}
 use Rattle.image_laws.specs.Widths.{edition_field, edition1, head_size}
 use Rattle.image_laws.specs.Reading.{bad, and_then, get_field, get_nodes, get_raw}
 use Rattle.image_read.specs.Parts.{FieldIs, sizes_of, HeadIs}
-use Rattle.image_read.specs.declared.fields.Field.TheVariants.{Value, Cut}
-use Rattle.image_read.specs.declared.Head.{Head}
+use Rattle.std.proofs.Common.{Some, None, Result}
+use Rattle.image_read.specs.declared.{Sizes.Sizes, Fault.Fault}
 use Rattle.image_read.proofs.Bits.{value-below}
 use Rattle.image_read.proofs.Fielding.{field_cut, field-bad, field-got}
 
 -- a field of w bits holds a number below the power
-pub field_below : (w v : ℕ) (l : List Bool) → FieldIs w l (Value v) → v < 2 ^ w
+pub field_below : (w v : ℕ) (l : List Bool) → FieldIs w l (Some v) → v < 2 ^ w
 field_below w v l h = subst (λ n. n < 2 ^ w) (sym h.1) (value-below w l)
 
 -- where the fields begin
@@ -35,11 +33,11 @@ abbrev pub divisors_at : ℕ
 divisors_at = outputs_at + edition1.outputs
 
 module _ (bits : List Bool) where
-  pub edition-cut : FieldIs edition_field bits Cut → get_raw bits ≡ bad 11
+  pub edition-cut : FieldIs edition_field bits None → get_raw bits ≡ bad 11
   unfolding get_raw
   edition-cut h = rw (field_cut edition_field (eqb edition1.number) bits h)
 
-  module _ (e : ℕ) (h : FieldIs edition_field bits (Value e)) where
+  module _ (e : ℕ) (h : FieldIs edition_field bits (Some e)) where
     pub edition-bad : (e ≡ edition1.number → ⊥) → get_raw bits ≡ bad 12
     unfolding get_raw
     edition-bad d = rw (field-bad edition_field (eqb edition1.number) bits e h (ne_eqb edition1.number e (λ q. d (sym q))))
@@ -48,12 +46,21 @@ module _ (bits : List Bool) where
       yes : eqb edition1.number e ≡ true
       yes = eq-eqb edition1.number e (sym one)
 
-      inputs-cut : FieldIs edition1.inputs (drop inputs_at bits) Cut → get_raw bits ≡ bad 11
+      pub inputs-cut : FieldIs edition1.inputs (drop inputs_at bits) None → get_raw bits ≡ bad 11
       unfolding get_raw
       inputs-cut q = rw (field-got edition_field (eqb edition1.number) bits 0 e h yes, field_cut edition1.inputs (λ x. true) (drop inputs_at bits) q)
 
-      module _ (a : ℕ) (ha : FieldIs edition1.inputs (drop inputs_at bits) (Value a)) (b : ℕ)
-          (hb : FieldIs edition1.outputs (drop outputs_at bits) (Value b)) where
+      module _ (a : ℕ) (ha : FieldIs edition1.inputs (drop inputs_at bits) (Some a)) where
+        pub outputs-cut : FieldIs edition1.outputs (drop outputs_at bits) None → get_raw bits ≡ bad 11
+        unfolding get_raw
+        outputs-cut q = rw (
+          field-got edition_field (eqb edition1.number) bits 0 e h yes,
+          field-got edition1.inputs (λ x. true) bits inputs_at a ha refl,
+          field_cut edition1.outputs (λ x. true) (drop outputs_at bits) q,
+        )
+
+      module _ (a : ℕ) (ha : FieldIs edition1.inputs (drop inputs_at bits) (Some a)) (b : ℕ)
+          (hb : FieldIs edition1.outputs (drop outputs_at bits) (Some b)) where
         abbrev test : ℕ → Bool
         test k = leb (suc a + k) most_variables
 
@@ -65,10 +72,10 @@ module _ (bits : List Bool) where
           field-got edition1.outputs (λ x. true) bits outputs_at b hb refl,
         )
 
-        divisors-cut : FieldIs edition1.divisors (drop divisors_at bits) Cut → get_raw bits ≡ bad 11
+        pub divisors-cut : FieldIs edition1.divisors (drop divisors_at bits) None → get_raw bits ≡ bad 11
         divisors-cut q = outputs-on ∙ rw (field_cut edition1.divisors test (drop divisors_at bits) q) refl
 
-        module _ (k : ℕ) (hk : FieldIs edition1.divisors (drop divisors_at bits) (Value k)) where
+        module _ (k : ℕ) (hk : FieldIs edition1.divisors (drop divisors_at bits) (Some k)) where
           sizes-on : test k ≡ true → get_raw bits ≡ get_nodes (suc a) (suc b) k (drop head_size bits)
           sizes-on q = outputs-on ∙ rw (field-got edition1.divisors test bits divisors_at k hk q) refl
 
@@ -76,7 +83,7 @@ module _ (bits : List Bool) where
           sizes-off q = outputs-on ∙ rw (field-bad edition1.divisors test (drop divisors_at bits) k hk q) refl
 
           -- all fields are there
-          pub sizes-are : (r : Head) → r ≡ sizes_of a b k → HeadIs bits r
+          pub sizes-are : (r : Result Sizes Fault) → r ≡ sizes_of a b k → HeadIs bits r
           sizes-are r e' = subst (HeadIs bits) (sym e') (⊎_elim few many (decided (leb (a + 1 + k) most_variables)))
             where
               same : leb (a + 1 + k) most_variables ≡ test k
@@ -84,34 +91,9 @@ module _ (bits : List Bool) where
 
               few : leb (a + 1 + k) most_variables ≡ true → HeadIs bits (sizes_of a b k)
               few q = rw q (record {
-                is = sizes-on (sym same ∙ q) ∙ rw (add-one, add-one) refl;
+                is = sizes-on (sym same ∙ q) ∙ rw (add-one a, add-one b) refl;
                 sized = record { outputs = omega (arith, field_below edition1.outputs b (drop outputs_at bits) hb); variables = leb-true _ most_variables q };
               })
 
               many : leb (a + 1 + k) most_variables ≡ false → HeadIs bits (sizes_of a b k)
               many q = rw q (sizes-off (sym same ∙ q))
-
--- ---- fields of bytes
-
-module _ (bytes : List ℕ) (at w v : ℕ) where
-  pub field_is : at + w ≤ 8 * length bytes → v ≡ value_of (take w (drop at (bits_in bytes))) → FieldIs w (drop at (bits_in bytes)) (Value v)
-  field_is h e = (omega (arith, left-length bytes at), e)
-
-  pub field-short : 8 * length bytes < at + w → 1 ≤ w → FieldIs w (drop at (bits_in bytes)) Cut
-  field-short h k = let short : length (drop at (bits_in bytes)) < w = omega (arith, left-length bytes at) in short
-
--- the edition is there, and not all that follows it before the nodes
-pub front_cut : (bytes : List ℕ) (e : ℕ) → FieldIs edition_field (bits_in bytes) (Value e) → e ≡ edition1.number → 1 ≤ length bytes
-    → length bytes < bytes_for head_size → get_raw (bits_in bytes) ≡ bad 11
-front_cut bytes e h one some few = ⊎_elim two less (decided (leb (bytes_for divisors_at) (length bytes)))
-  where
-    two : leb (bytes_for divisors_at) (length bytes) ≡ true → get_raw (bits_in bytes) ≡ bad 11
-    two t =
-        let l = leb-true (bytes_for divisors_at) (length bytes) t in
-        divisors-cut (bits_in bytes) e h one _ (field_is bytes inputs_at edition1.inputs _ (omega (arith, l)) refl) _
-        (field_is bytes outputs_at edition1.outputs _ (omega (arith, l)) refl)
-        (field-short bytes divisors_at edition1.divisors 0 (omega arith) (omega arith))
-
-    less : leb (bytes_for divisors_at) (length bytes) ≡ false → get_raw (bits_in bytes) ≡ bad 11
-    less f = inputs-cut (bits_in bytes) e h one (field-short bytes inputs_at edition1.inputs 0
-        (omega (arith, leb-false (bytes_for divisors_at) (length bytes) f)) (omega arith))

@@ -6,15 +6,17 @@ use mathlib.Core.List.{List, [], ◌++◌, map, append_assoc, map-append}
 use mathlib.Core.Logic.{inl, inr}
 use native.Mathlib.Omega.{arith}
 use lib.Dec.{leb}
-use lib.ListN.{length, take, drop, replicate, length-append, length-map}
-use lib.Seq.{sets, take_at, drop_at}
+use lib.ListN.{length, take, drop, replicate, length-append, length-map, length-replicate, length-drop}
+use lib.Seq.{take_at, drop_at, length-take-le}
+use borrow.Rule.Slice.PartMut.{put_mid, Post-is}
 use borrow.Author.Tests.{leb-true}
 use Rattle.sets.specs.Lists.{all, total}
 use Rattle.sets.specs.Sets.{asc}
-use Rattle.sets.proofs.Lists.{all_append, total-append}
+use Rattle.sets.proofs.{Lists.all_append, Lists.total-append, Rows.drop-replicate}
 use Rattle.sets.proofs.Truth.{both, together, decided, clash, refuted}
 use Rattle.expression.specs.Words.{cubes_of, Placed, Front, fitting}
-use Rattle.expression.specs.{Expression.literals_of, declared.Verdict.Verdict, declared.Verdict.TheVariants.Accepted, declared.Verdict.TheVariants.Refused}
+use Rattle.expression.specs.Expression.{literals_of}
+use Rattle.std.proofs.Common.{Result, Ok, Err}
 use Rattle.network.{specs.Net.Net, specs.Net.nodes, specs.Held.most_cubes, specs.Held.most_literals, proofs.Handing.flat-length, proofs.Handing.flat_append}
 use Rattle.network.specs.Handed.{flat, node_slots, cube_slots, LaidNodes, Holds, Return, gives, refuses, Told, Carries}
 use Rattle.image_fields.specs.Fields.{bits_in}
@@ -22,46 +24,85 @@ use Rattle.network.{proofs.Numbering.numbered-cubes, proofs.Numbering.numbered-l
 use Rattle.image_laws.specs.Widths.{head_size}
 use Rattle.image_laws.specs.Reading.{got, bad, Raw, raw_nodes, raw_net, padding, summed, all_in_order, in_the_order, reads_earlier, judge_raw, get_many}
 use Rattle.image_laws.specs.Reading.{get_node, get_nodes, get_raw, read_image}
-use Rattle.image_read.specs.Parts.{nodes_at, nodes_in, ordered_in, output_counts, divisor_counts, few_in, Judging, verdict, judged_of, blank_counts}
-use Rattle.image_read.specs.{Parts.DivisorsRead, Parts.AllRead, declared.Sizes.Sizes}
+use Rattle.image_read.specs.Parts.{number, SizesFit, NodesGot, nodes_at, nodes_in, ordered_in, output_counts, divisor_counts, few_in, verdict, judged_of}
+use Rattle.image_read.specs.{Parts.first, Parts.second, Parts.blank_words, Parts.Gives, declared.Sizes.Sizes, declared.Fault.Fault}
 use Rattle.network.{specs.declared.Handed.Handed, proofs.Laying.laid-holds}
 use Rattle.expression.proofs.Placing.{placed-as, placed-fitting, front-places, front-own, front-then}
 use Rattle.image_read.specs.declared.nodes.State.{State}
 use Rattle.image_read.proofs.Testing.{all-tidy, order-asc}
-use Rattle.image_read.proofs.Standing.{cubes-stand, counts-stand, nodes-stand, total-flat}
+use Rattle.image_read.proofs.Standing.{cubes-stand, nodes-stand, total-flat}
 
--- ---- outcomes as answers
+-- ---- outcomes as results
 
-abbrev answer_of : Return → Verdict
-answer_of (gives n) = Accepted
-answer_of (refuses k) = Refused k
-
-answer-refused : (o : Return) (k : ℕ) → answer_of o ≡ Refused k → o ≡ refuses k
-answer-refused (gives n) k e = let z : ◌≡◌ {A = ℕ} 0 1 = cc in absurd (omega arith)
-answer-refused (refuses j) k e = let q : j ≡ k = cc in ap refuses q
+-- the outcome of a verdict on a network
+abbrev outcome_of : Net → Result (Unit {0}) Fault → Return
+outcome_of n (Ok x) = gives n
+outcome_of n (Err e) = refuses (number e)
 
 -- the outcome of three tests
 abbrev picked : Bool → Bool → Bool → Net → Return
 picked p q u n = cond p (cond q (cond u (gives n) (refuses 13)) (refuses 12)) (refuses 11)
 
-picked-yes : (p q u : Bool) (n : Net) → answer_of (picked p q u n) ≡ Accepted → (q ≡ true) × (u ≡ true) × (picked p q u n ≡ gives n)
-picked-yes true true true n e = (refl, refl, refl)
-picked-yes true true false n e = let z : ◌≡◌ {A = ℕ} 0 1 = cc in absurd (omega arith)
-picked-yes true false u n e = let z : ◌≡◌ {A = ℕ} 0 1 = cc in absurd (omega arith)
-picked-yes false q u n e = let z : ◌≡◌ {A = ℕ} 0 1 = cc in absurd (omega arith)
+picked-is : (p q u : Bool) (n : Net) → picked p q u n ≡ outcome_of n (verdict p q u)
+picked-is true true true n = refl
+picked-is true true false n = refl
+picked-is true false u n = refl
+picked-is false q u n = refl
+
+verdict-yes : (p q u : Bool) → verdict p q u ≡ Ok tt → (q ≡ true) × (u ≡ true)
+verdict-yes true true true e = (refl, refl)
+verdict-yes true true false e = cc
+verdict-yes true false u e = cc
+verdict-yes false q u e = cc
 
 -- the third test matters only where the second holds
-verdict-same : (p q u u' : Bool) (n : Net) → (q ≡ true → u ≡ u') → verdict p q u ≡ answer_of (picked p q u' n)
-verdict-same true true u true n e = rw (e refl)
-verdict-same true true u false n e = rw (e refl)
-verdict-same true false u u' n e = refl
-verdict-same false q u u' n e = refl
+verdict-same : (p q u u' : Bool) → (q ≡ true → u ≡ u') → verdict p q u ≡ verdict p q u'
+verdict-same true true u u' e = rw (e refl)
+verdict-same true false u u' e = refl
+verdict-same false q u u' e = refl
+
+-- ---- the counts
+
+-- no counts
+abbrev pub blank_counts : List ℕ
+blank_counts = replicate node_slots 0
+
+-- with those of the divisors put after the places of the outputs
+abbrev pub half_counts : Sizes → List ℕ → List ℕ
+half_counts z dc = put_mid z.outputs (z.outputs + z.divisors - z.outputs) blank_counts dc
+
+module _ (z : Sizes) (f : SizesFit z) where
+  blank-long : length blank_counts ≡ node_slots
+  blank-long = length-replicate {A = ℕ} node_slots 0
+
+  front-long : length (take z.outputs blank_counts) ≡ z.outputs
+  front-long = length-take-le z.outputs blank_counts (omega (arith, f.outputs, blank-long))
+
+  pub divisor-slots : length (take (z.outputs + z.divisors - z.outputs) (drop z.outputs blank_counts)) ≡ z.divisors
+  divisor-slots =
+      let r : z.divisors ≤ length (drop z.outputs blank_counts) = omega (arith, length-drop z.outputs blank_counts, f.outputs, f.variables, blank-long) in
+      length-take-le _ (drop z.outputs blank_counts) (omega (arith, r)) ∙ omega arith
+
+  pub output-slots : (dc : List ℕ) → length (take z.outputs (half_counts z dc)) ≡ z.outputs
+  output-slots dc = ap length (take_at (take z.outputs blank_counts) _ z.outputs front-long) ∙ front-long
+
+  pub counts-stand : (dc oc : List ℕ) → oc ++ drop z.outputs (half_counts z dc) ≡ oc ++ (dc ++ replicate (node_slots - (z.outputs + z.divisors)) 0)
+  counts-stand dc oc =
+      ap (oc ++◌) (drop_at (take z.outputs blank_counts) _ z.outputs front-long)
+      ∙ ap (λ l. oc ++ (dc ++ l)) (Post-is z.outputs (z.outputs + z.divisors) blank_counts (omega arith) ∙ drop-replicate (z.outputs + z.divisors) node_slots 0)
 
 -- ---- the whole
 
-module _ {bits : List Bool} {z : Sizes} {d : ℕ} {t : State} {apart words counts : List ℕ} (w : AllRead bits z d t apart words counts) where
+-- all nodes are read, the divisors' cubes apart, with their counts
+pub record AllRead (bits : List Bool) (z : Sizes) (d o : State) (apart words dc oc counts : List ℕ) : Type 0 where
+  pub sized : SizesFit z
+  pub divisors : NodesGot z.divisors bits first (get_many (get_node (z.inputs + z.divisors)) z.divisors (drop head_size bits)) blank_words apart dc d
+  pub outputs : NodesGot z.outputs bits (second d) (get_many (get_node (z.inputs + z.divisors)) z.outputs (drop d.at bits)) blank_words words oc o
+  pub stand : counts ≡ oc ++ (dc ++ replicate (node_slots - (z.outputs + z.divisors)) 0)
+
+module _ {bits : List Bool} {z : Sizes} {d t : State} {apart words dc oc counts : List ℕ} (w : AllRead bits z d t apart words dc oc counts) where
   abbrev ds : List (List (List ℕ))
-  ds = w.half.divisors.read
+  ds = w.divisors.read
 
   abbrev os : List (List (List ℕ))
   os = w.outputs.read
@@ -71,14 +112,14 @@ module _ {bits : List Bool} {z : Sizes} {d : ℕ} {t : State} {apart words count
 
   -- the sums of divisors and outputs
   abbrev sums : State
-  sums = record { at = t.at; cubes = d + t.cubes; literals = t.literals; ascending = t.ascending }
+  sums = record { at = t.at; cubes = d.cubes + t.cubes; literals = t.literals; ascending = t.ascending }
 
   raw-got : nodes_at bits z ≡ got raw (drop t.at bits)
   unfolding get_nodes
-  raw-got = rw w.half.divisors.is (rw w.outputs.is refl)
+  raw-got = rw w.divisors.is (rw w.outputs.is refl)
 
-  divisor-cubes : d ≡ length (flat ds)
-  divisor-cubes = omega (arith, w.cubes, w.half.divisors.put.cubes)
+  divisor-cubes : d.cubes ≡ length (flat ds)
+  divisor-cubes = omega (arith, w.divisors.put.cubes)
 
   output-cubes : t.cubes ≡ length (flat os)
   output-cubes = omega (arith, w.outputs.put.cubes)
@@ -89,18 +130,18 @@ module _ {bits : List Bool} {z : Sizes} {d : ℕ} {t : State} {apart words count
   many-outputs = length-map os length ∙ w.outputs.number
 
   many-divisors : length (map length ds) ≡ z.divisors
-  many-divisors = length-map ds length ∙ w.half.divisors.number
+  many-divisors = length-map ds length ∙ w.divisors.number
 
   abbrev slots : ℕ
   slots = length (map length os) + length (map length ds)
 
   few-nodes : slots ≤ node_slots
-  few-nodes = omega (arith, many-outputs, many-divisors, w.half.sized.outputs, w.half.sized.variables)
+  few-nodes = omega (arith, many-outputs, many-divisors, w.sized.outputs, w.sized.variables)
 
   counts-are : counts ≡ map length os ++ (map length ds ++ replicate (node_slots - slots) 0)
   counts-are =
-      counts-stand (map length os) (map length ds) w.given counts few-nodes
-      (w.half.divisors.counts ∙ ap (λ n. sets blank_counts n (map length ds)) (sym many-outputs)) w.outputs.counts
+      let n : z.outputs + z.divisors ≡ slots = omega (arith, many-outputs, many-divisors) in
+      w.stand ∙ ap₂ ◌++◌ w.outputs.counted (ap₂ (λ l k. l ++ replicate (node_slots - k) 0) w.divisors.counted n)
 
   outputs-are : output_counts z counts ≡ map length os
   outputs-are = ap (take z.outputs) counts-are ∙ take_at (map length os) (map length ds ++ replicate (node_slots - slots) 0) z.outputs many-outputs
@@ -111,20 +152,13 @@ module _ {bits : List Bool} {z : Sizes} {d : ℕ} {t : State} {apart words count
       ∙ ap (take z.divisors) (drop_at (map length os) (map length ds ++ replicate (node_slots - slots) 0) z.outputs many-outputs)
       ∙ take_at (map length ds) (replicate (node_slots - slots) 0) z.divisors many-divisors
 
-  pub whole-judging : length counts ≡ node_slots → Judging sums z counts
-  whole-judging size = record {
-    at = omega (arith, w.outputs.near.at, w.half.divisors.near.at);
-    sized = w.half.sized;
-    places = size;
-  }
-
   -- ---- the sums
 
   cubes-sum : sums.cubes ≡ total length (raw_nodes raw)
   cubes-sum = omega (arith, divisor-cubes, output-cubes, flat-length ds, flat-length os, total-append length ds os)
 
   literals-sum : sums.literals ≡ total literals_of (raw_nodes raw)
-  literals-sum = omega (arith, w.half.divisors.put.literals, w.outputs.put.literals, total-flat ds, total-flat os, total-append literals_of ds os)
+  literals-sum = omega (arith, w.divisors.put.literals, w.outputs.put.literals, total-flat ds, total-flat os, total-append literals_of ds os)
 
   summed-are : few_in sums ≡ summed raw
   unfolding summed
@@ -134,7 +168,7 @@ module _ {bits : List Bool} {z : Sizes} {d : ℕ} {t : State} {apart words count
   few-cubes q = leb-true sums.cubes most_cubes (both (leb sums.cubes most_cubes) (leb sums.literals most_literals) (summed-are ∙ q)).0
 
   asc-sum : sums.ascending ≡ (all asc (flat ds) && all asc (flat os))
-  asc-sum = w.outputs.put.ascending ∙ ap (◌&& all asc (flat os)) w.half.divisors.put.ascending
+  asc-sum = w.outputs.put.ascending ∙ ap (◌&& all asc (flat os)) w.divisors.put.ascending
 
   -- ---- the order
 
@@ -146,7 +180,7 @@ module _ {bits : List Bool} {z : Sizes} {d : ℕ} {t : State} {apart words count
     parts = both (all asc (flat ds)) (all asc (flat os)) (sym asc-sum ∙ up)
 
     apart-stand : Front apart most_cubes (flat ds)
-    apart-stand = cubes-stand (flat ds) w.half.divisors.put refl parts.0 (omega (arith, divisor-cubes))
+    apart-stand = cubes-stand (flat ds) w.divisors.put refl parts.0 (omega (arith, divisor-cubes))
 
     words-stand : Front words most_cubes (flat os)
     words-stand = cubes-stand (flat os) w.outputs.put refl parts.1 (omega (arith, output-cubes))
@@ -155,7 +189,7 @@ module _ {bits : List Bool} {z : Sizes} {d : ℕ} {t : State} {apart words count
     unfolding all_in_order
     up-order =
         ap₂ (ordered_in z.inputs) (nodes-stand ds apart-stand divisors-are) (nodes-stand os words-stand outputs-are)
-        ∙ ap₂ (λ a b. a && (b && reads_earlier z.inputs ds)) (all-tidy ds parts.0 w.half.divisors.put.proper)
+        ∙ ap₂ (λ a b. a && (b && reads_earlier z.inputs ds)) (all-tidy ds parts.0 w.divisors.put.proper)
         (all-tidy os parts.1 w.outputs.put.proper)
         ∙ sym (and_assoc (all in_the_order ds) (all in_the_order os) (reads_earlier z.inputs ds))
         ∙ ap (◌&& reads_earlier z.inputs ds) (sym (all_append in_the_order ds os))
@@ -172,44 +206,41 @@ module _ {bits : List Bool} {z : Sizes} {d : ℕ} {t : State} {apart words count
 
   -- ---- the verdict
 
-  abbrev outcome : Return
-  outcome = picked (padding (drop t.at bits)) (summed raw) (all_in_order raw) (raw_net raw)
+  abbrev net : Net
+  net = raw_net raw
 
-  outcome-is : judge_raw (nodes_at bits z) ≡ outcome
-  unfolding judge_raw
-  outcome-is = ap judge_raw raw-got
+  module _ (r : Result (Unit {0}) Fault) (judged : r ≡ judged_of bits sums z apart words counts) where
+    judged-is : r ≡ verdict (padding (drop t.at bits)) (summed raw) (all_in_order raw)
+    judged-is =
+        judged ∙ ap (λ q. verdict (padding (drop t.at bits)) q (sums.ascending && test)) summed-are
+        ∙ verdict-same (padding (drop t.at bits)) (summed raw) (sums.ascending && test) (all_in_order raw) (λ q. order-are (few-cubes q))
 
-  judged-is : judged_of bits sums z apart words counts ≡ answer_of outcome
-  judged-is =
-      ap (λ q. verdict (padding (drop t.at bits)) q (sums.ascending && test)) summed-are
-      ∙ verdict-same (padding (drop t.at bits)) (summed raw) (sums.ascending && test) (all_in_order raw) (raw_net raw) (λ q. order-are (few-cubes q))
+    outcome-is : judge_raw (nodes_at bits z) ≡ outcome_of net r
+    unfolding judge_raw
+    outcome-is = ap judge_raw raw-got ∙ picked-is (padding (drop t.at bits)) (summed raw) (all_in_order raw) net ∙ ap (outcome_of net) (sym judged-is)
 
-  pub whole-refused : (a : Verdict) (k : ℕ) (r : Handed) → a ≡ judged_of bits sums z apart words counts → a ≡ Refused k → Told (refuses k) r
-      → Told (judge_raw (nodes_at bits z)) r
-  whole-refused a k r j e h = rw (outcome-is ∙ answer-refused outcome k (sym judged-is ∙ sym j ∙ e)) h
+    pub whole-refused : (e : Fault) → r ≡ Err e → judge_raw (nodes_at bits z) ≡ refuses (number e)
+    whole-refused e k = outcome-is ∙ ap (outcome_of net) k
 
-  module _ (a : Verdict) (judged : a ≡ judged_of bits sums z apart words counts) (yes : a ≡ Accepted) where
-    passed : (summed raw ≡ true) × (all_in_order raw ≡ true) × (outcome ≡ gives (raw_net raw))
-    passed = picked-yes (padding (drop t.at bits)) (summed raw) (all_in_order raw) (raw_net raw) (sym judged-is ∙ sym judged ∙ yes)
+  module _ (judged : Ok tt ≡ judged_of bits sums z apart words counts) where
+    passed : (summed raw ≡ true) × (all_in_order raw ≡ true)
+    passed = verdict-yes (padding (drop t.at bits)) (summed raw) (all_in_order raw) (sym (judged-is (Ok tt) judged))
 
-    whole-few : d + t.cubes ≤ most_cubes
+    whole-few : d.cubes + t.cubes ≤ most_cubes
     whole-few = few-cubes passed.0
 
     whole-up : sums.ascending ≡ true
     whole-up = (both sums.ascending _ (order-are whole-few ∙ passed.1)).0
 
-    abbrev net : Net
-    net = raw_net raw
-
     nodes-are : nodes net ≡ os ++ ds
     nodes-are = ap (os ++◌) (numbered-cubes z.inputs ds)
 
-    module _ (new : List ℕ) (c : Placed words new t.cubes (fitting words t.cubes (take (d - 0) (cubes_of apart)))) where
+    module _ (new : List ℕ) (c : Placed words new t.cubes (fitting words t.cubes (take (d.cubes - 0) (cubes_of apart)))) where
       -- the divisors' cubes stand after the outputs'
       new-stand : Front new most_cubes (flat os ++ flat ds)
       new-stand =
-          let e : d - 0 ≡ length (flat ds) = omega (arith, divisor-cubes) in
-          let q : take (d - 0) (cubes_of apart) ≡ flat ds = ap (λ n. take n (cubes_of apart)) e ∙ front-own (apart-stand whole-few whole-up) in
+          let e : d.cubes - 0 ≡ length (flat ds) = omega (arith, divisor-cubes) in
+          let q : take (d.cubes - 0) (cubes_of apart) ≡ flat ds = ap (λ n. take n (cubes_of apart)) e ∙ front-own (apart-stand whole-few whole-up) in
           let s = words-stand whole-few whole-up in
           let r : t.cubes + length (flat ds) ≤ length (cubes_of words) = omega (arith, divisor-cubes, whole-few, front-places s) in
           front-then s (omega (arith, divisor-cubes, output-cubes, whole-few))
@@ -228,34 +259,41 @@ module _ {bits : List Bool} {z : Sizes} {d : ℕ} {t : State} {apart words count
             new-stand.cubes ∙ ap₂ (λ p m. p ++ replicate m []) (sym (flat_append os ds)) n;
       }
 
-      pub whole-told : (r : Handed) → Carries (record { inputs = z.inputs; outputs = z.outputs; divisors = z.divisors; counts = counts; words = new }) r
-          → Told (judge_raw (nodes_at bits z)) r
-      whole-told r h =
-          subst (λ (o : Return). Told o r) (sym (outcome-is ∙ passed.2)) (
-            h.0,
-            subst (λ (p : Network). Holds p net) (sym h.1)
-                (laid-holds all_laid net nodes-are refl (sym w.outputs.number) (sym (numbered-length z.inputs ds ∙ w.half.divisors.number))),
-          )
+      pub whole-given : Gives (judge_raw (nodes_at bits z)) (Ok (record { inputs = z.inputs; outputs = z.outputs; divisors = z.divisors; counts = counts; words = new }))
+      whole-given = (
+        net,
+        outcome-is (Ok tt) judged,
+        laid-holds all_laid net nodes-are refl (sym w.outputs.number) (sym (numbered-length z.inputs ds ∙ w.divisors.number)),
+      )
 
 -- ---- nodes that are not there
 
-module _ (bits : List Bool) (z : Sizes) (k : ℕ) (r : Handed) (h : Told (refuses k) r) where
-  pub divisors-refused : get_many (get_node (z.inputs + z.divisors)) z.divisors (drop head_size bits) ≡ bad k → Told (judge_raw (nodes_at bits z)) r
+module _ (bits : List Bool) (z : Sizes) (k : ℕ) where
+  pub divisors-refused : get_many (get_node (z.inputs + z.divisors)) z.divisors (drop head_size bits) ≡ bad k → judge_raw (nodes_at bits z) ≡ refuses k
   unfolding get_nodes judge_raw
-  divisors-refused e = rw e h
+  divisors-refused e = rw e
 
-  pub outputs-refused : {s : State} {apart given : List ℕ} (f : DivisorsRead bits z s apart given)
-      → get_many (get_node (z.inputs + z.divisors)) z.outputs (drop s.at bits) ≡ bad k → Told (judge_raw (nodes_at bits z)) r
+  pub outputs-refused : {d : State} {apart dc : List ℕ}
+      → NodesGot z.divisors bits first (get_many (get_node (z.inputs + z.divisors)) z.divisors (drop head_size bits)) blank_words apart dc d
+      → get_many (get_node (z.inputs + z.divisors)) z.outputs (drop d.at bits) ≡ bad k → judge_raw (nodes_at bits z) ≡ refuses k
   unfolding get_nodes judge_raw
-  outputs-refused f e = rw f.divisors.is (rw e h)
+  outputs-refused f e = rw (f.is, e)
 
 -- ---- the fields before the nodes
 
-module _ (bytes : List ℕ) (r : Handed) where
-  pub read-refused : (k : ℕ) → get_raw (bits_in bytes) ≡ bad k → Told (refuses k) r → Told (read_image bytes) r
+module _ (bytes : List ℕ) where
+  pub read-refused : (k : ℕ) → get_raw (bits_in bytes) ≡ bad k → read_image bytes ≡ refuses k
   unfolding read_image judge_raw
-  read-refused k e h = rw e h
+  read-refused k e = rw e
 
-  pub read-on : (z : Sizes) → get_raw (bits_in bytes) ≡ nodes_at (bits_in bytes) z → Told (judge_raw (nodes_at (bits_in bytes) z)) r → Told (read_image bytes) r
+  pub read-on : (z : Sizes) → get_raw (bits_in bytes) ≡ nodes_at (bits_in bytes) z → read_image bytes ≡ judge_raw (nodes_at (bits_in bytes) z)
   unfolding read_image
-  read-on z e h = rw e h
+  read-on z e = rw e
+
+-- ---- as it is handed back
+
+pub refused-told : {o : Return} {r : Handed} (e : Fault) → o ≡ refuses (number e) → Told (refuses (number e)) r → Told o r
+refused-told e k h = rw k h
+
+pub given-told : {o : Return} {r : Handed} {n : Network} → Gives o (Ok n) → Carries n r → Told o r
+given-told {r = r} g h = subst (λ (o : Return). Told o r) (sym g.1) (h.0, subst (λ (p : Network). Holds p g.0) (sym h.1) g.2)

@@ -1,18 +1,18 @@
 -- The tests of the order: literals below a bound, divisors in turn, cubes that rise. Assumes nothing.
-use Prim.Native.Nat.{ℕ, suc, ◌+◌, ◌<◌, ◌≤◌}
-use mathlib.Core.Path.{◌≡◌, refl, sym, ap₂, ◌∙◌}
+use Prim.Native.Nat.{ℕ, suc, ◌+◌}
+use mathlib.Core.Path.{◌≡◌, refl, sym, ap, ap₂, ◌∙◌}
 use mathlib.Core.Bool.{true, not, ◌&&◌, and_comm}
 use mathlib.Core.List.{List, [], ◌∷◌}
 use mathlib.Core.Logic.{inl, inr}
 use native.Mathlib.Omega.{arith}
 use lib.Dec.{leb, ltb}
-use lib.ListN.{length, get_or, drop, drop_of_length-le}
+use lib.ListN.{length}
 use borrow.Author.Tests.{leb-true, leb-false, lt-ltb, le-ltb}
 use Rattle.sets.specs.Lists.{is_some, all, pairwise}
 use Rattle.sets.specs.Sets.{asc, proper, first_from}
 use Rattle.sets.proofs.Truth.{decided, both, together}
 use Rattle.sets.proofs.Lists.{all_in, all-out, all_append}
-use Rattle.sets.proofs.Places.{drop-next}
+use Rattle.std.specs.List.{zip, range_with_len}
 use Rattle.expression.specs.Expression.{is_cube, loose, ordered}
 use Rattle.network.specs.{Held.reach, Handed.flat}
 use Rattle.image_laws.specs.Reading.{in_the_order, reads_earlier}
@@ -29,16 +29,12 @@ first_below l (x ∷ c) = elim (decided (leb l x)) [
   | inr e ↦ rw (e, lt-ltb x l (leb-false l x e)) (first_below l c)
 ]
 
--- ---- divisors in turn
+-- ---- divisors in turn, each with its number
 
-pub earlier-next : (fs : List (List (List ℕ))) (v i : ℕ) → i < length fs
-    → reads_earlier (v + i) (drop i fs) ≡ (reach (v + i) (get_or fs i []) && reads_earlier (v + (i + 1)) (drop (i + 1) fs))
+pub earlier-zip : (fs : List (List (List ℕ))) (v : ℕ) → all (λ p. reach p.0 p.1) (zip (range_with_len v (length fs)) fs) ≡ reads_earlier v fs
 unfolding reads_earlier
-earlier-next fs v i h = let e : v + (i + 1) ≡ suc (v + i) = omega arith in rw (drop-next fs i [] h, e)
-
-pub earlier-done : (fs : List (List (List ℕ))) (v i : ℕ) → length fs ≤ i → reads_earlier v (drop i fs) ≡ true
-unfolding reads_earlier
-earlier-done fs v i h = rw (drop_of_length-le fs h)
+earlier-zip [] v = refl
+earlier-zip (f ∷ fs) v = let e : v + 1 ≡ suc v = omega arith in ap (reach v f &&◌) (earlier-zip fs (v + 1) ∙ ap (λ n. reads_earlier n fs) e)
 
 -- ---- an expression in cube order
 

@@ -1,20 +1,25 @@
 -- What the private parts of the reader find and leave.
-use Rattle.std.specs.Prelude.{ℕ, ◌+◌, ◌*◌, ◌<◌, ◌≤◌, ◌≡◌, Bool, true, cond, ◌&&◌, List, [], map, leb, length, take, drop, replicate}
-use Rattle.std.proofs.lemmas.List.Edits.{sets}
+use Rattle.std.specs.Prelude.{ℕ, ◌+◌, ◌*◌, ◌<◌, ◌≤◌, ◌≡◌, Bool, true, cond, ◌&&◌, List, [], map, leb, length, take, drop, replicate, MatchOption, MatchResult}
+use Rattle.std.specs.Prelude.{Option, Result, Ok, Err}
 use Rattle.sets.specs.Lists.{all, total}
 use Rattle.sets.specs.Sets.{asc, proper, union}
 use Rattle.cube.specs.Cube.{lits}
 use Rattle.image_fields.specs.Fields.{value_of}
 use Rattle.expression.specs.{Words.cubes_of, Words.Placed, Expression.expression, Expression.ordered}
-use Rattle.expression.specs.declared.{Verdict.Verdict, Verdict.TheVariants.Accepted, Verdict.TheVariants.Refused}
-use Rattle.network.specs.Handed.{flat, node_slots, word_slots}
+use Rattle.network.specs.Handed.{flat, node_slots, word_slots, Return, gives, refuses, Holds}
+use Rattle.network.specs.{Net.Net, declared.Network.Network}
 use Rattle.network.specs.Held.{most_outputs, most_variables, most_cubes, most_literals}
 use Rattle.network_nodes.specs.Nodes.{cut}
 use Rattle.image_laws.specs.Widths.{edition1, head_size, most_node_bits, most_bits}
-use Rattle.image_laws.specs.Reading.{Parsed, got, bad, Raw, get_many, get_node, get_nodes, get_raw, padding, reads_earlier}
-use Rattle.image_read.specs.declared.fields.{Field.Field, Field.TheVariants.Value, Field.TheVariants.Cut}
-use Rattle.image_read.specs.declared.{fields.Taken.Taken, fields.Turn.Turn, nodes.State.State}
-use Rattle.image_read.specs.declared.{nodes.Step.Step, Sizes.Sizes, Head.Head}
+use Rattle.image_laws.specs.Reading.{Parsed, got, bad, Raw, get_nodes, get_raw, padding, reads_earlier}
+use Rattle.image_read.specs.declared.{fields.Taken.Taken, nodes.State.State, Sizes.Sizes}
+use Rattle.image_read.specs.declared.{Fault.Fault, Fault.TheVariants.Cut, Fault.TheVariants.Range, Fault.TheVariants.Order}
+
+-- the number that a refusal is told by
+abbrev pub number : Fault → ℕ
+number Cut = 11
+number Range = 12
+number Order = 13
 
 -- each part begins below one of these bounds, and leaves the next to the parts in it
 abbrev pub times : ℕ → ℕ
@@ -27,9 +32,8 @@ widest = edition1.cubes
 -- ---- fields and cubes
 
 -- the number in the first w bits; or there are fewer
-abbrev pub FieldIs : ℕ → List Bool → Field → Type 0
-FieldIs w l (Value v) = (w ≤ length l) × (v ≡ value_of (take w l))
-FieldIs w l Cut = length l < w
+abbrev pub FieldIs : ℕ → List Bool → Option ℕ → Type 0
+FieldIs w l r = MatchOption r (length l < w) (λ v. (w ≤ length l) × (v ≡ value_of (take w l)))
 
 -- literals as a set, ascending
 abbrev pub set_of : List ℕ → List ℕ
@@ -47,9 +51,8 @@ pub record CubeGot (most : ℕ) (bits : List Bool) (start : ℕ) (g : Parsed (Li
   pub near : r.at ≤ start + most
 
 -- or the number of the refusal
-abbrev pub CubeIs : ℕ → List Bool → ℕ → Parsed (List ℕ) → Turn → Type 0
-CubeIs most bits start g (Turn.On r) = CubeGot most bits start g r
-CubeIs most bits start g (Turn.Bad k) = g ≡ bad k
+abbrev pub CubeIs : ℕ → List Bool → ℕ → Parsed (List ℕ) → Result Taken Fault → Type 0
+CubeIs most bits start g r = MatchResult r (CubeGot most bits start g) (λ e. g ≡ bad (number e))
 
 -- ---- nodes
 
@@ -86,24 +89,21 @@ pub record CubesGot (most : ℕ) (bits : List Bool) (s : State) (g : Parsed (Lis
   pub near : GrowsBy most s t
 
 -- or the number of the refusal
-abbrev pub CubesAre : ℕ → List Bool → State → Parsed (List (List ℕ)) → List ℕ → List ℕ → Step → Type 0
-CubesAre most bits s g old new (Step.On t) = CubesGot most bits s g old new t
-CubesAre most bits s g old new (Step.Bad k) = g ≡ bad k
+abbrev pub CubesAre : ℕ → List Bool → State → Parsed (List (List ℕ)) → List ℕ → List ℕ → Result State Fault → Type 0
+CubesAre most bits s g old new r = MatchResult r (CubesGot most bits s g old new) (λ e. g ≡ bad (number e))
 
--- k nodes were read, their counts put from a place on
-pub record NodesGot (k : ℕ) (bits : List Bool) (s : State) (g : Parsed (List (List (List ℕ)))) (old new : List ℕ) (first : ℕ) (was are : List ℕ)
-    (t : State) : Type 0 where
+-- k nodes were read, and these are their counts
+pub record NodesGot (k : ℕ) (bits : List Bool) (s : State) (g : Parsed (List (List (List ℕ)))) (old new counts : List ℕ) (t : State) : Type 0 where
   pub read : List (List (List ℕ))
   pub number : length read ≡ k
   pub is : g ≡ got read (drop t.at bits)
   pub put : Gathered s t old new (flat read)
-  pub counts : are ≡ sets was first (map length read)
+  pub counted : counts ≡ map length read
   pub near : GrowsBy (most_variables * most_node_bits) s t
 
 -- or the number of the refusal
-abbrev pub NodesAre : ℕ → List Bool → State → Parsed (List (List (List ℕ))) → List ℕ → List ℕ → ℕ → List ℕ → List ℕ → Step → Type 0
-NodesAre k bits s g old new first was are (Step.On t) = NodesGot k bits s g old new first was are t
-NodesAre k bits s g old new first was are (Step.Bad e) = g ≡ bad e
+abbrev pub NodesAre : ℕ → List Bool → State → Parsed (List (List (List ℕ))) → List ℕ → List ℕ → List ℕ → Result State Fault → Type 0
+NodesAre k bits s g old new counts r = MatchResult r (NodesGot k bits s g old new counts) (λ e. g ≡ bad (number e))
 
 -- ---- the whole
 
@@ -116,9 +116,9 @@ pub record SizesFit (z : Sizes) : Type 0 where
 abbrev pub nodes_at : List Bool → Sizes → Parsed Raw
 nodes_at bits z = get_nodes z.inputs z.outputs z.divisors (drop head_size bits)
 
--- 12 where there are too many variables
-abbrev pub sizes_of : ℕ → ℕ → ℕ → Head
-sizes_of a b k = cond (leb (a + 1 + k) most_variables) (Head.Of (record { inputs = a + 1; outputs = b + 1; divisors = k })) (Head.Bad 12)
+-- out of range where there are too many variables
+abbrev pub sizes_of : ℕ → ℕ → ℕ → Result Sizes Fault
+sizes_of a b k = cond (leb (a + 1 + k) most_variables) (Ok (record { inputs = a + 1; outputs = b + 1; divisors = k })) (Err Range)
 
 -- the first fields give these numbers, and the nodes follow
 pub record HeadGot (bits : List Bool) (z : Sizes) : Type 0 where
@@ -126,9 +126,8 @@ pub record HeadGot (bits : List Bool) (z : Sizes) : Type 0 where
   pub sized : SizesFit z
 
 -- or the number of the refusal
-abbrev pub HeadIs : List Bool → Head → Type 0
-HeadIs bits (Head.Of z) = HeadGot bits z
-HeadIs bits (Head.Bad k) = get_raw bits ≡ bad k
+abbrev pub HeadIs : List Bool → Result Sizes Fault → Type 0
+HeadIs bits r = MatchResult r (HeadGot bits) (λ e. get_raw bits ≡ bad (number e))
 
 -- an expression in cube order
 abbrev pub tidy : List (List ℕ) → Bool
@@ -160,10 +159,10 @@ abbrev pub few_in : State → Bool
 few_in s = leb s.cubes most_cubes && leb s.literals most_literals
 
 -- by three tests: what is left over, then the sums, then the order
-abbrev pub verdict : Bool → Bool → Bool → Verdict
-verdict padded few sorted = cond padded (cond few (cond sorted Accepted (Refused 13)) (Refused 12)) (Refused 11)
+abbrev pub verdict : Bool → Bool → Bool → Result (Unit {0}) Fault
+verdict padded few sorted = cond padded (cond few (cond sorted (Ok tt) (Err Order)) (Err Range)) (Err Cut)
 
-abbrev pub judged_of : List Bool → State → Sizes → List ℕ → List ℕ → List ℕ → Verdict
+abbrev pub judged_of : List Bool → State → Sizes → List ℕ → List ℕ → List ℕ → Result (Unit {0}) Fault
 judged_of bits s z apart words counts =
     verdict (padding (drop s.at bits)) (few_in s)
     (s.ascending && ordered_in z.inputs (nodes_in (divisor_counts z counts) apart) (nodes_in (output_counts z counts) words))
@@ -176,24 +175,10 @@ first = record { at = head_size; cubes = 0; literals = 0; ascending = true }
 abbrev pub second : State → State
 second s = record { at = s.at; cubes = 0; literals = s.literals; ascending = s.ascending }
 
--- words and counts before anything is read
+-- words before anything is read
 abbrev pub blank_words : List ℕ
 blank_words = replicate word_slots 0
 
-abbrev pub blank_counts : List ℕ
-blank_counts = replicate node_slots 0
-
--- the divisors are read
-pub record DivisorsRead (bits : List Bool) (z : Sizes) (s : State) (apart counts : List ℕ) : Type 0 where
-  pub sized : SizesFit z
-  pub divisors : NodesGot z.divisors bits first (get_many (get_node (z.inputs + z.divisors)) z.divisors (drop head_size bits)) blank_words apart
-      z.outputs blank_counts counts s
-
--- the outputs too
-pub record AllRead (bits : List Bool) (z : Sizes) (divisors : ℕ) (t : State) (apart words counts : List ℕ) : Type 0 where
-  pub s : State
-  pub given : List ℕ
-  pub half : DivisorsRead bits z s apart given
-  pub cubes : divisors ≡ s.cubes
-  pub outputs : NodesGot z.outputs bits (second s)
-      (get_many (get_node (z.inputs + z.divisors)) z.outputs (drop s.at bits)) blank_words words 0 given counts t
+-- a network that is given, or the number of the refusal
+abbrev pub Gives : Return → Result Network Fault → Type 0
+Gives o r = MatchResult r (λ n. (net : Net) × (o ≡ gives net) × Holds n net) (λ e. o ≡ refuses (number e))

@@ -11,14 +11,8 @@ ghost use Rattle.image_laws.specs.Widths.{most_literal_bits, most_cube_bits};
 ghost use Rattle.image_laws.specs.Reading.{get_literals, get_cube};
 ghost use Rattle.image_read.specs.Parts.{times, widest, FieldIs, CubeIs};
 
+use crate::Fault;
 use cube::{Cube, Found, Literal};
-
-// The number that a field holds; or the image ends before its last bit.
-#[derive(Clone, Copy)]
-pub enum Field {
-    Value(usize),
-    Cut,
-}
 
 // A cube as read: its literals as a set, how many were written, whether they ascend, and the bit after it.
 #[derive(Clone, Copy)]
@@ -29,26 +23,12 @@ pub struct Taken {
     pub at: usize,
 }
 
-#[derive(Clone, Copy)]
-pub enum Turn {
-    On(Taken),
-    Bad(u32),
-}
-
-// A byte as a number of the machine's width.
-fn wide(b: u8) -> usize
-    ensures { result ≡ b }
-{
-    b as usize
-}
-
 // Bit p of the image as a number: the bits of a byte, the most significant first.
 fn bit_at(bytes: &[u8], p: usize) -> usize
     requires { p < 8 * length bytes.now }
     ensures { result ≡ cond (bit (get_or bytes.now (p / 8) 0) (7 - p % 8)) 1 0 }
 {
-    let b = wide(bytes[p / 8]);
-    if (b >> (7 - p % 8)) & 1 == 1 { 1 } else { 0 }
+    (usize::from(bytes[p / 8]) >> (7 - p % 8)) & 1
 }
 
 // The number in w bits from a bit on, which are all there.
@@ -57,82 +37,56 @@ pub fn value_at(bytes: &[u8], at: usize, w: usize) -> usize
     ensures { result ≡ value_of (take w (drop at (bits_in bytes.now))) }
 {
     let mut v = 0;
-    let mut i = 0;
-    while i < w {
+    for i in 0..w {
         v = 2 * v + bit_at(bytes, at + i);
-        i += 1;
     }
     v
 }
 
-// The field of w bits from a bit on.
-pub fn field_at(bytes: &[u8], at: usize, w: usize) -> Field
+// The field of w bits from a bit on: the number that it holds, or nothing where the image ends before its last bit.
+pub fn field_at(bytes: &[u8], at: usize, w: usize) -> Option<usize>
     requires { (at ≤ times 6) × (1 ≤ w) × (w ≤ widest) }
     ensures { FieldIs w (drop at (bits_in bytes.now)) result }
 {
-    if bytes.len() < (at + w + 7) / 8 {
-        return Field::Cut;
+    if bytes.len() < (at + w).div_ceil(8) {
+        return None;
     }
-    Field::Value(value_at(bytes, at, w))
+    Some(value_at(bytes, at, w))
 }
 
 // Whether all literals of c are below l.
-pub fn is_below(c: Cube, l: Literal) -> bool
+fn is_below(c: Cube, l: Literal) -> bool
     ensures { result ≡ all (λ x. ltb x l.0) (lits c) }
 {
-    let f = cube_order::first_from(c, l);
-    match f {
-        Found::At(_) => false,
-        Found::Nothing => true,
-    }
+    matches!(cube_order::first_from(c, l), Found::Nothing)
 }
 
 // Whether l is of one of v variables and its opposite is not in c.
 fn is_allowed(c: Cube, l: Literal, v: usize) -> bool
     ensures { result ≡ (ltb (l.0 / 2) v && not (mem (opposite_of l.0) (lits c))) }
 {
-    let x = cube::variable_of(l);
-    if x.0 as usize >= v {
-        return false;
-    }
-    let o = cube::opposite(l);
-    !cube::has(c, o)
-}
-
-// Whether both hold.
-pub fn both(a: bool, b: bool) -> bool
-    ensures { result ≡ (a && b) }
-{
-    if !a {
-        return false;
-    }
-    b
+    (cube::variable_of(l).0 as usize) < v && !cube::has(c, cube::opposite(l))
 }
 
 // So many literals of v variables, from a bit on.
-fn literals(bytes: &[u8], start: usize, v: usize, k: usize) -> Turn
+fn literals(bytes: &[u8], start: usize, v: usize, k: usize) -> Result<Taken, Fault>
     requires { (start ≤ times 5) × (v ≤ most_variables) × (k ≤ most_variables) }
     ensures { CubeIs most_literal_bits (bits_in bytes.now) start (get_literals v k [] (drop start (bits_in bytes.now))) result }
 {
     let mut seen = cube::empty();
     let mut ascending = true;
     let mut at = start;
-    let mut i = 0;
-    while i < k {
-        let f = field_at(bytes, at, image_laws::LITERAL_WIDTH);
-        let Field::Value(x) = f else {
-            return Turn::Bad(11);
-        };
+    for i in 0..k {
+        let x = field_at(bytes, at, image_laws::LITERAL_WIDTH).ok_or(Fault::Cut)?;
         let l = Literal(x as u32);
         if !is_allowed(seen, l, v) {
-            return Turn::Bad(12);
+            return Err(Fault::Range);
         }
-        ascending = both(ascending, is_below(seen, l));
+        ascending = ascending && is_below(seen, l);
         seen = cube::with(seen, l);
         at += image_laws::LITERAL_WIDTH;
-        i += 1;
     }
-    Turn::On(Taken {
+    Ok(Taken {
         cube: seen,
         literals: k,
         ascending,
@@ -141,16 +95,13 @@ fn literals(bytes: &[u8], start: usize, v: usize, k: usize) -> Turn
 }
 
 // The cube from a bit on.
-pub fn cube_at(bytes: &[u8], at: usize, v: usize) -> Turn
+pub fn cube_at(bytes: &[u8], at: usize, v: usize) -> Result<Taken, Fault>
     requires { (at ≤ times 4) × (v ≤ most_variables) }
     ensures { CubeIs most_cube_bits (bits_in bytes.now) at (get_cube v (drop at (bits_in bytes.now))) result }
 {
-    let f = field_at(bytes, at, image_laws::LITERALS_WIDTH);
-    let Field::Value(k) = f else {
-        return Turn::Bad(11);
-    };
+    let k = field_at(bytes, at, image_laws::LITERALS_WIDTH).ok_or(Fault::Cut)?;
     if k > v {
-        return Turn::Bad(12);
+        return Err(Fault::Range);
     }
     literals(bytes, at + image_laws::LITERALS_WIDTH, v, k)
 }

@@ -14,10 +14,10 @@ use Rattle.image_laws.specs.Reading.{padding}
 use Rattle.image_read.proofs.{Bits.value-zero}
 use Rattle.image_read.proofs.is_padded.Goals as goal
 
-pub returns-then-at-n : goal.returns-then-at-n
+pub returns-then-div_ceil-n : goal.returns-then-div_ceil-n
 unfolding padding
-returns-then-at-n c =
-    rw (le-ltb (length (drop c.args.at (bits_in c.args.bytes.now))) 8 (omega (arith, c.if-at-n.true, left-length c.args.bytes.now c.args.at)))
+returns-then-div_ceil-n c =
+    rw (le-ltb (length (drop c.args.at (bits_in c.args.bytes.now))) 8 (omega (arith, c.if-div_ceil-n.true, c.div_ceil.ensures, left-length c.args.bytes.now c.args.at)))
 
 pub returns-then-n-at : goal.returns-then-n-at
 unfolding padding
@@ -29,6 +29,6 @@ unfolding padding
 returns c =
     let l = drop c.args.at (bits_in c.args.bytes.now) in
     let n = left-length c.args.bytes.now c.args.at in
-    let m = c.if-at-n.false in
+    let m = c.if-div_ceil-n.false in
     ap (λ v. eqb v 0) (c.value_at.ensures ∙ ap value_of (take_all (8 * length c.args.bytes.now - c.args.at) l (omega (arith, n)))) ∙ value-zero l
-    ∙ sym (ap (◌&& all not l) (lt-ltb (length l) 8 (omega (arith, n, m))))
+    ∙ sym (ap (◌&& all not l) (lt-ltb (length l) 8 (omega (arith, n, m, c.div_ceil.ensures))))

@@ -1,16 +1,29 @@
 -- `image_read::cube_at` meets its contract. Assumes nothing.
+use borrow.Author.Rules.{rules}
+use lib.ListN.{drop}
+use Rattle.std.proofs.Common.{Some}
 use Rattle.image_fields.specs.Fields.{bits_in}
+use Rattle.image_laws.specs.{Widths.edition1}
+use Rattle.image_read.specs.Parts.{FieldIs}
+use Rattle.image_read.proofs.Fielding.{field_some, field_none}
 use Rattle.image_read.proofs.Gathering.{cube-cut, cube-bad, cube-is}
 use Rattle.image_read.proofs.fields.cube_at.Goals as goal
+use Rattle.image_read.proofs.fields.cube_at.Goals.{In_ok-k}
 
-pub returns-in_default : goal.returns-in_default
-returns-in_default c =
-    cube-cut (bits_in c.args.bytes.now) c.args.v c.args.at (rw c.in_default.is at c.field_at-f.ensures)
+pub returns-in_err-k : goal.returns-in_err-k
+returns-in_err-k c =
+    let n = field_none _ c.ok_or.ensures.value c.in_err-k.was in
+    let q = cube-cut (bits_in c.args.bytes.now) c.args.v c.args.at (rw n.0 at c.field_at.ensures) in
+    search (rules, q, n)
+
+-- the count that was read
+count : (c : In_ok-k) → FieldIs edition1.literals (drop c.args.at (bits_in c.args.bytes.now)) (Some c.in_ok-k.k)
+count c = rw (field_some _ c.ok_or.ensures.value c.in_ok-k.was) at c.field_at.ensures
 
 pub returns-then-k-v : goal.returns-then-k-v
 returns-then-k-v c =
-    cube-bad (bits_in c.args.bytes.now) c.args.v c.args.at _ (rw c.in-Value.is at c.field_at-f.ensures) c.if-k-v.true
+    cube-bad (bits_in c.args.bytes.now) c.args.v c.args.at _ (count (goal.at.returns-then-k-v c).In_ok-k) c.if-k-v.true
 
 pub returns : goal.returns
 returns c =
-    cube-is _ _ _ _ (rw c.in-Value.is at c.field_at-f.ensures) c.if-k-v.false c.literals.result c.literals.ensures
+    cube-is _ _ _ _ (count (goal.at.returns c).In_ok-k) c.if-k-v.false c.literals.result c.literals.ensures

@@ -1,5 +1,5 @@
 -- `image_read::literals` meets its contract. The loop's invariant: the literals read so far and those to come are those of the definition. Assumes nothing.
-use Prim.Native.Nat.{◌+◌, ◌-◌, ◌*◌, ◌≤◌}
+use Prim.Native.Nat.{◌+◌, ◌*◌}
 use mathlib.Core.Path.{◌≡◌}
 use Rattle.cube.specs.Cube.{lits}
 use Rattle.image_fields.specs.Fields.{bits_in}
@@ -9,7 +9,4 @@ use Rattle.image_read.proofs.fields.literals.Given as goal
 
 abbrev pub invariant-loop-i : goal.invariant-loop-i
 invariant-loop-i l =
-    (l.i ≤ l.k) × (l.at ≡ l.start + edition1.literal * l.i) × Gathering (bits_in l.bytes) l.v l.k l.start l.at l.i (lits l.seen) l.ascending
-
-abbrev pub decreases-loop-i : goal.decreases-loop-i
-decreases-loop-i l = l.k - l.i
+    (l.at ≡ l.start + edition1.literal * l.i) × Gathering (bits_in l.bytes) l.v l.k l.start l.at l.i (lits l.seen) l.ascending
