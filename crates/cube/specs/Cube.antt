@@ -2,9 +2,11 @@
 use Rattle.std.specs.Prelude.{ℕ, ◌*◌, ◌^◌, List, Bool, cond, ◌&&◌, ltb}
 use Rattle.std.proofs.Math.Option.{Option, none, some}
 use Rattle.sets.specs.{Sets.insert, Sets.before, Masks.literals}
-use Rattle.cube.specs.declared.{Cube.Cube, Found.Found, Found.TheVariants.At, Found.TheVariants.Nothing}
-use Rattle.cube.specs.declared.Order.{Order}
-use Rattle.cube.specs.declared.Order.TheVariants.{Before, Same, After}
+use Rattle.std.specs.Prelude.{Some, None}
+use Rattle.std.specs.Prelude as std
+use Rattle.std.specs.declared.cmp.Ordering.{Ordering}
+use Rattle.std.specs.declared.cmp.Ordering.TheVariants.{Less, Equal, Greater}
+use Rattle.cube.specs.declared.{Cube.Cube, Literal.Literal}
 
 -- how many variables a cube has places for
 abbrev pub width : ℕ
@@ -23,9 +25,9 @@ abbrev pub joined : ℕ → List ℕ → List ℕ
 joined l c = cond (ltb l (2 * width)) (insert l c) c
 
 -- the literal found, if any
-abbrev pub answer : Found → Option ℕ
-answer (At l) = some l.0
-answer Nothing = none
+abbrev pub answer : std.Option Literal → Option ℕ
+answer (Some l) = some l.0
+answer None = none
 
-unfoldable pub order_of : List ℕ → List ℕ → Order
-order_of a b = cond (before a b) Before (cond (before b a) After Same)
+unfoldable pub order_of : List ℕ → List ℕ → Ordering
+order_of a b = cond (before a b) Less (cond (before b a) Greater Equal)

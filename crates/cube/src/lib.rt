@@ -13,30 +13,17 @@ pub const VARIABLES: u32 = 64;
 pub const LITERALS: u32 = 128;
 
 // A variable's number and a literal's number are kept apart: two types, converted by doubling and polarity alone.
-#[derive(Clone, Copy)]
+#[derive(Clone, Copy, PartialEq, Eq)]
 pub struct Variable(pub u32);
 
-#[derive(Clone, Copy)]
+#[derive(Clone, Copy, PartialEq, Eq)]
 pub struct Literal(pub u32);
 
 // Bit v of plain is the literal 2v, bit v of negated the literal 2v + 1.
-#[derive(Clone, Copy)]
+#[derive(Clone, Copy, PartialEq, Eq)]
 pub struct Cube {
     pub plain: u64,
     pub negated: u64,
-}
-
-#[derive(Clone, Copy)]
-pub enum Found {
-    At(Literal),
-    Nothing,
-}
-
-#[derive(Clone, Copy)]
-pub enum Order {
-    Before,
-    Same,
-    After,
 }
 
 // Twice the number, as 32 bits hold it: a number from 2^31 on is no variable of any cube.

@@ -9,7 +9,9 @@ use borrow.Author.Tests.{le-leb, lt-ltb}
 use Rattle.sets.specs.Sets.{asc, insert, without, first_from}
 use Rattle.sets.proofs.{First.some-not-none, Removal.without-here, Removal.without-absent, Sets.head-once}
 use Rattle.cube.specs.Cube.{lits, answer, joined, width}
-use Rattle.cube.specs.declared.{Cube.Cube, Found.Found, Found.TheVariants.At, Found.TheVariants.Nothing}
+use Rattle.std.specs.Prelude as std
+use Rattle.std.specs.Prelude.{Some, None}
+use Rattle.cube.specs.declared.{Cube.Cube}
 use Rattle.cube.{specs.declared.Literal.Literal, proofs.Lits.lits-asc, proofs.Lits.first-inside}
 
 first-none : (c : List ℕ) → first_from 0 c ≡ none → c ≡ []
@@ -31,11 +33,11 @@ unfolding insert
 joined-one x e h z = rw (z, lt-ltb x (2 * width) h)
 
 -- what is found in a cube is its smallest literal, and the cube is that literal and what is left
-module _ (c : Cube) {f : Found} (h : answer f ≡ first_from 0 (lits c)) where
-  pub taken_none : f ≡ Nothing → lits c ≡ []
+module _ (c : Cube) {f : std.Option Literal} (h : answer f ≡ first_from 0 (lits c)) where
+  pub taken_none : f ≡ None → lits c ≡ []
   taken_none e = first-none (lits c) (sym h ∙ ap answer e)
 
-  module _ {l : Literal} (e : f ≡ At l) where
+  module _ {l : Literal} (e : f ≡ Some l) where
     told : first_from 0 (lits c) ≡ some l.0
     told = sym h ∙ ap answer e
 

@@ -9,7 +9,8 @@ ghost use Rattle.sets.specs.Sets.{reads_below, first_from};
 ghost use Rattle.sets.specs.Masks.{Lowest};
 ghost use Rattle.cube.specs.Cube.{lits, answer, order_of};
 
-use cube::{Cube, Found, Literal, Order, Variable};
+use cube::{Cube, Literal, Variable};
+use std::cmp::Ordering;
 
 const VARIABLES: usize = cube::VARIABLES as usize;
 
@@ -22,36 +23,36 @@ fn lowest(m: u64) -> u32
 }
 
 // The first literal of the variables from v on.
-fn first_at(c: Cube, v: Variable) -> Found
+fn first_at(c: Cube, v: Variable) -> Option<Literal>
     ensures { answer result ≡ first_from (plain_of v.0) (lits c) }
 {
     let at = v.0;
     if at >= cube::VARIABLES {
-        return Found::Nothing;
+        return None;
     }
     let p = c.plain >> at;
     let n = c.negated >> at;
     let m = p | n;
     if m == 0 {
-        return Found::Nothing;
+        return None;
     }
     let t = lowest(m);
     let first = Variable(at + t);
     if (p >> t) & 1 == 1 {
-        Found::At(cube::plain(first))
+        Some(cube::plain(first))
     } else {
-        Found::At(cube::negated(first))
+        Some(cube::negated(first))
     }
 }
 
 // The smallest literal that is not below l.
-pub fn first_from(c: Cube, l: Literal) -> Found
+pub fn first_from(c: Cube, l: Literal) -> Option<Literal>
     ensures { answer result ≡ first_from l.0 (lits c) }
 {
     let v = cube::variable_of(l);
     if cube::is_negated(l) {
         if cube::has(c, l) {
-            return Found::At(l);
+            return Some(l);
         }
         return first_at(c, Variable(v.0 + 1));
     }
@@ -62,37 +63,30 @@ pub fn first_from(c: Cube, l: Literal) -> Found
 fn goes_on(c: Cube, l: Literal) -> bool
     ensures { result ≡ is_some (first_from l.0 (lits c)) }
 {
-    let f = first_from(c, l);
-    match f {
-        Found::At(_) => true,
-        Found::Nothing => false,
-    }
+    first_from(c, l).is_some()
 }
 
 // The cube order. The least literal that only one cube has decides: its cube comes first, unless the other one ends before it.
-pub fn compare(a: Cube, b: Cube) -> Order
+pub fn compare(a: Cube, b: Cube) -> Ordering
     ensures { result ≡ order_of (lits a) (lits b) }
 {
     let x = Cube {
         plain: a.plain ^ b.plain,
         negated: a.negated ^ b.negated,
     };
-    let f = first_at(x, Variable(0));
-    match f {
-        Found::Nothing => Order::Same,
-        Found::At(d) => {
-            if cube::has(a, d) {
-                if goes_on(b, d) {
-                    return Order::Before;
-                }
-                return Order::After;
-            }
-            if goes_on(a, d) {
-                return Order::After;
-            }
-            Order::Before
+    let Some(d) = first_at(x, Variable(0)) else {
+        return Ordering::Equal;
+    };
+    if cube::has(a, d) {
+        if goes_on(b, d) {
+            return Ordering::Less;
         }
+        return Ordering::Greater;
     }
+    if goes_on(a, d) {
+        return Ordering::Greater;
+    }
+    Ordering::Less
 }
 
 // The literals of a cube in turn, the smallest first.
@@ -117,7 +111,7 @@ impl Iterator for Literals {
 
     fn next(&mut self) -> Option<Literal> {
         let found = first_at(self.rest, Variable(0));
-        let Found::At(l) = found else {
+        let Some(l) = found else {
             return None;
         };
         self.rest = cube_sets::without(self.rest, cube::with(cube::empty(), l));

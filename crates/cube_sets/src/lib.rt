@@ -88,8 +88,5 @@ pub fn contains(a: Cube, b: Cube) -> bool
 pub fn same(a: Cube, b: Cube) -> bool
     ensures { result ≡ same (lits a) (lits b) }
 {
-    if a.plain != b.plain {
-        return false;
-    }
-    a.negated == b.negated
+    a == b
 }

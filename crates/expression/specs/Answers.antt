@@ -6,7 +6,8 @@ use Rattle.sets.specs.{Lists.is_nil, Sets.sub, Sets.proper, Word.largest}
 use Rattle.expression.specs.Words.{cube_words, cubes_of, spare_of}
 use Rattle.expression.specs.{Expression.expression, declared.Verdict.Verdict}
 use Rattle.expression.specs.declared.Verdict.TheVariants.{Accepted, Refused}
-use Rattle.expression.specs.declared.{Position.Position, Position.TheVariants.At, Position.TheVariants.Nothing}
+use Rattle.std.specs.Prelude as std
+use Rattle.std.specs.Prelude.{Some, None}
 
 -- how many cubes an expression handed in may have
 abbrev pub most_handed : ℕ
@@ -28,9 +29,9 @@ Acceptable ws =
     × ((i j : ℕ) → i < length (cubes_of ws) → j < length (cubes_of ws) → (i ≡ j → ⊥) → sub (get_or (cubes_of ws) i []) (get_or (cubes_of ws) j []) ≡ false)
 
 -- the place found, if any
-abbrev pub place_of : Position → Option ℕ
-place_of (At i) = some i
-place_of Nothing = none
+abbrev pub place_of : std.Option ℕ → Option ℕ
+place_of (Some i) = some i
+place_of None = none
 
 -- a count as 64 bits hold it: the largest number where it would pass
 abbrev pub capped : ℕ → ℕ

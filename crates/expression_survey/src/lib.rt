@@ -8,8 +8,8 @@ ghost use Rattle.expression.specs.Expression.{literals_of, reach, ordered};
 ghost use Rattle.expression.specs.Answers.{place_of, capped};
 ghost use Rattle.expression_survey.specs.Search.{find_in};
 
-use cube::{Cube, Order};
-use expression::Position;
+use cube::Cube;
+use std::cmp::Ordering;
 
 // The number of literals of all cubes.
 pub fn literals(s: &[u64]) -> u64
@@ -23,7 +23,7 @@ pub fn literals(s: &[u64]) -> u64
 
 // Where c stands among cubes in cube order, by halving.
 // By hand: what it answers is promised for cubes in any order, which `binary_search_by` leaves open.
-pub fn find(s: &[u64], c: Cube) -> Position
+pub fn find(s: &[u64], c: Cube) -> Option<usize>
     ensures { place_of result ≡ find_in (lits c) (cubes_of s.now) }
 {
     let mut low = 0;
@@ -32,25 +32,25 @@ pub fn find(s: &[u64], c: Cube) -> Position
         let m = low + (high - low) / 2;
         let o = cube_order::compare(expression::cube_at(s, m), c);
         match o {
-            Order::Before => {
+            Ordering::Less => {
                 low = m + 1;
             }
-            Order::Same => {
-                return Position::At(m);
+            Ordering::Equal => {
+                return Some(m);
             }
-            Order::After => {
+            Ordering::Greater => {
                 high = m;
             }
         }
     }
-    Position::Nothing
+    None
 }
 
 // Whether the cubes stand in cube order: each comes before the next.
 pub fn is_ordered(f: &[u64]) -> bool
     ensures { result ≡ ordered (cubes_of f.now) }
 {
-    expression::each(f).is_sorted_by(|a, b| matches!(cube_order::compare(*a, *b), Order::Before))
+    expression::each(f).is_sorted_by(|a, b| cube_order::compare(*a, *b).is_lt())
 }
 
 // Whether every literal is of a variable below v.

@@ -7,7 +7,6 @@ ghost use Rattle.expression.specs.Words.{cubes_of};
 ghost use Rattle.extract_divisor.specs.Divisor.{no_step, found_use};
 
 use cube::{Cube, Literal};
-use expression::Position;
 
 // A pair of literals, the smaller first, or a sum of two parts that are cubes, the one that is first in cube order first.
 #[derive(Clone, Copy)]
@@ -44,8 +43,5 @@ pub fn is_use(s: &[u64], c: Cube, a: Cube, b: Cube) -> bool
     }
     let base = cube_sets::without(c, a);
     cube_sets::is_empty(cube_sets::common(base, b))
-        && matches!(
-            expression_survey::find(s, cube_sets::union(base, b)),
-            Position::At(_)
-        )
+        && expression_survey::find(s, cube_sets::union(base, b)).is_some()
 }

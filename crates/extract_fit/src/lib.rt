@@ -8,7 +8,7 @@ ghost use Rattle.extract_divisor.specs.Divisor.{divisor_of};
 ghost use Rattle.extract_fit.specs.Fitness.{fitting};
 ghost use Rattle.extract_fit.specs.Parts.{fit_part};
 
-use cube::{Cube, Literal, Order};
+use cube::{Cube, Literal};
 use extract_divisor::Divisor;
 
 // Whether two literals are of different variables below v, the smaller first.
@@ -32,7 +32,7 @@ fn is_sum(a: Cube, b: Cube, v: usize) -> bool
     is_part(a, v)
         && is_part(b, v)
         && cube_sets::is_empty(cube_sets::common(a, b))
-        && matches!(cube_order::compare(a, b), Order::Before)
+        && cube_order::compare(a, b).is_lt()
 }
 
 // Whether the divisor's own node is an expression over v variables, the smaller literal or part first.

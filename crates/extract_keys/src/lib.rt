@@ -9,7 +9,7 @@ ghost use Rattle.cube.specs.Cube.{width, lits};
 ghost use Rattle.extract_divisor.specs.Divisor.{divisor_of};
 ghost use Rattle.extract_keys.specs.Keys.{part_code, two_codes, part_of, divisor_at, size_at, cost_at};
 
-use cube::{Cube, Found, Literal};
+use cube::{Cube, Literal};
 use extract_divisor::Divisor;
 
 // The first literal of a from l on, or another number where there is none.
@@ -18,8 +18,8 @@ fn literal_from(a: Cube, l: u32, other: u32) -> u32
     ensures below { other < 2 * width → result < 2 * width }
 {
     match cube_order::first_from(a, Literal(l)) {
-        Found::At(m) => m.0,
-        Found::Nothing => other,
+        Some(m) => m.0,
+        None => other,
     }
 }
 

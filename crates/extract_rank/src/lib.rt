@@ -8,13 +8,14 @@ ghost use Rattle.extract_laws.specs.Extract.{sooner};
 ghost use Rattle.extract_divisor.specs.Divisor.{divisor_of};
 ghost use Rattle.extract_rank.specs.Rank.{outweighs, taken};
 
-use cube::{Cube, Literal, Order};
+use cube::{Cube, Literal};
 use extract_divisor::{Divisor, Step};
+use std::cmp::Ordering;
 
 fn is_before(a: Cube, b: Cube) -> bool
     ensures { result ≡ before (lits a) (lits b) }
 {
-    matches!(cube_order::compare(a, b), Order::Before)
+    cube_order::compare(a, b).is_lt()
 }
 
 // The smaller first literal first, then the second.
@@ -30,9 +31,9 @@ fn is_sum_before(a: Cube, b: Cube, c: Cube, d: Cube) -> bool
     ensures { result ≡ lex before (lits a) (lits c) (before (lits b) (lits d)) }
 {
     match cube_order::compare(a, c) {
-        Order::Before => true,
-        Order::Same => is_before(b, d),
-        Order::After => false,
+        Ordering::Less => true,
+        Ordering::Equal => is_before(b, d),
+        Ordering::Greater => false,
     }
 }
 

@@ -7,23 +7,23 @@ use Rattle.cube_order.proofs.compare.Goals as goal
 
 pub returns-then-goes_on : goal.returns-then-goes_on
 returns-then-goes_on c =
-    is-before _ _ (left-before 64 _ _ _ _ _ (ap answer (sym c.in-At.is) ∙ c.first_at-f.ensures)
+    is-before _ _ (left-before 64 _ _ _ _ _ (ap answer (sym c.in-Some.is) ∙ c.first_at.ensures)
     (sym c.has.ensures ∙ c.if-has.true) (sym c.goes_on.ensures ∙ c.if-goes_on.true))
 
 pub returns-then-has : goal.returns-then-has
 returns-then-has c =
-    is-after _ _ (left_after 64 _ _ _ _ _ (ap answer (sym c.in-At.is) ∙ c.first_at-f.ensures)
+    is-after _ _ (left_after 64 _ _ _ _ _ (ap answer (sym c.in-Some.is) ∙ c.first_at.ensures)
     (sym c.has.ensures ∙ c.if-has.true) (sym c.goes_on.ensures ∙ c.if-goes_on.false))
 
 pub returns-then-goes_on-2 : goal.returns-then-goes_on-2
 returns-then-goes_on-2 c =
-    is-after _ _ (right-after 64 _ _ _ _ _ (ap answer (sym c.in-At.is) ∙ c.first_at-f.ensures)
-    (sym c.has.ensures ∙ c.if-has.false) (sym c.goes_on-in-At.ensures ∙ c.if-goes_on-2.true))
+    is-after _ _ (right-after 64 _ _ _ _ _ (ap answer (sym c.in-Some.is) ∙ c.first_at.ensures)
+    (sym c.has.ensures ∙ c.if-has.false) (sym c.goes_on-2.ensures ∙ c.if-goes_on-2.true))
 
-pub returns-in-Nothing : goal.returns-in-Nothing
-returns-in-Nothing c = is_same _ _ (none-odd 64 _ _ _ _ (ap answer (sym c.in-Nothing.is) ∙ c.first_at-f.ensures))
+pub returns-in_default : goal.returns-in_default
+returns-in_default c = is_same _ _ (none-odd 64 _ _ _ _ (ap answer (sym c.in_default.is) ∙ c.first_at.ensures))
 
-pub returns-else-goes_on-2 : goal.returns-else-goes_on-2
-returns-else-goes_on-2 c =
-    is-before _ _ (right-before 64 _ _ _ _ _ (ap answer (sym c.in-At.is) ∙ c.first_at-f.ensures)
-    (sym c.has.ensures ∙ c.if-has.false) (sym c.goes_on-in-At.ensures ∙ c.if-goes_on-2.false))
+pub returns : goal.returns
+returns c =
+    is-before _ _ (right-before 64 _ _ _ _ _ (ap answer (sym c.in-Some.is) ∙ c.first_at.ensures)
+    (sym c.has.ensures ∙ c.if-has.false) (sym c.goes_on-2.ensures ∙ c.if-goes_on-2.false))

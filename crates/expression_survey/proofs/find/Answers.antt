@@ -5,20 +5,20 @@ use Rattle.cube.proofs.Verdict.{told_of_lem}
 use Rattle.expression_survey.proofs.Searching.{go-up, go-down, stop-at, stop-none}
 use Rattle.expression_survey.proofs.find.Goals as goal
 
-pub loop-low-preserved-in-Before : goal.loop-low-preserved-in-Before
-loop-low-preserved-in-Before c =
+pub loop-low-preserved-in-Less : goal.loop-low-preserved-in-Less
+loop-low-preserved-in-Less c =
     let t = told_of_lem c.compare-o.result _ _ _ _ c.compare-o.ensures c.cube_at.ensures refl in
-    (go-up _ _ _ _ c.loop-low.invariant.0 c.loop-low-test.true (t.first c.in-Before.is), c.loop-low.invariant.1)
+    (go-up _ _ _ _ c.loop-low.invariant.0 c.loop-low-test.true (t.first c.in-Less.is), c.loop-low.invariant.1)
 
-pub returns-in-Same : goal.returns-in-Same
-returns-in-Same c =
+pub returns-in-Equal : goal.returns-in-Equal
+returns-in-Equal c =
     let t = told_of_lem c.compare-o.result _ _ _ _ c.compare-o.ensures c.cube_at.ensures refl in
-    stop-at _ _ _ _ c.loop-low.invariant.0 c.loop-low-test.true (t.alike c.in-Same.is)
+    stop-at _ _ _ _ c.loop-low.invariant.0 c.loop-low-test.true (t.alike c.in-Equal.is)
 
 pub loop-low-preserved : goal.loop-low-preserved
 loop-low-preserved c =
     let t = told_of_lem c.compare-o.result _ _ _ _ c.compare-o.ensures c.cube_at.ensures refl in
-    (go-down _ _ _ _ c.loop-low.invariant.0 c.loop-low-test.true (t.last c.in-After.is), omega arith)
+    (go-down _ _ _ _ c.loop-low.invariant.0 c.loop-low-test.true (t.last c.in-Greater.is), omega arith)
 
 pub returns : goal.returns
 returns c = stop-none _ _ _ _ c.loop-low.invariant.0 c.loop-low-test.false

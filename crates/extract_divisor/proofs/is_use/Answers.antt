@@ -13,10 +13,6 @@ pub returns-else-is_empty : goal.returns-else-is_empty
 unfolding found_use
 returns-else-is_empty c = grind (arith, common_steps, meet-none)
 
-pub returns-in-At : goal.returns-in-At
+pub returns-then-is_empty : goal.returns-then-is_empty
 unfolding found_use
-returns-in-At c = grind (arith, common_steps, meet-none)
-
-pub returns-in_default : goal.returns-in_default
-unfolding found_use
-returns-in_default c = grind (arith, common_steps, meet-none)
+returns-then-is_empty c = grind (arith, common_steps, meet-none)

@@ -6,15 +6,9 @@ use Rattle.cube.{specs.Cube.lits, specs.Cube.order_of, proofs.Lits.lits-asc}
 use Rattle.extract_fit.proofs.{Fitting.sum_fits}
 use Rattle.extract_fit.proofs.is_sum.Goals as goal
 
-pub returns-in-Before : goal.returns-in-Before
+pub returns-then-is_empty : goal.returns-then-is_empty
 unfolding order_of
-returns-in-Before c =
-    rw (sum_fits c.args.v (lits c.args.a) (lits c.args.b) (lits-asc c.args.a) (lits-asc c.args.b), ← meet-none (lits c.args.a) (lits c.args.b))
-    (grind (arith, common_steps))
-
-pub returns-in_default : goal.returns-in_default
-unfolding order_of
-returns-in_default c =
+returns-then-is_empty c =
     rw (sum_fits c.args.v (lits c.args.a) (lits c.args.b) (lits-asc c.args.a) (lits-asc c.args.b), ← meet-none (lits c.args.a) (lits c.args.b))
     (grind (arith, common_steps))
 

@@ -2,5 +2,5 @@
 use Rattle.cube.proofs.Lits.{first-inside}
 use Rattle.extract_keys.proofs.literal_from.Goals as goal
 
-pub returns-in-At-clause-below : goal.returns-in-At-clause-below
-returns-in-At-clause-below c _ = first-inside c.args.a c.args.l c.in-At.m.0 c.in-At.ensures
+pub returns-in-Some-clause-below : goal.returns-in-Some-clause-below
+returns-in-Some-clause-below c _ = first-inside c.args.a c.args.l c.in-Some.m.0 c.in-Some.ensures

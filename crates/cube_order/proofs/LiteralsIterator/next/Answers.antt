@@ -9,8 +9,8 @@ use Rattle.cube_order.proofs.LiteralsIterator.next.Goals as goal
 use Rattle.cube_order.proofs.LiteralsIterator.next.Goals.{After-without-self}
 
 -- the literal found and the others
-others : (c : After-without-self) → lits c.args.self.now.rest ≡ c.in-At.l.0 ∷ lits c.without-self.result
-others c = taken_next _ c.first_at-found.ensures c.in-At.is c.empty.ensures c.with.ensures c.without-self.ensures
+others : (c : After-without-self) → lits c.args.self.now.rest ≡ c.in-Some.l.0 ∷ lits c.without-self.result
+others c = taken_next _ c.first_at-found.ensures c.in-Some.is c.empty.ensures c.with.ensures c.without-self.ensures
 
 pub returns-in_default-clause-steps : goal.returns-in_default-clause-steps
 returns-in_default-clause-steps c =
