@@ -1,55 +1,34 @@
--- Cubes put at the front of words, as those of an expression are gone through; a whole copy; the front as a part. Assumes nothing.
-use Prim.Native.Nat.{ℕ, ◌+◌, ◌-◌, ◌<◌, ◌≤◌}
-use mathlib.Core.Path.{◌≡◌, refl, sym, ◌∙◌, ap, subst}
-use mathlib.Core.List.{List, [], ◌∷◌}
+-- Cubes that a chain gives; a whole copy; the front as a part. Assumes nothing.
+use Prim.Native.Nat.{ℕ, ◌-◌, ◌≤◌}
+use mathlib.Core.Path.{◌≡◌, refl, ◌∙◌, ap}
+use mathlib.Core.Bool.{Bool, cond}
+use mathlib.Core.List.{List, [], ◌∷◌, map}
 use native.Mathlib.Omega.{arith}
-use lib.ListN.{length, get_or, take, drop, drop_of_length-le}
+use lib.ListN.{length, take, drop}
 use lib.Seq.{take_all}
-use Rattle.sets.proofs.Places.{drop-next}
-use Rattle.expression.specs.Words.{cubes_of, Put, Placed, Appends, fitting}
-use Rattle.expression.proofs.Placing.{placed-as, placed-fitting, placed-span, Going, going-first, going_next, going_end}
+use denote.Param.Members.{Mut}
+use denote.Ref.{Bor}
+use Rattle.std.proofs.Common.{None, Option}
+use Rattle.std.specs.declared.iter.Filter.{Filter}
+use Rattle.std.specs.List.{filter}
+use Rattle.std.specs.Iterator.{Drains, Adapters.filter_steps}
+use Rattle.std.proofs.lemmas.Iterator.{YieldsList}
+use Rattle.std.proofs.lemmas.Iterator.Consumers.{YieldsList-end}
+use Rattle.sets.specs.Lists.{keep}
+use Rattle.expression.specs.Words.{cubes_of, Placed, Appends, fitting}
+use Rattle.expression.proofs.Placing.{placed-as, placed-fitting, placed-span}
 
--- ---- the cubes of f in turn, of which g keeps some
+-- ---- the cubes that a chain gives
 
--- what g makes of the first i of the n cubes is written
-pub record Walk (g : List (List ℕ) → List (List ℕ)) (f : List (List ℕ)) (old new : List ℕ) (n kept i : ℕ) : Type 0 where
-  pub number : n ≡ length f
-  pub inside : i ≤ n
-  pub fewer : kept ≤ i
-  pub same : length new ≡ length old
-  pub going : Going old new 0 kept (g (drop i f)) (g f)
+pub filter-keep : {A : Type 0} (p : A → Bool) (l : List A) → filter p l ≡ keep p l
+filter-keep p [] = refl
+filter-keep p (x ∷ l) = ap (λ t. cond (p x) (x ∷ t) t) (filter-keep p l)
 
-pub walk_first : (g : List (List ℕ) → List (List ℕ)) (f : List (List ℕ)) (ws : List ℕ) (n : ℕ) → n ≡ length f → length (g f) ≤ length (cubes_of ws)
-    → Walk g f ws ws n 0 0
-walk_first g f ws n e h = record { number = e; inside = omega arith; fewer = omega arith; same = refl; going = going-first ws 0 (g f) (omega arith) }
-
-module _ {g : List (List ℕ) → List (List ℕ)} {f : List (List ℕ)} {old new : List ℕ} {n kept i : ℕ} (w : Walk g f old new n kept i) where
-  module _ (h : i < n) {e : List ℕ} (at : e ≡ get_or f i []) where
-    met : g (drop i f) ≡ g (e ∷ drop (i + 1) f)
-    met = ap g (drop-next f i [] (omega (arith, w.number)) ∙ ap (◌∷ drop (i + 1) f) (sym at))
-
-    -- of the cube at place i nothing is kept, or a cube
-    pub walk-skip : ((l : List (List ℕ)) → g (e ∷ l) ≡ g l) → Walk g f old new n kept (i + 1)
-    walk-skip k = record {
-      number = w.number;
-      inside = omega arith;
-      fewer = omega (arith, w.fewer);
-      same = w.same;
-      going = subst (λ l. Going old new 0 kept l (g f)) (met ∙ k _) w.going;
-    }
-
-    pub walk_put : {c next : List ℕ} → Put new next kept c → length next ≡ length new → ((l : List (List ℕ)) → g (e ∷ l) ≡ c ∷ g l)
-        → Walk g f old next n (kept + 1) (i + 1)
-    walk_put p z k = record {
-      number = w.number;
-      inside = omega arith;
-      fewer = omega (arith, w.fewer);
-      same = z ∙ w.same;
-      going = going_next (subst (λ l. Going old new 0 kept l (g f)) (met ∙ k _) w.going) p;
-    }
-
-  pub walk_end : n ≤ i → g [] ≡ [] → Appends old new 0 (g f) kept
-  walk_end h e = going_end (subst (λ l. Going old new 0 kept l (g f)) (ap g (drop_of_length-le f {i = i} (omega (arith, w.number))) ∙ e) w.going)
+-- the items that came, where a filter passes on those that p keeps
+pub kept-items : {S F A : Type 0} (steps : S → Option A → S → Type 0) {v : A → List ℕ} {s : Filter S F} {g : Mut F (Bor A × Unit {0}) Bool}
+    (p : List ℕ → Bool) (items : List A) → Drains (filter_steps steps g) s items → (l : List (List ℕ)) → YieldsList (filter_steps steps g) v s (filter p l)
+    → map v items ≡ keep p l
+kept-items steps p items (u, (t, y, n)) l e = (YieldsList-end e items t y None u refl n).0 ∙ filter-keep p l
 
 -- ---- a whole copy, and the front as a part
 

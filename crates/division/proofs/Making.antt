@@ -1,34 +1,23 @@
 -- What the parts of a division compute is the quotient and the remainder: the lists made of the dividend in cube order. Assumes nothing.
-use Prim.Native.Nat.{ℕ, ◌<◌, ◌≤◌}
+use Prim.Native.Nat.{ℕ, ◌<◌}
 use mathlib.Core.Path.{◌≡◌, refl, sym, ◌∙◌, ap, subst}
 use mathlib.Core.Bool.{true, not, ◌&&◌}
 use mathlib.Core.List.{List, [], ◌∷◌}
 use native.Mathlib.Omega.{arith}
-use lib.ListN.{length, length-map}
+use lib.ListN.{length}
 use borrow.Author.Tests.{not-true}
 use Rattle.sets.{specs.Lists.keep, proofs.Orders.before-order, proofs.Orders.ext-in}
 use Rattle.sets.specs.Sets.{sub, asc, without, before}
 use Rattle.sets.proofs.Truth.{iff, both, together, clash, refuted}
-use Rattle.sets.proofs.Lists.{all_in, all-out, keep-in, keep_out, keep-length, pairwise-keep}
+use Rattle.sets.proofs.Lists.{all_in, all-out, keep-in, keep_out, pairwise-keep}
 use Rattle.sets.proofs.Sets.{rejoin, unjoin, union_right}
 use Rattle.expression.specs.Expression.{expression, has, sort}
 use Rattle.expression.proofs.Members.{has_in, has-out}
 use Rattle.expression.proofs.Sorting.{sort-in, sort-out, expression-sort}
-use Rattle.division.specs.Division.{in_quotient, left_over, quotient, product, remainder}
+use Rattle.division.specs.Division.{quotient, product, remainder}
 use Rattle.division.specs.Parts.{unsorted_quotient, spared}
 use Rattle.division.proofs.Quotients.{cube-asc, quotient-in, quotient-out, quotient-form, product-in, product-out, remainder-in, remainder-out}
 use Rattle.division.proofs.Quotients.{remainder-form}
-
--- ---- the lists, one cube of the dividend after the other
-
-module _ (f d : List (List ℕ)) (first : List ℕ) where
-  -- what the cubes l give to the quotient
-  abbrev pub given : List (List ℕ) → List (List ℕ)
-  given l = keep (in_quotient f d) (left_over l first)
-
-  pub given-length : (l : List (List ℕ)) → length (given l) ≤ length l
-  given-length l =
-      omega (arith, keep-length (in_quotient f d) (left_over l first), length-map (keep (sub first) l) (λ e. without e first), keep-length (sub first) l)
 
 -- ---- the quotient and the remainder, of the dividend in cube order
 

@@ -1,7 +1,9 @@
 // Weak division of lent expressions. The dividend is put in cube order first, so that a cube of it is found by halving.
 #![tactic(auto)]
 
-ghost use Rattle.std.specs.Prelude.{◌≡◌, true, ◌&&◌, ◌≤◌, length};
+ghost use Rattle.std.specs.Prelude.{◌≡◌, true, ◌&&◌, ◌≤◌, List, map, length};
+ghost use Rattle.std.specs.Iterator.{UpTo, Drains};
+ghost use Rattle.cube.specs.declared.Cube.{Cube};
 ghost use Rattle.sets.specs.Sets.{sub, apart, union, without};
 ghost use Rattle.cube.specs.Cube.{lits};
 ghost use Rattle.expression.specs.Words.{cubes_of, Appends};
@@ -70,19 +72,12 @@ fn copy_sorted(s: &[u64], to: &mut [u64]) -> usize
     n
 }
 
-// Whether a test is passed and c is one of the cubes, which stand in cube order.
-fn holds(passed: bool, s: &[u64], c: Cube) -> bool
+// Whether c is one of the cubes, which stand in cube order.
+fn holds(s: &[u64], c: Cube) -> bool
     requires { ordered (cubes_of s.now) ≡ true }
-    ensures { result ≡ (passed && has (lits c) (cubes_of s.now)) }
+    ensures { result ≡ has (lits c) (cubes_of s.now) }
 {
-    if !passed {
-        return false;
-    }
-    let p = expression_survey::find(s, c);
-    match p {
-        Position::At(_) => true,
-        Position::Nothing => false,
-    }
+    matches!(expression_survey::find(s, c), Position::At(_))
 }
 
 // Whether c and b share no literal and their union is in f.
@@ -90,11 +85,7 @@ fn fits(f: &[u64], c: Cube, b: Cube) -> bool
     requires { ordered (cubes_of f.now) ≡ true }
     ensures { result ≡ (apart (lits c) (lits b) && has (union (lits c) (lits b)) (cubes_of f.now)) }
 {
-    holds(
-        cube_sets::is_empty(cube_sets::common(c, b)),
-        f,
-        cube_sets::union(c, b),
-    )
+    cube_sets::is_empty(cube_sets::common(c, b)) && holds(f, cube_sets::union(c, b))
 }
 
 // Whether c fits each cube of d.
@@ -102,14 +93,21 @@ fn fits_all(f: &[u64], d: &[u64], c: Cube) -> bool
     requires { ordered (cubes_of f.now) ≡ true }
     ensures { result ≡ in_quotient (cubes_of f.now) (cubes_of d.now) (lits c) }
 {
-    let mut i = 0;
-    while i < expression::number(d) {
-        if !fits(f, c, expression::cube_at(d, i)) {
-            return false;
-        }
-        i += 1;
+    expression::each(d).all(|b| fits(f, c, b))
+}
+
+// The cubes that come, at the front of `to` in their order, and their number.
+fn list<I: Iterator<Item = Cube>>(cubes: I, to: &mut [u64]) -> usize
+    requires can { I.can_next cubes }
+    requires room { UpTo (I.remaining cubes) (length (cubes_of to.old)) }
+    ensures { (items : List Cube) × Drains I.next_gives cubes items × Appends to.old to.new 0 (map lits items) result }
+{
+    let mut kept = 0;
+    for c in cubes {
+        expression::put_cube(to, kept, c);
+        kept += 1;
     }
-    true
+    kept
 }
 
 // What is left of each cube of f without the first cube of d, where it fits all of d.
@@ -118,23 +116,10 @@ fn list_quotient(f: &[u64], d: &[u64], to: &mut [u64]) -> usize
     ensures { Appends to.old to.new 0 (unsorted_quotient (cubes_of f.now) (cubes_of d.now)) result }
 {
     let first = expression::cube_at(d, 0);
-    let n = expression::number(f);
-    let mut kept = 0;
-    let mut i = 0;
-    while i < n {
-        let e = expression::cube_at(f, i);
-        i += 1;
-        if !cube_sets::contains(e, first) {
-            continue;
-        }
-        let c = cube_sets::without(e, first);
-        if !fits_all(f, d, c) {
-            continue;
-        }
-        expression::put_cube(to, kept, c);
-        kept += 1;
-    }
-    kept
+    let left_over = expression::each(f)
+        .filter(|e| cube_sets::contains(*e, first))
+        .map(|e| cube_sets::without(e, first));
+    list(left_over.filter(|c| fits_all(f, d, *c)), to)
 }
 
 // The same, in cube order.
@@ -152,7 +137,7 @@ fn is_made_with(q: &[u64], b: Cube, e: Cube) -> bool
     requires { ordered (cubes_of q.now) ≡ true }
     ensures { result ≡ (sub (lits b) (lits e) && has (without (lits e) (lits b)) (cubes_of q.now)) }
 {
-    holds(cube_sets::contains(e, b), q, cube_sets::without(e, b))
+    cube_sets::contains(e, b) && holds(q, cube_sets::without(e, b))
 }
 
 // Whether that is so of no cube of d.
@@ -160,35 +145,16 @@ fn is_spared(q: &[u64], d: &[u64], e: Cube) -> bool
     requires { ordered (cubes_of q.now) ≡ true }
     ensures { result ≡ spared (cubes_of q.now) (cubes_of d.now) (lits e) }
 {
-    let mut i = 0;
-    while i < expression::number(d) {
-        if is_made_with(q, expression::cube_at(d, i), e) {
-            return false;
-        }
-        i += 1;
-    }
-    true
+    expression::each(d).all(|b| !is_made_with(q, b, e))
 }
 
 // The cubes of f that are spared, in their order.
 fn list_spared(f: &[u64], q: &[u64], d: &[u64], to: &mut [u64]) -> usize
-    requires fact_1 { length (cubes_of f.now) ≤ length (cubes_of to.old) }
-    requires fact_2 { ordered (cubes_of q.now) ≡ true }
+    requires room { length (cubes_of f.now) ≤ length (cubes_of to.old) }
+    requires order { ordered (cubes_of q.now) ≡ true }
     ensures { Appends to.old to.new 0 (spared_of q.now d.now f.now) result }
 {
-    let n = expression::number(f);
-    let mut kept = 0;
-    let mut i = 0;
-    while i < n {
-        let e = expression::cube_at(f, i);
-        i += 1;
-        if !is_spared(q, d, e) {
-            continue;
-        }
-        expression::put_cube(to, kept, e);
-        kept += 1;
-    }
-    kept
+    list(expression::each(f).filter(|e| is_spared(q, d, *e)), to)
 }
 
 // The cubes of a and of b into the rooms q and r, or 9 where one of them is too long.

@@ -1,25 +1,24 @@
--- The cube line: its cube is made place by place, its mask mark by mark, and the tests of the numbers, of the places and of the marks decide. Assumes nothing.
-use Prim.Native.Nat.{ℕ, suc, ◌+◌, ◌-◌, ◌*◌, ◌%◌, ◌^◌, ◌<◌, ◌≤◌}
+-- The cube line: its cube is made place by place, its mask mark by mark. Assumes nothing.
+use Prim.Native.Nat.{ℕ, suc, ◌+◌, ◌*◌, ◌%◌, ◌^◌, ◌<◌, ◌≤◌}
 use mathlib.Core.Path.{◌≡◌, refl, sym, ◌∙◌, ap}
-use mathlib.Core.Bool.{Bool, true, false, cond, ◌&&◌, ◌||◌, and-false, false≢true}
+use mathlib.Core.Bool.{Bool, true, false, cond, false≢true}
 use mathlib.Core.List.{List, [], ◌∷◌, ◌++◌, map, append-nil}
-use mathlib.Core.Option.{none, some}
+use mathlib.Core.List.{reverse}
+use mir.Val.{bool_byte}
+use Rattle.std.proofs.lemmas.List.{reverse-append}
 use native.Mathlib.Numerals.{add-one}
 use native.Mathlib.Omega.{arith}
-use lib.Dec.{eqb, leb, ltb}
-use lib.ListN.{length, get_or, take, drop, length-drop, length-map}
+use lib.Dec.{eqb, ltb}
+use lib.ListN.{length, get_or, take, length-map}
 use lib.Pow.{pow_mono}
-use lib.Seq.{take-suc, take_all, length-take-le, drop-cons}
-use borrow.Author.Tests.{eq-eqb, ne_eqb, le-leb, lt-leb, lt-ltb, leb-true, ltb-true, eqb-true}
-use Rattle.sets.{specs.Lists.all, specs.Sets.insert, specs.Masks.packed, proofs.Packing.packed_lt, proofs.Packing.packed-ones}
+use lib.Seq.{take-suc, length-take-le}
+use borrow.Author.Tests.{eq-eqb, ne_eqb, lt-ltb, ltb-true, eqb-true}
+use Rattle.sets.{specs.Lists.all, specs.Sets.insert, specs.Masks.packed, proofs.Packing.packed_lt}
 use Rattle.sets.proofs.Truth.{both, Stand, below, equal, beyond, compared}
-use Rattle.sets.proofs.Lists.{all_in, all-out, all-cong}
+use Rattle.sets.proofs.Lists.{all_in, all-out}
 use Rattle.cube.specs.Cube.{width, joined}
-use Rattle.table_lines.specs.Text.{starts_blank, trim_front}
-use Rattle.table_lines.proofs.Blanks.{blank-shorter, shorter-blank}
-use Rattle.table_rows.specs.Lines.{most_places, is_place, is_mark, CubeLine, cube_line_of, cube_from}
-use Rattle.table_rows.specs.Answers.{entry_of, parsing}
-use Rattle.table_rows.specs.Parts.{is_sign, placed, roomy, has_marks, entered, marked_line}
+use Rattle.table_rows.specs.Lines.{most_places, cube_from}
+use Rattle.table_rows.specs.Parts.{placed}
 use Rattle.table_rows.proofs.Covering.{from-bounds}
 
 -- ---- one literal more
@@ -92,115 +91,14 @@ placed-either v b c f g = rw (ne_eqb b 49 f, ne_eqb b 48 g)
 
 -- ---- one mark more
 
-pub marks-next : (o : List ℕ) (i : ℕ) → 0 < i → i ≤ length o
-    → packed (map (eqb 49) (drop (i - 1) o)) ≡ cond (eqb 49 (get_or o (i - 1) 0)) 1 0 + 2 * packed (map (eqb 49) (drop i o))
+pub marks-next : (l : List ℕ) (b : ℕ) → packed (map (eqb 49) (reverse (l ++ (b ∷ [])))) ≡ 2 * packed (map (eqb 49) (reverse l)) + bool_byte (eqb b 49)
 unfolding packed
-marks-next o i h k =
-    let j : i - 1 < length o = omega arith in
-    let q : suc (i - 1) ≡ i = omega arith in
-    let d : drop (i - 1) o ≡ get_or o (i - 1) 0 ∷ drop i o = drop-cons o (i - 1) 0 j ∙ ap (λ (n : ℕ). get_or o (i - 1) 0 ∷ drop n o) q in
-    rw d
+marks-next l b = rw (reverse-append l (b ∷ [])) (go (eqb b 49) refl)
+  where
+    go : (e : Bool) → eqb b 49 ≡ e → cond (eqb 49 b) 1 0 + 2 * packed (map (eqb 49) (reverse l)) ≡ 2 * packed (map (eqb 49) (reverse l)) + bool_byte e
+    go true e = rw (eqb-true b 49 e) (omega arith)
+    go false e = rw (ne_eqb 49 b (λ q. false≢true (sym e ∙ eq-eqb b 49 (sym q)))) (omega arith)
 
 -- few marks make a small mask
-pub marks-lt : (o : List ℕ) (i : ℕ) → length o ≤ most_places → packed (map (eqb 49) (drop i o)) < 2 ^ most_places
-marks-lt o i h =
-    let l : length (map (eqb 49) (drop i o)) ≤ most_places = simp (length-map, length-drop) (omega arith) in
-    omega (arith, packed_lt (map (eqb 49) (drop i o)), pow_mono l)
-
--- ---- the tests
-
-sign-place : (b : ℕ) → is_sign true b ≡ is_place b
-sign-place b = go (eqb b 45) (eqb b 48) (eqb b 49)
-  where
-    go : (z x y : Bool) → cond z true (x || y) ≡ (x || (y || z))
-    go true true y = refl
-    go true false true = refl
-    go true false false = refl
-    go false true y = refl
-    go false false true = refl
-    go false false false = refl
-
-sign-mark : (b : ℕ) → is_sign false b ≡ is_mark b
-sign-mark b = go (eqb b 45) refl
-  where
-    go : (z : Bool) → eqb b 45 ≡ z → cond z false (is_mark b) ≡ is_mark b
-    go true e = rw (eqb-true b 45 e)
-    go false e = refl
-
-pub all-places : (l : List ℕ) → all (is_sign true) l ≡ all is_place l
-all-places l = all-cong (is_sign true) is_place l (λ b m. sign-place b)
-
-pub all-marks : (l : List ℕ) → all (is_sign false) l ≡ all is_mark l
-all-marks l = all-cong (is_sign false) is_mark l (λ b m. sign-mark b)
-
-module _ (k n m : ℕ) where
-  pub roomy-wide : most_places < n → false ≡ roomy k n m
-  roomy-wide h = rw (lt-leb n most_places h)
-
-  pub roomy-many : most_places < m → false ≡ roomy k n m
-  roomy-many h = rw (lt-leb m most_places h, and-false (leb n most_places))
-
-  pub roomy-room : n ≤ most_places → m ≤ most_places → ltb (n + m) k ≡ roomy k n m
-  roomy-room h j = rw (le-leb n most_places h, le-leb m most_places j)
-
-  pub roomy-bounds : roomy k n m ≡ true → (n ≤ most_places) × (m ≤ most_places) × (n ≤ k)
-  roomy-bounds e =
-      let w = both (leb n most_places) (leb m most_places && ltb (n + m) k) e in
-      let x = both (leb m most_places) (ltb (n + m) k) w.1 in
-      (leb-true n most_places w.0, leb-true m most_places x.0, omega (arith, ltb-true (n + m) k x.1))
-
-module _ (m : ℕ) (o : List ℕ) where
-  pub marks-other : (length o ≡ m → ⊥) → false ≡ has_marks m o
-  marks-other h = rw (ne_eqb (length o) m h)
-
-  pub marks-read : length o ≡ m → all is_mark (take m o) ≡ has_marks m o
-  marks-read e = rw (eq-eqb (length o) m e, take_all m o (omega arith))
-
-  pub marks-length : has_marks m o ≡ true → length o ≡ m
-  marks-length e = eqb-true (length o) m (both (eqb (length o) m) (all is_mark o) e).0
-
--- the numbers are tested, then the places, and then the marks
-pub parsing-parts : (n m : ℕ) (c : List ℕ)
-    → cond (roomy (length c) n m) (cond (all is_place (take n c)) (marked_line m (take n c) (trim_front (drop n c))) none) none ≡ parsing n m c
-unfolding parsing cube_line_of
-parsing-parts n m c = go (leb n most_places) (leb m most_places) (ltb (n + m) (length c)) (eqb (length p) n) (all is_place p) (starts_blank r) (eqb (length o) m)
-    (all is_mark o) placed-all blank room
-  where
-    p : List ℕ
-    p = take n c
-
-    r : List ℕ
-    r = drop n c
-
-    o : List ℕ
-    o = trim_front r
-
-    line : CubeLine
-    line = record { places = p; marks = map (eqb 49) o }
-
-    placed-all : ltb (n + m) (length c) ≡ true → eqb (length p) n ≡ true
-    placed-all h = eq-eqb (length p) n (length-take-le n c (omega (arith, ltb-true (n + m) (length c) h)))
-
-    blank : ltb (n + m) (length c) ≡ true → eqb (length o) m ≡ true → starts_blank r ≡ true
-    blank h e = blank-shorter r (omega (arith, ltb-true (n + m) (length c) h, eqb-true (length o) m e, length-drop n c))
-
-    room : starts_blank r ≡ true → eqb (length o) m ≡ true → ltb (n + m) (length c) ≡ true
-    room h e = lt-ltb (n + m) (length c) (omega (arith, shorter-blank r h, eqb-true (length o) m e, length-drop n c))
-
-    go : (u v f x y z s t : Bool) → (f ≡ true → x ≡ true) → (f ≡ true → s ≡ true → z ≡ true) → (z ≡ true → s ≡ true → f ≡ true)
-        → cond (u && (v && f)) (cond y (cond (s && t) (entered (cube_from 0 p) (packed (map (eqb 49) o))) none) none) none
-        ≡ cond (u && v) (entry_of (cond (x && (y && (z && (s && t)))) (some line) none)) none
-    go false v f x y z s t i j k = refl
-    go true false f x y z s t i j k = refl
-    go true true false false y z s t i j k = refl
-    go true true false true false z s t i j k = refl
-    go true true false true true false s t i j k = refl
-    go true true false true true true false t i j k = refl
-    go true true false true true true true t i j k = absurd (false≢true (k refl refl))
-    go true true true false y z s t i j k = absurd (false≢true (i refl))
-    go true true true true false z s t i j k = refl
-    go true true true true true false false t i j k = refl
-    go true true true true true true false t i j k = refl
-    go true true true true true false true t i j k = absurd (false≢true (j refl refl))
-    go true true true true true true true false i j k = refl
-    go true true true true true true true true i j k = rw (packed-ones (map (eqb 49) o))
+pub marks-lt : (l : List ℕ) → length l ≤ most_places → packed (map (eqb 49) l) < 2 ^ most_places
+marks-lt l h = let n : length (map (eqb 49) l) ≤ most_places = simp length-map h in omega (arith, packed_lt (map (eqb 49) l), pow_mono n)

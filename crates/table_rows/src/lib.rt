@@ -1,13 +1,14 @@
 // The cube line that a line of a table text may be: its places and its marks, the cube, the mask and the rows.
 #![tactic(auto)]
 
-ghost use Rattle.std.specs.Prelude.{◌≡◌, map, ◌<◌, ◌≤◌, eqb, length, take};
+ghost use Rattle.std.specs.Prelude.{◌≡◌, map, ◌<◌, ◌≤◌, eqb, length};
 ghost use Rattle.sets.specs.Lists.{all};
 ghost use Rattle.sets.specs.Masks.{packed};
 ghost use Rattle.cube.specs.Cube.{width, lits};
-ghost use Rattle.table_rows.specs.Lines.{most_places, cube_from};
+ghost use Rattle.table_lines.specs.Text.{starts_blank};
+ghost use Rattle.table_rows.specs.Lines.{most_places, is_place, is_mark, cube_from};
 ghost use Rattle.table_rows.specs.Answers.{parsed_of, parsing, setting_of};
-ghost use Rattle.table_rows.specs.Parts.{is_sign, placed, roomy, has_marks, entered, marked_line};
+ghost use Rattle.table_rows.specs.Parts.{placed};
 
 use cube::{Cube, Variable};
 
@@ -28,60 +29,41 @@ pub enum Setting {
     Wrong,
 }
 
-// Whether b is `0` or `1`, or `-` where that may be.
-fn is_sign(b: u8, dash: bool) -> bool
-    ensures { result ≡ is_sign dash b }
+// One of `0 1`.
+pub fn is_mark(b: u8) -> bool
+    ensures { result ≡ is_mark b }
 {
-    if b == b'-' {
-        return dash;
-    }
-    if b == b'0' {
-        return true;
-    }
-    b == b'1'
+    matches!(b, b'0' | b'1')
 }
 
-// Whether each of the first n bytes of l is one.
-fn all_of(l: &[u8], n: usize, dash: bool) -> bool
-    requires { n ≤ length l.now }
-    ensures { result ≡ all (is_sign dash) (take n l.now) }
+// One of `0 1 -`.
+pub fn is_place(b: u8) -> bool
+    ensures { result ≡ is_place b }
 {
-    let mut i = 0;
-    while i < n {
-        if !is_sign(l[i], dash) {
-            return false;
-        }
-        i += 1;
-    }
-    true
+    is_mark(b) || b == b'-'
 }
 
 // The cube with the literal that place v asks for.
+#[tactic(auto, unfolding(crate::specs::Parts::placed))]
 fn with_place(c: Cube, v: u32, b: u8) -> Cube
     requires { v < width }
     ensures { lits result ≡ placed v b (lits c) }
 {
-    if b == b'1' {
-        return cube::with(c, cube::plain(Variable(v)));
+    match b {
+        b'1' => cube::with(c, cube::plain(Variable(v))),
+        b'0' => cube::with(c, cube::negated(Variable(v))),
+        _ => c,
     }
-    if b == b'0' {
-        return cube::with(c, cube::negated(Variable(v)));
-    }
-    c
 }
 
-// The literals of the first n places.
-fn cube_of(p: &[u8], n: usize) -> Cube
-    requires { (n ≤ most_places) × (n ≤ length p.now) }
-    ensures { lits result ≡ cube_from 0 (take n p.now) }
+// The literals of the places.
+fn cube_of(p: &[u8]) -> Cube
+    requires { length p.now ≤ most_places }
+    ensures { lits result ≡ cube_from 0 p.now }
 {
     let mut c = cube::empty();
-    let mut v: u32 = 0;
-    let mut i = 0;
-    while i < n {
-        c = with_place(c, v, p[i]);
-        v += 1;
-        i += 1;
+    for (v, b) in p.iter().enumerate() {
+        c = with_place(c, v as u32, *b);
     }
     c
 }
@@ -91,78 +73,63 @@ fn marks_of(o: &[u8]) -> u64
     requires { length o.now ≤ most_places }
     ensures { result ≡ packed (map (eqb 49) o.now) }
 {
-    let mut mask: u64 = 0;
-    let mut i = o.len();
-    while 0 < i {
-        i -= 1;
-        mask *= 2;
-        if o[i] == b'1' {
-            mask += 1;
-        }
+    let mut mask = 0;
+    for b in o.iter().rev() {
+        mask = 2 * mask + u64::from(*b == b'1');
     }
     mask
 }
 
-// Whether n places, a blank and m marks have room in k bytes; neither n nor m is past the most.
-fn has_room(k: usize, n: usize, m: usize) -> bool
-    ensures { result ≡ roomy k n m }
+// Whether each byte is one of `0 1 -`.
+fn all_places(p: &[u8]) -> bool
+    ensures { result ≡ all is_place p.now }
 {
-    if n > MOST || m > MOST {
-        return false;
-    }
-    n + m < k
+    p.iter().all(|b| is_place(*b))
 }
 
-// Whether m marks and nothing else are left.
-fn has_marks(o: &[u8], m: usize) -> bool
-    ensures { result ≡ has_marks m o.now }
+// Whether each byte is one of `0 1`.
+fn all_marks(o: &[u8]) -> bool
+    ensures { result ≡ all is_mark o.now }
 {
-    if o.len() != m {
-        return false;
-    }
-    all_of(o, m, false)
+    o.iter().all(|b| is_mark(*b))
 }
 
-// The cube and the mask, with the rows: as many as the mask has ones.
-fn counted(c: Cube, marks: u64) -> Parsed
-    ensures { parsed_of result ≡ entered (lits c) marks }
+// Whether a blank stands at the front.
+fn starts_blank(t: &[u8]) -> bool
+    ensures { result ≡ starts_blank t.now }
 {
-    Parsed::Line(c, marks, u64::count_ones(marks) as u64)
-}
-
-// The cube line of the first n places and of what is left after the blanks, if that is m marks.
-fn marked(c: &[u8], n: usize, o: &[u8], m: usize) -> Parsed
-    requires { (n ≤ most_places) × (m ≤ most_places) × (n ≤ length c.now) }
-    ensures { parsed_of result ≡ marked_line m (take n c.now) o.now }
-{
-    if !has_marks(o, m) {
-        return Parsed::Nothing;
-    }
-    counted(cube_of(c, n), marks_of(o))
+    matches!(t, [b, ..] if table_lines::is_blank(*b))
 }
 
 // The cube line of n inputs and m outputs that a line is, if it is one.
+#[tactic(auto, unfolding(crate::specs::Answers::parsing, crate::specs::Lines::cube_line_of))]
 pub fn cube_line(c: &[u8], n: usize, m: usize) -> Parsed
     ensures { parsed_of result ≡ parsing n m c.now }
 {
-    if !has_room(c.len(), n, m) {
+    if n > MOST || m > MOST {
         return Parsed::Nothing;
     }
-    if !all_of(c, n, true) {
+    let Some((p, t)) = c.split_at_checked(n) else {
+        return Parsed::Nothing;
+    };
+    if !all_places(p) || !starts_blank(t) {
         return Parsed::Nothing;
     }
-    marked(c, n, table_lines::trim_front(&c[n..]), m)
+    let o = table_lines::trim_front(t);
+    if o.len() != m || !all_marks(o) {
+        return Parsed::Nothing;
+    }
+    let marks = marks_of(o);
+    Parsed::Line(cube_of(p), marks, u64::from(marks.count_ones()))
 }
 
 // The setting that a word writes as a cube line writes its marks: `0` or `1` for each input, input 0 first.
+#[tactic(auto, unfolding(crate::specs::Answers::setting_of))]
 pub fn setting_of(word: &[u8], inputs: usize) -> Setting
     ensures { result ≡ setting_of inputs word.now }
 {
-    if inputs > MOST {
+    if inputs > MOST || word.len() != inputs || !all_marks(word) {
         return Setting::Wrong;
     }
-    if has_marks(word, inputs) {
-        return Setting::Is(marks_of(word));
-    }
-    Setting::Wrong
+    Setting::Is(marks_of(word))
 }

@@ -58,8 +58,8 @@ list_spared-m-requires c =
     let e = dividend (goal.at.list_spared-m-requires c).After-part-cubes in
     let a = admission (goal.at.list_spared-m-requires c).In_default in
     record {
-      fact_1 = sorted-room a _ e;
-      fact_2 = quotient-order a _ e _ (whole-there (goal.at.list_spared-m-requires c).After-part-whole);
+      room = sorted-room a _ e;
+      order = quotient-order a _ e _ (whole-there (goal.at.list_spared-m-requires c).After-part-whole);
     }
 
 pub returns : goal.returns

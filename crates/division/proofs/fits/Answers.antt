@@ -2,5 +2,8 @@
 use Rattle.sets.proofs.Sets.{meet-none}
 use Rattle.division.proofs.fits.Goals as goal
 
-pub returns : goal.returns
-returns c = rw (c.is_empty.ensures, c.common.ensures, meet-none, c.union.ensures) at c.holds.ensures
+pub returns-then-is_empty : goal.returns-then-is_empty
+returns-then-is_empty c = rw (← meet-none, ← c.common.ensures, ← c.is_empty.ensures, c.if-is_empty.true, ← c.union.ensures) c.holds.ensures
+
+pub returns-else-is_empty : goal.returns-else-is_empty
+returns-else-is_empty c = rw (← meet-none, ← c.common.ensures, ← c.is_empty.ensures, c.if-is_empty.false)

@@ -1,53 +1,33 @@
--- The answers of `division::list_quotient`.
-use mathlib.Core.Path.{◌≡◌, refl, sym, ◌∙◌}
-use native.Mathlib.Omega.{arith}
-use Rattle.sets.specs.Sets.{sub}
+-- `division::list_quotient` meets its contract: what the chain gives is the quotient before it is sorted. Assumes nothing.
+use mathlib.Core.Path.{◌∙◌}
+use borrow.Author.Rules.{rules}
+use borrow.Author.Tests.{tests}
+use Rattle.std.proofs.lemmas.Iterator.{maps, YieldsList-from_map_by}
+use Rattle.std.specs.Iterator.{YieldsFirstBy, Adapters.filter_steps}
+use Rattle.std.proofs.lemmas.Iterator.Consumers.{YieldsList-from_filter, YieldsList-at}
+use Rattle.sets.specs.Sets.{sub, without}
 use Rattle.cube.specs.Cube.{lits}
 use Rattle.expression.specs.Words.{cubes_of}
-use Rattle.division.proofs.Listing.{walk_first, walk-skip, walk_put, walk_end}
-use Rattle.division.proofs.{Making.given, Making.given-length}
+use Rattle.expression.proofs.{Chains.left, Chains.each-list, Placing.appends-as}
+use Rattle.division.specs.Division.{in_quotient}
+use Rattle.division.proofs.Listing.{filter-keep, kept-items}
 use Rattle.division.proofs.list_quotient.Goals as goal
-use Rattle.division.proofs.list_quotient.Goals.{After-contains}
-
--- what the tests say of the cube at place i
-lacking : (c : After-contains)
-    → sub (lits c.cube_at-first.result) (lits c.cube_at-e.result) ≡ c.contains.result
-lacking c = sym c.contains.ensures
-
-pub loop-i-init : goal.loop-i-init
-loop-i-init c =
-    let f = cubes_of c.args.f.now in
-    let d = cubes_of c.args.d.now in
-    let first = lits c.cube_at-first.result in
-    walk_first (given f d first) _ _ _ c.number-n.ensures (omega (arith, given-length f d first f, c.requires.room))
-
-pub loop-i-preserved-then-not-contains : goal.loop-i-preserved-then-not-contains
-loop-i-preserved-then-not-contains c =
-    walk-skip c.loop-i.invariant (omega arith) c.cube_at-e.ensures
-    (λ l. rw (lacking (goal.at.loop-i-preserved-then-not-contains c).After-contains ∙ c.if-not-contains.true))
-
-pub loop-i-preserved-then-not-fits_all : goal.loop-i-preserved-then-not-fits_all
-loop-i-preserved-then-not-fits_all c =
-    walk-skip c.loop-i.invariant (omega arith) c.cube_at-e.ensures
-    (λ l. rw (
-      lacking (goal.at.loop-i-preserved-then-not-fits_all c).After-contains ∙ c.if-not-contains.false,
-      ← c.without-c.ensures,
-      sym c.fits_all.ensures ∙ c.if-not-fits_all.true,
-    ))
-
-pub loop-i-preserved : goal.loop-i-preserved
-loop-i-preserved c =
-    walk_put c.loop-i.invariant (omega arith) c.cube_at-e.ensures
-    c.put_cube.ensures c.put_cube.auto.s
-    (λ l. rw (
-      lacking (goal.at.loop-i-preserved c).After-contains ∙ c.if-not-contains.false,
-      ← c.without-c.ensures,
-      sym c.fits_all.ensures ∙ c.if-not-fits_all.false,
-    ))
-
-pub shape_of-to : goal.shape_of-to
-shape_of-to c = c.loop-i.invariant.same
 
 pub returns : goal.returns
 returns c =
-    rw (← c.cube_at-first.ensures) (walk_end c.loop-i.invariant (omega arith) refl)
+    let f = cubes_of c.args.f.now in
+    let first = lits c.cube_at-first.result in
+    let p = in_quotient f (cubes_of c.args.d.now) in
+    let (items, came, stand) = c.list.ensures in
+    appends-as
+    (kept-items (maps (filter_steps (YieldsFirstBy lits left) _) _) p items came _
+    (YieldsList-from_filter _ p
+    (YieldsList-at c.filter-2.ensures.source
+    (YieldsList-from_map_by _ lits (λ e. without e first)
+    (YieldsList-at c.map-left_over.ensures.source
+    (YieldsList-from_filter _ (sub first) (YieldsList-at c.filter.ensures.source (each-list c.each.ensures)) c.filter.ensures.closure
+    (λ x b q k. search (rules, tests))))
+    c.map-left_over.ensures.closure (λ x r q k. search (rules, tests))))
+    c.filter-2.ensures.closure (λ x b q k. search (rules, tests)))
+    ∙ rw (filter-keep, c.cube_at-first.ensures))
+    stand

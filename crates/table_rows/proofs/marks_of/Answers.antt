@@ -1,43 +1,45 @@
 -- The answers of `table_rows::marks_of`.
-use mathlib.Core.Path.{◌≡◌, sym, ◌∙◌, ap}
-use Prim.Native.Nat.{◌-◌}
-use native.Mathlib.Omega.{arith}
-use mathlib.Core.List.{map}
-use lib.Dec.{eqb}
-use lib.ListN.{drop, get_or}
-use lib.Seq.{drop-length}
-use borrow.Author.Tests.{eq-eqb, ne_eqb}
+use Rattle.std.proofs.Common.{◌∙◌, ◌<◌, ◌≤◌, ◌^◌, ◌+◌, ◌*◌, [], ◌∷◌, Bor, ℕ, Bool, true, false, List, sym, ap, arith, map, reverse, eqb, length}
+use Rattle.std.proofs.lemmas.Iterator.Adapters.{YieldsList-from_rev_slice}
+use Rattle.std.proofs.lemmas.Iterator.Consumers.{YieldsList-turn, YieldsList-end}
+use Rattle.std.proofs.lemmas.List.{reverse-reverse, length-reverse, length-map, map-append}
+use mir.Val.{bool_byte}
 use Rattle.sets.specs.Masks.{packed}
-use Rattle.table_rows.proofs.{Cubing.marks-next, Cubing.marks-lt}
+use Rattle.table_rows.specs.Lines.{most_places}
+use Rattle.table_rows.proofs.Cubing.{marks-next, marks-lt}
 use Rattle.table_rows.proofs.marks_of.Goals as goal
 
-pub loop-i-init : goal.loop-i-init
+pub loop-b-init : goal.loop-b-init
 unfolding packed
-loop-i-init c = (omega arith, omega arith, rw (drop-length c.args.o.now))
+loop-b-init c = omega arith
+
+-- the mask so far is below 2 to the number of places
+small : (o : List ℕ) (l : List (Bor ℕ)) → length o ≤ most_places → length l < length (reverse o)
+    → packed (map (eqb 49) (reverse (map (λ (b : Bor ℕ). b.now) l))) < 2 ^ most_places
+small o l h k = marks-lt (reverse (map (λ (b : Bor ℕ). b.now) l)) (simp (length-reverse, length-map) (omega (arith, length-reverse o)))
 
 pub overflow_mul-mask : goal.overflow_mul-mask
-overflow_mul-mask c = record { fits = omega (arith, marks-lt c.args.o.now c.loop-i.i (omega arith)) }
+overflow_mul-mask c =
+    let t = YieldsList-turn (YieldsList-from_rev_slice c.args.o.now cc) c.loop-b.yielded _ c.loop-b.yielded_by _ _ c.in-Some.b c.in-Some.is c.next.ensures.steps in
+    record { fits = omega (arith, c.loop-b.invariant, small c.args.o.now c.loop-b.yielded c.requires t.0) }
+
+bit-le : (e : Bool) → bool_byte e ≤ 1
+bit-le true = omega arith
+bit-le false = omega arith
 
 pub overflow_add-mask : goal.overflow_add-mask
-overflow_add-mask c = record { fits = omega (arith, marks-lt c.args.o.now c.loop-i.i (omega arith)) }
+overflow_add-mask c =
+    let t = YieldsList-turn (YieldsList-from_rev_slice c.args.o.now cc) c.loop-b.yielded _ c.loop-b.yielded_by _ _ c.in-Some.b c.in-Some.is c.next.ensures.steps in
+    record { fits = omega (arith, c.loop-b.invariant, small c.args.o.now c.loop-b.yielded c.requires t.0, c.from.ensures, bit-le (eqb c.in-Some.b.now 49)) }
 
-pub loop-i-preserved-then-o-i-eq49 : goal.loop-i-preserved-then-o-i-eq49
-loop-i-preserved-then-o-i-eq49 c = let o = c.args.o.now in (
-  omega arith,
-  omega arith,
-  rw (marks-next o c.loop-i.i (omega arith) (omega arith), eq-eqb 49 (get_or o (c.loop-i.i - 1) 0) (sym c.if-o-i-eq49.true))
-      (omega arith),
-)
-
-pub loop-i-preserved : goal.loop-i-preserved
-loop-i-preserved c = let o = c.args.o.now in (
-  omega arith,
-  omega arith,
-  rw (marks-next o c.loop-i.i (omega arith) (omega arith), ne_eqb 49 (get_or o (c.loop-i.i - 1) 0) (λ e. c.if-o-i-eq49.false (sym e)))
-      (omega arith),
-)
+pub loop-b-preserved : goal.loop-b-preserved
+loop-b-preserved c =
+    ap (λ (n : ℕ). 2 * c.loop-b.mask + n) c.from.ensures
+    ∙ ap (λ (n : ℕ). 2 * n + bool_byte (eqb c.in-Some.b.now 49)) c.loop-b.invariant
+    ∙ sym (marks-next (map (λ (b : Bor ℕ). b.now) c.loop-b.yielded) c.in-Some.b.now)
+    ∙ ap (λ (l : List ℕ). packed (map (eqb 49) (reverse l))) (sym (map-append (λ (b : Bor ℕ). b.now) c.loop-b.yielded (c.in-Some.b ∷ [])))
 
 pub returns : goal.returns
-returns c = let o = c.args.o.now in
-    let z : c.loop-i.i ≡ 0 = omega arith in
-    c.loop-i.invariant.2 ∙ ap (λ j. packed (map (eqb 49) (drop j o))) z
+returns c =
+    let e = YieldsList-end (YieldsList-from_rev_slice c.args.o.now cc) c.loop-b.yielded _ c.loop-b.yielded_by _ _ c.in-None.is c.next.ensures.steps in
+    c.loop-b.invariant ∙ ap (λ (l : List ℕ). packed (map (eqb 49) (reverse l))) e.0 ∙ ap (λ (l : List ℕ). packed (map (eqb 49) l)) (reverse-reverse c.args.o.now)
