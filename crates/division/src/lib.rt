@@ -14,7 +14,7 @@ ghost use Rattle.division.specs.Answers.{either, Divided};
 ghost use Rattle.division.specs.Parts.{no_cubes, admitted, OrderedRoom, unsorted_quotient, spared, spared_of, HandedOver};
 
 use cube::Cube;
-use expression::{Position, Verdict};
+use expression::Verdict;
 
 #[derive(Clone, Copy)]
 pub enum Division {
@@ -77,7 +77,7 @@ fn holds(s: &[u64], c: Cube) -> bool
     requires { ordered (cubes_of s.now) ≡ true }
     ensures { result ≡ has (lits c) (cubes_of s.now) }
 {
-    matches!(expression_survey::find(s, c), Position::At(_))
+    expression_survey::find(s, c).is_some()
 }
 
 // Whether c and b share no literal and their union is in f.

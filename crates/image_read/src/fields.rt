@@ -12,7 +12,7 @@ ghost use Rattle.image_laws.specs.Reading.{get_literals, get_cube};
 ghost use Rattle.image_read.specs.Parts.{times, widest, FieldIs, CubeIs};
 
 use crate::Fault;
-use cube::{Cube, Found, Literal};
+use cube::{Cube, Literal};
 
 // A cube as read: its literals as a set, how many were written, whether they ascend, and the bit after it.
 #[derive(Clone, Copy)]
@@ -58,7 +58,7 @@ pub fn field_at(bytes: &[u8], at: usize, w: usize) -> Option<usize>
 fn is_below(c: Cube, l: Literal) -> bool
     ensures { result ≡ all (λ x. ltb x l.0) (lits c) }
 {
-    matches!(cube_order::first_from(c, l), Found::Nothing)
+    cube_order::first_from(c, l).is_none()
 }
 
 // Whether l is of one of v variables and its opposite is not in c.
