@@ -55,19 +55,14 @@ fn close(f: &[u64], c: Cube) -> Closure
 {
     let mut number = 0;
     let mut m = cube::empty();
-    let mut i = expression::number(f);
-    while 0 < i {
-        i -= 1;
+    for i in (0..expression::number(f)).rev() {
         let d = expression::cube_at(f, i);
         if cube_sets::contains(d, c) {
             m = narrowed(number, m, d);
             number += 1;
         }
     }
-    Closure {
-        number: number,
-        common: m,
-    }
+    Closure { number, common: m }
 }
 
 // Whether m has no literal below j that c lacks.
@@ -85,22 +80,14 @@ fn agrees(m: Cube, c: Cube, j: u32) -> bool
 fn is_closed(s: Closure, c: Cube) -> bool
     ensures { result ≡ (leb 2 s.number && same (lits s.common) (lits c)) }
 {
-    if s.number < FEWEST {
-        return false;
-    }
-    let m = s.common;
-    cube_sets::same(m, c)
+    FEWEST <= s.number && cube_sets::same(s.common, c)
 }
 
 // Whether c, which s closes, opens a branch: no co-kernel goes beyond it where closing adds a literal below j, its last one.
 fn is_open(s: Closure, c: Cube, j: u32) -> bool
     ensures { result ≡ (leb 2 s.number && all (leb j) (without (lits s.common) (lits c))) }
 {
-    if s.number < FEWEST {
-        return false;
-    }
-    let m = s.common;
-    agrees(m, c, j)
+    FEWEST <= s.number && agrees(s.common, c, j)
 }
 
 // The cube with p's literals and j, closed.
@@ -110,14 +97,11 @@ fn branch_at(f: &[u64], p: Cube, j: u32) -> Branch
 {
     let q = cube::with(p, Literal(j));
     let s = close(f, q);
-    let m = s.common;
-    let opened = is_open(s, q, j);
-    let closed = is_closed(s, q);
     Branch {
         cube: q,
-        common: m,
-        opened: opened,
-        closed: closed,
+        common: s.common,
+        opened: is_open(s, q, j),
+        closed: is_closed(s, q),
     }
 }
 
@@ -150,10 +134,8 @@ fn list_beyond(f: &[u64], p: Cube, m: Cube, j: u32, o: &mut [u64], i: usize, mos
     let b = branch_at(f, p, j);
     let mut at = i;
     if b.opened {
-        let q = b.cube;
-        let common = b.common;
-        let next = put_if(o, i, q, b.closed);
-        at = list_beyond(f, q, common, j + 1, o, next, most);
+        let next = put_if(o, i, b.cube, b.closed);
+        at = list_beyond(f, b.cube, b.common, j + 1, o, next, most);
     }
     if cube::has(m, Literal(j)) {
         return at;
@@ -168,10 +150,9 @@ fn list_all(f: &[u64], o: &mut [u64], most: usize) -> usize
 {
     let none = cube::empty();
     let s = close(f, none);
-    let m = s.common;
     let closed = is_closed(s, none);
     let next = put_if(o, 0, none, closed);
-    list_beyond(f, none, m, 0, o, next, most)
+    list_beyond(f, none, s.common, 0, o, next, most)
 }
 
 // Every co-kernel of f, in cube order, into the room o, and their number; they are counted with no room first.
@@ -184,8 +165,7 @@ pub fn cokernels(f: &[u64], o: &mut [u64]) -> Listed
     }
     let room = expression::number(o);
     let most = room + 1;
-    let nowhere = 0;
-    let n = list_all(f, &mut o[..nowhere], most);
+    let n = list_all(f, &mut [], most);
     if room < n {
         return Listed::Refused(9);
     }

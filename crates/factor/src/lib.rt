@@ -10,7 +10,7 @@ ghost use Rattle.expression.specs.Words.{cubes_of};
 ghost use Rattle.expression.specs.Answers.{most_handed, refusal};
 ghost use Rattle.factor.specs.Form.{used_in, most_used};
 ghost use Rattle.factor.specs.Text.{sum_text, text_of};
-ghost use Rattle.factor.specs.Parts.{cubes_from, HasCubes, Spared, Parted, Gathered, written_sum, product_of, Wrought};
+ghost use Rattle.factor.specs.Parts.{cubes_from, Spared, Parted, Gathered, written_sum, product_of, Wrought};
 
 use cube::Literal;
 use expression::Verdict;
@@ -18,60 +18,46 @@ use letters::Wrote;
 
 // ---- the cubes as they stand
 
-// Cubes a up to e with `+` between them; no cubes is `0`.
-fn put_cubes(o: &mut [u8], at: usize, w: &[u64], a: usize, e: usize) -> usize
-    requires { HasCubes w.now a e }
-    ensures { Laid o.old o.new at result (sum_text (cubes_from a e w.now)) }
+// Cubes with `+` between them; no cubes is `0`.
+fn put_cubes(o: &mut [u8], at: usize, f: &[u64]) -> usize
+    ensures { Laid o.old o.new at result (sum_text (cubes_of f.now)) }
 {
-    if a == e {
+    let mut cubes = expression::each(f);
+    let Some(first) = cubes.next() else {
         return letters::put(o, at, b'0');
-    }
-    let mut p = letters_products::put_product(o, at, expression::cube_at(w, a));
-    let mut i = a + 1;
-    while i < e {
+    };
+    let mut p = letters_products::put_product(o, at, first);
+    for c in cubes {
         p = letters::put(o, p, b'+');
-        p = letters_products::put_product(o, p, expression::cube_at(w, i));
-        i += 1;
+        p = letters_products::put_product(o, p, c);
     }
     p
 }
 
-// ---- a part of the cubes
-
-// In how many cubes from a up to e the literal is.
-fn uses(w: &[u64], a: usize, e: usize, l: Literal) -> usize
-    requires { HasCubes w.now a e }
-    ensures { result ≡ used_in l.0 (cubes_from a e w.now) }
+// In how many cubes the literal is.
+fn uses(f: &[u64], l: Literal) -> usize
+    ensures { result ≡ used_in l.0 (cubes_of f.now) }
 {
-    let mut n = 0;
-    let mut i = a;
-    while i < e {
-        if cube::has(expression::cube_at(w, i), l) {
-            n += 1;
-        }
-        i += 1;
-    }
-    n
+    expression::each(f).filter(|c| cube::has(*c, l)).count()
 }
 
-// The literal in most cubes from a up to e, the smallest on a tie.
-fn most_used(w: &[u64], a: usize, e: usize) -> Literal
-    requires { HasCubes w.now a e }
-    ensures { result.0 ≡ most_used (cubes_from a e w.now) }
+// The literal in most cubes, the smallest on a tie.
+fn most_used(f: &[u64]) -> Literal
+    ensures { result.0 ≡ most_used (cubes_of f.now) }
 {
     let mut best = 0;
-    let mut most = uses(w, a, e, Literal(0));
-    let mut l = 1;
-    while l < cube::LITERALS {
-        let n = uses(w, a, e, Literal(l));
+    let mut most = uses(f, Literal(0));
+    for l in 1..cube::LITERALS {
+        let n = uses(f, Literal(l));
         if most < n {
             best = l;
             most = n;
         }
-        l += 1;
     }
     Literal(best)
 }
+
+// ---- a part of the cubes
 
 // The cubes with l come first, without it; the rest go to the spare words. Where the first end.
 fn gather(w: &mut [u64], spare: &mut [u64], a: usize, e: usize, l: Literal) -> usize
@@ -80,8 +66,8 @@ fn gather(w: &mut [u64], spare: &mut [u64], a: usize, e: usize, l: Literal) -> u
 {
     let one = cube::with(cube::empty(), l);
     let mut m = a;
-    let mut i = a;
-    while i < e {
+    // By place: the cubes are written as well as read.
+    for i in a..e {
         let c = expression::cube_at(w, i);
         if cube::has(c, l) {
             expression::put_cube(w, m, cube_sets::without(c, one));
@@ -89,7 +75,6 @@ fn gather(w: &mut [u64], spare: &mut [u64], a: usize, e: usize, l: Literal) -> u
         } else {
             expression::put_cube(spare, i - m, c);
         }
-        i += 1;
     }
     m
 }
@@ -112,9 +97,10 @@ fn sum(w: &mut [u64], spare: &mut [u64], a: usize, e: usize, o: &mut [u8], at: u
     requires { Spared w.old spare.old a e }
     ensures { Wrought w.old w.new o.old o.new a e at result (written_sum (cubes_from a e w.old)) }
 {
-    let l = most_used(w, a, e);
-    if uses(w, a, e, l) < 2 {
-        return put_cubes(o, at, w, a, e);
+    let f = expression::part(w, a, e);
+    let l = most_used(f);
+    if uses(f, l) < 2 {
+        return put_cubes(o, at, f);
     }
     let m = split(w, spare, a, e, l);
     let p = product(l, w, spare, a, m, o, at);
@@ -169,8 +155,7 @@ pub fn factored(f: &[u64], o: &mut [u8]) -> Wrote
     if let Verdict::Refused(k) = v {
         return Wrote::Refused(k);
     }
-    let none = 0;
-    let n = text(f, &mut o[..none]);
+    let n = text(f, &mut []);
     if o.len() < n {
         return Wrote::Refused(9);
     }

@@ -7,4 +7,4 @@ use Rattle.cokernel.proofs.branch_at.Goals as goal
 pub returns : goal.returns
 returns c =
     branch-found _ _ (held-words _) _ _ _ (c.with-q.ensures ∙ joined-inside _ _ c.requires) _ _ c.close-s.ensures
-    (lits-asc c.with-q.result) _ _ c.is_open-opened.ensures c.is_closed-closed.ensures
+    (lits-asc c.with-q.result) _ _ c.is_open.ensures c.is_closed.ensures

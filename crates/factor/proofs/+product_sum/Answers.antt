@@ -2,17 +2,17 @@
 -- a sum is its cubes as they stand, or l times F/l and then the sum of the rest, as `split` parts the cubes. Assumes nothing.
 use mathlib.Core.Path.{◌≡◌, sym, ◌∙◌, ap, subst}
 use mathlib.Core.List.{List, [], ◌∷◌, ◌++◌}
-use Prim.Native.Nat.{ℕ, ◌*◌, ◌≤◌, ◌<◌}
+use Prim.Native.Nat.{ℕ, ◌-◌, ◌*◌, ◌≤◌, ◌<◌}
 use native.Mathlib.Omega.{arith}
-use lib.ListN.{length}
+use lib.ListN.{length, take, drop}
 use Rattle.sets.specs.Lists.{is_nil}
 use Rattle.cube.specs.Cube.{width}
 use Rattle.expression.{specs.Words.cubes_of, specs.Expression.literals_of, proofs.Words.same-room}
 use Rattle.factor.specs.{Form.used_in, Form.most_used}
-use Rattle.factor.specs.Parts.{cubes_from, Elsewhere, written_sum, product_of}
+use Rattle.factor.specs.Parts.{cubes_from, HasCubes, Elsewhere, written_sum, product_of}
 use Rattle.letters.proofs.Laying.{Due, due_all, due-as, due-next, due-done, due-last}
 use Rattle.factor.proofs.{Choosing.most_used-inside, Falling.literals-fall}
-use Rattle.factor.proofs.Parting.{part-after, part-some, slice-none, outside-none, outside-join}
+use Rattle.factor.proofs.Parting.{slice-from, part-after, part-some, slice-none, outside-none, outside-join}
 use Rattle.factor.proofs.Writing.{after, after_none, after-some, sum-plain, sum-parted, product-start}
 use Rattle.factor.proofs.+product_sum.Goals as goal
 use Rattle.factor.proofs.+product_sum.Goals.{product-After-sum-s, sum-After-product-p}
@@ -45,13 +45,18 @@ product-returns t c = record { laid = due-last (close-due t (goal.at.product-ret
 
 -- ---- the sum
 
+-- the cubes that are read are those of the part
+the-part : {ws : List ℕ} {a e : ℕ} → HasCubes ws a e → (f : List ℕ) → cubes_of f ≡ take (e - a) (drop a (cubes_of ws)) → cubes_of f ≡ cubes_from a e ws
+the-part {ws} {a} {e} h f p = p ∙ sym (slice-from a e (cubes_of ws) h.forth)
+
 -- no literal is in two cubes: the cubes are due as they stand
 pub sum-returns-then-uses-lt2 : goal.sum-returns-then-uses-lt2
 sum-returns-then-uses-lt2 t c =
-    let f = cubes_from c.args.a c.args.e c.args.w.now in
+    let f = cubes_of c.part-f.result.now in
     let n : c.uses.result ≡ used_in (most_used f) f = c.uses.ensures ∙ ap (λ l. used_in l f) c.most_used-l.ensures in
+    let part : f ≡ cubes_from c.args.a c.args.e c.args.w.now = the-part c.requires.held _ c.part-f.ensures.0 in
     record {
-      laid = due-last (due_all _ _ (omega arith) (omega arith) (sum-plain f (omega (arith, n, c.if-uses-lt2.true)))) c.put_cubes.ensures;
+      laid = due-last (due_all _ _ (omega arith) (omega arith) (ap written_sum (sym part) ∙ sum-plain f (omega (arith, n, c.if-uses-lt2.true)))) c.put_cubes.ensures;
       outside = outside-none _ _ _;
     }
 
@@ -62,7 +67,8 @@ pub sum-product-p-requires : goal.sum-product-p-requires
 sum-product-p-requires t c =
     let f = cubes_from c.args.a c.args.e c.args.w.now in
     let p = c.split-m.ensures in
-    let many : 2 ≤ used_in c.most_used-l.result.0 f = omega (arith, c.uses.ensures, c.if-uses-lt2.false) in
+    let part = the-part c.requires.held _ c.part-f.ensures.0 in
+    let many : 2 ≤ used_in c.most_used-l.result.0 f = omega (arith, c.uses.ensures, ap (used_in c.most_used-l.result.0) part, c.if-uses-lt2.false) in
     let held : c.args.e ≤ length (cubes_of c.split-m.new.w) = omega (arith, same-room c.split-m.new.w c.args.w.now c.split-m.auto.w, c.requires.held.inside) in
     let places : c.args.e ≤ length (cubes_of c.split-m.new.spare) = omega (arith, same-room c.split-m.new.spare c.args.spare.now c.split-m.auto.spare, c.requires.places) in (
       omega (arith, ap literals_of p.first, literals-fall c.most_used-l.result.0 f, many),
@@ -89,13 +95,16 @@ module _ (t : ℕ) (c : sum-After-product-p t) where
   abbrev Due-of : List ℕ → ℕ → List ℕ → Type 0
   Due-of o at u = Due c.args.o.now c.args.at (written_sum terms) o at u
 
+  part : cubes_of c.part-f.result.now ≡ terms
+  part = the-part c.requires.held _ c.part-f.ensures.0
+
   many : 2 ≤ used_in literal terms
-  many = omega (arith, c.uses.ensures, c.if-uses-lt2.false)
+  many = omega (arith, c.uses.ensures, ap (used_in literal) part, c.if-uses-lt2.false)
 
   -- the product is due, then the rest
   parted-due : Due-of c.args.o.now c.args.at (product_of literal quotient ++ after (others c.split-m.new.w))
   parted-due = due_all _ _ (omega arith) (omega arith)
-      (sum-parted _ _ _ _ c.most_used-l.ensures many c.split-m.ensures.first c.split-m.ensures.second)
+      (sum-parted _ _ _ _ (c.most_used-l.ensures ∙ ap most_used part) many c.split-m.ensures.first c.split-m.ensures.second)
 
   -- there are as many cubes and as many spare places as before
   held : c.args.e ≤ length (cubes_of c.split-m.new.w)
