@@ -7,7 +7,7 @@ use lib.ListN.{length, get_or, take, drop, length-drop, drop_of_length-le}
 use lib.Seq.{get_or-take, get_or-drop, length-take-le, take-take}
 use Rattle.expression.specs.Words.{cubes_of}
 use Rattle.network_nodes.{specs.Nodes.cut, proofs.Cutting.cut-length, proofs.Cutting.cut-take}
-use Rattle.sets.proofs.Places.{drop-next}
+use Rattle.sets.{proofs.Places.drop-next, proofs.Rows.drop-take}
 use Rattle.network.specs.{Net.Node, Net.cubes_at, Meaning.IsDivisor, Held.number_at, Held.place_at}
 use Rattle.network.specs.Parts.{nodes_of, held_in, net_at}
 use Rattle.network.proofs.Numbering.{numbered-range, numbered-get, place-number}
@@ -30,6 +30,10 @@ module _ (cs ws : List ℕ) where
 
     pub divisors-at : (i : ℕ) → i < k → get_or (drop m (nodes_of (m + k) cs ws)) i [] ≡ get_or (cut cs (cubes_of ws)) (m + i) []
     divisors-at i h = get_or-drop m (nodes_of (m + k) cs ws) i [] ∙ nodes-at (m + k) (m + i) (omega arith)
+
+    -- as nodes passed over and as many taken
+    pub divisors-cut : take k (drop m (cut cs (cubes_of ws))) ≡ drop m (nodes_of (m + k) cs ws)
+    divisors-cut = sym (ap (drop m) (cut-take (m + k) cs (cubes_of ws)) ∙ drop-take m k (cut cs (cubes_of ws)))
 
     -- the expressions of the outputs
     pub outputs-are : take m (nodes_of (m + k) cs ws) ≡ nodes_of m cs ws

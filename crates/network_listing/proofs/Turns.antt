@@ -1,17 +1,21 @@
 -- The listing turn by turn: the next number by known literals, and what the turns made so far leave to be made. Assumes nothing.
 use Prim.Native.Nat.{ℕ, zero, suc, ◌+◌, ◌-◌, ◌<◌, ◌≤◌}
 use mathlib.Core.Path.{◌≡◌, refl, sym, ap, ap₂, ◌∙◌, subst}
-use mathlib.Core.Bool.{true, false, not, ◌&&◌}
+use mathlib.Core.Bool.{Bool, true, false, not, ◌&&◌}
 use mathlib.Core.List.Memᴰ.{head as here}
 use mathlib.Core.List.Memᴰ.{tail as there}
 use mathlib.Core.List.{List, [], ◌∷◌, ◌++◌}
 use mathlib.Core.Option.{none, some}
+use mathlib.Core.Logic.{inl, inr}
+use Rattle.std.proofs.Common.{Option, None, Some, MatchOption, add-zero, min}
+use Rattle.std.specs.List.{find, enumerate_from}
+use Rattle.sets.{specs.Word.largest, proofs.Truth.decided}
 use native.Mathlib.Omega.{arith}
 use native.Mathlib.Numerals.{add-one}
 use lib.ListN.{length, take, drop, set, replicate, length-set, take-append-drop}
 use lib.Seq.{length-take-le, take-suc-set, drop-set-lt, drop-drop}
 use Rattle.sets.{specs.Literal.plain_of, specs.Sets.mem, specs.Sets.insert, proofs.Lists.◌∈◌}
-use Rattle.network.{specs.Net.Node, specs.Net.Net, specs.Held.most_variables, proofs.Listings.more-none, proofs.Listings.more-some}
+use Rattle.network.{specs.Net.Node, specs.Net.Net, specs.Held.most_variables, specs.Held.number_at, specs.Held.numbered, proofs.Listings.more-none, proofs.Listings.more-some}
 use Rattle.network.specs.Listing.{next_ready, list_more, listing}
 use Rattle.network_known.specs.Known.{every_within, BothWays, signed}
 use Rattle.network_known.proofs.Knowing.{spans-listed}
@@ -20,18 +24,37 @@ use Rattle.network_listing.proofs.Reaching.{within-ready, plain-listed}
 
 -- ---- the next number
 
-module _ (k : List ℕ) {ds rest : List Node} {e : Node} (q : ds ≡ e ∷ rest) where
-  pub next-found : (not (mem (plain_of e.number) k) && every_within k e.cubes) ≡ true → next_in k ds ≡ some e.number
-  unfolding next_in
-  next-found t = rw (q, t)
+-- the first that a test finds among the divisors and their places is the next
+module _ (k : List ℕ) (n : ℕ) where
+  abbrev pub passes : ℕ × List (List ℕ) → Bool
+  passes p = not (mem (plain_of (min (number_at n p.0) largest)) k) && every_within k p.1
 
-  pub next-on : (not (mem (plain_of e.number) k) && every_within k e.cubes) ≡ false → next_in k ds ≡ next_in k rest
-  unfolding next_in
-  next-on t = rw (q, t)
+  next-from : (i : ℕ) (fs : List (List (List ℕ))) → n + i + length fs ≤ largest → MatchOption (find passes (enumerate_from i fs))
+      (next_in k (numbered (n + i) fs) ≡ none)
+      (λ p. next_in k (numbered (n + i) fs) ≡ some (min (number_at n p.0) largest))
+  unfolding next_in numbered
+  next-from i [] h = refl
+  next-from i (f ∷ fs) h =
+      let e : min (n + i) largest ≡ n + i = omega arith in
+      let q : n + (i + 1) ≡ suc (n + i) = omega arith in
+      rw e (elim (decided (not (mem (plain_of (n + i)) k) && every_within k f)) [
+        | inl t ↦ rw t (ap some (sym e))
+        | inr t ↦ rw t (subst
+            (λ x. MatchOption (find passes (enumerate_from (i + 1) fs)) (next_in k (numbered x fs) ≡ none) (λ p. next_in k (numbered x fs) ≡ some (min (number_at n p.0) largest)))
+            q (next-from (i + 1) fs (omega arith)))
+      ])
 
-pub next-done : (k : List ℕ) {ds : List Node} → ds ≡ [] → next_in k ds ≡ none
-unfolding next_in
-next-done k e = rw e
+  module _ (fs : List (List (List ℕ))) (h : n + length fs ≤ largest) {r : Option (ℕ × List (List ℕ))} (e : r ≡ find passes (enumerate_from 0 fs)) where
+    next-first : MatchOption r (next_in k (numbered n fs) ≡ none) (λ p. next_in k (numbered n fs) ≡ some (min (number_at n p.0) largest))
+    next-first = rw e (subst
+        (λ x. MatchOption (find passes (enumerate_from 0 fs)) (next_in k (numbered x fs) ≡ none) (λ p. next_in k (numbered x fs) ≡ some (min (number_at n p.0) largest)))
+        (add-zero n) (next-from 0 fs (omega arith)))
+
+    pub next-none : r ≡ None → next_in k (numbered n fs) ≡ none
+    next-none q = rw q at next-first
+
+    pub next-found : {p : ℕ × List (List ℕ)} → r ≡ Some p → next_in k (numbered n fs) ≡ some (min (number_at n p.0) largest)
+    next-found q = rw q at next-first
 
 -- known literals give the next number of the definition
 pub next-ready : (n : ℕ) (listed k : List ℕ) → BothWays n listed k → (ds : List Node) → ((e : Node) → e ∈ ds → n ≤ e.number)

@@ -1,22 +1,21 @@
 // The listing of a network's divisors: again and again the smallest number whose own divisors are all listed.
 #![tactic(auto)]
 
-ghost use Rattle.std.specs.Prelude.{◌≡◌, true, false, not, ◌&&◌, [], ◌<◌, ◌≤◌};
+ghost use Rattle.std.specs.Prelude.{◌≡◌, true, false, not, ◌&&◌, [], ◌+◌, ◌<◌, ◌≤◌, MatchOption};
+ghost use Rattle.std.proofs.Math.Option.{none, some};
 ghost use Rattle.sets.specs.Lists.{all};
 ghost use Rattle.sets.specs.Literal.{plain_of};
 ghost use Rattle.sets.specs.Sets.{mem, insert};
 ghost use Rattle.cube.specs.Cube.{lits};
 ghost use Rattle.expression.specs.Words.{cubes_of};
-ghost use Rattle.expression.specs.Answers.{place_of};
 ghost use Rattle.network_known.specs.Known.{every_within, BothWays, signed};
 ghost use Rattle.network.specs.Listing.{listing};
-ghost use Rattle.network.specs.Held.{reach, most_variables};
+ghost use Rattle.network.specs.Held.{net_of, reach, most_variables};
 ghost use Rattle.network.specs.Answers.{listable, listed_of};
-ghost use Rattle.network.specs.Parts.{nodes_of, net_at, InLimits};
+ghost use Rattle.network.specs.Parts.{nodes_of, Limited};
 ghost use Rattle.network_listing.specs.Parts.{next_in, PaddedList};
 
-use cube::{Cube, Variable};
-use expression::Position;
+use cube::Cube;
 use network::{Listed, Network};
 
 // c with both literals of the variable v.
@@ -33,88 +32,66 @@ fn below(n: usize) -> Cube
     ensures { BothWays n [] (lits result) }
 {
     let mut c = cube::empty();
-    let mut v = 0;
-    while v < n {
+    for v in 0..n {
         c = both(c, v);
-        v += 1;
     }
     c
 }
 
 // Whether k lacks the variable v and has all literals of the cubes.
 fn is_next(f: &[u64], v: usize, k: Cube) -> bool
-    requires { v < most_variables }
     ensures { result ≡ (not (mem (plain_of v) (lits k)) && every_within (lits k) (cubes_of f.now)) }
 {
-    if cube::has(k, cube::plain(Variable(v as u32))) {
-        return false;
-    }
-    network_known::within(f, k, true)
+    !network_known::has_plain(k, v) && network_known::within(f, k, true)
 }
 
 // The first divisor that is not known and reads known variables alone.
-fn next(words: &[u64], counts: &[usize], n: usize, m: usize, k: usize, known: Cube) -> Position
-    requires { InLimits n m k words.now counts.now }
-    ensures { place_of result ≡ next_in (lits known) (net_at n m k counts.now words.now).divisors }
+fn next(n: &Network, known: Cube) -> Option<usize>
+    requires { Limited n.now }
+    ensures { MatchOption result (next_in (lits known) (net_of n.now).divisors ≡ none) (λ v. next_in (lits known) (net_of n.now).divisors ≡ some v) }
 {
-    let mut i = 0;
-    while i < k {
-        let v = network::number_of(n, i);
-        if is_next(
-            network_nodes::node(words, counts, network::place_of(n, m, v)),
-            v,
-            known,
-        ) {
-            return Position::At(v);
-        }
-        i += 1;
-    }
-    Position::Nothing
+    let (i, _) = network_nodes::each(&n.words, &n.counts)
+        .skip(n.outputs)
+        .take(n.divisors)
+        .enumerate()
+        .find(|(i, f)| is_next(f, network::number_of(n.inputs, *i), known))?;
+    Some(network::number_of(n.inputs, i))
 }
 
 // Again and again the smallest number whose own divisors are all listed.
-fn list(words: &[u64], counts: &[usize], n: usize, m: usize, k: usize) -> Listed
-    requires { InLimits n m k words.now counts.now }
-    ensures { PaddedList (listing (net_at n m k counts.now words.now)) result.count result.order }
+fn list(n: &Network) -> Listed
+    requires { Limited n.now }
+    ensures { PaddedList (listing (net_of n.now)) result.count result.order }
 {
     let mut order = [0u32; network::MOST_VARIABLES];
-    let mut count = 0;
-    let mut known = below(n);
-    while count < k {
-        let f = next(words, counts, n, m, k, known);
-        let Position::At(v) = f else {
+    let mut known = below(n.inputs);
+    for count in 0..n.divisors {
+        let Some(v) = next(n, known) else {
             return Listed { count, order };
         };
         order[count] = v as u32;
         known = both(known, v);
-        count += 1;
     }
-    Listed { count, order }
+    Listed {
+        count: n.divisors,
+        order,
+    }
 }
 
-// Whether every literal of the first e nodes is of one of v variables.
-fn reaches(words: &[u64], counts: &[usize], e: usize, v: usize) -> bool
-    requires { v ≤ most_variables }
-    ensures { result ≡ all (reach v) (nodes_of e counts.now words.now) }
+// Whether every literal is of a variable.
+fn reaches(n: &Network) -> bool
+    requires { Limited n.now }
+    ensures { result ≡ all (reach (n.now.inputs + n.now.divisors)) (nodes_of (n.now.outputs + n.now.divisors) n.now.counts n.now.words) }
 {
-    network_known::within(network_nodes::front(words, counts, e), below(v), true)
+    let nodes = network_nodes::front(&n.words, &n.counts, n.outputs + n.divisors);
+    network_known::within(nodes, below(n.inputs + n.divisors), true)
 }
 
 // Whether the limits are kept and every literal is of a variable.
 pub fn is_listable(n: Network) -> bool
     ensures { result ≡ listable n }
 {
-    if !network::is_sized(n) {
-        return false;
-    }
-    let words = n.words;
-    let counts = n.counts;
-    reaches(
-        &words,
-        &counts,
-        n.outputs + n.divisors,
-        n.inputs + n.divisors,
-    )
+    network::is_sized(n) && reaches(&n)
 }
 
 // No number listed.
@@ -131,10 +108,5 @@ fn nothing() -> Listed
 pub fn listing(n: Network) -> Listed
     ensures { result ≡ listed_of n }
 {
-    if !is_listable(n) {
-        return nothing();
-    }
-    let words = n.words;
-    let counts = n.counts;
-    list(&words, &counts, n.inputs, n.outputs, n.divisors)
+    if is_listable(n) { list(&n) } else { nothing() }
 }

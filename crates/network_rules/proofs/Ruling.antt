@@ -1,23 +1,23 @@
 -- The rules, and the literal count: which tests decide them, of the nodes as they are held. Assumes nothing.
 use Prim.Native.Nat.{ℕ, ◌+◌, ◌≤◌}
-use mathlib.Core.Path.{◌≡◌, refl, sym, ap, ap₂, ◌∙◌}
-use mathlib.Core.{Logic.inl, Logic.inr, List.List}
+use mathlib.Core.Path.{◌≡◌, refl, sym, ap, ◌∙◌}
+use mathlib.Core.{Logic.inl, Logic.inr}
 use mathlib.Core.Bool.{Bool, true, false, ◌&&◌}
 use native.Mathlib.Omega.{arith}
 use lib.Dec.{leb, ltb, eqb}
 use lib.ListN.{length}
 use borrow.Author.Tests.{lt-leb, ltb-false}
-use Rattle.sets.specs.Lists.{all, total}
+use Rattle.sets.specs.Lists.{all}
 use Rattle.sets.proofs.Truth.{both, clash, decided}
-use Rattle.expression.specs.{Expression.expression, Expression.literals_of, Answers.capped}
-use Rattle.network.specs.{Net.nodes, Net.over, Net.literal_count, Listing.listing, Handed.Shaped, Parts.nodes_of}
+use Rattle.expression.specs.{Expression.expression, Answers.capped}
+use Rattle.network.specs.{Net.nodes, Net.over, Net.literal_count, Listing.listing, Handed.Shaped}
 use Rattle.network.specs.Held.{net_of, sized, ruled, rules, most_literals}
 use Rattle.network.specs.Answers.{counted, listable, numbers_of}
 use Rattle.network.specs.declared.{Network.Network, Number.TheVariants.Is, Number.TheVariants.No}
 use Rattle.network_rules.specs.Parts.{literals_within}
-use Rattle.network.proofs.{Holding.nodes-held, Holding.divisors-held, Limits.sized-out, Limits.rules-literals}
+use Rattle.network.proofs.{Holding.divisors-held, Limits.sized-out, Limits.rules-literals}
 
-pub leb-capped : (t : ℕ) → leb (capped t) most_literals ≡ leb t most_literals
+leb-capped : (t : ℕ) → leb (capped t) most_literals ≡ leb t most_literals
 leb-capped t = elim (decided (ltb t 18446744073709551616)) [
   | inl e ↦ rw e
   | inr e ↦ rw e (sym (lt-leb t most_literals (omega (arith, ltb-false t 18446744073709551616 e))))
@@ -36,28 +36,18 @@ module _ (n : Network) where
       go true true true w e = clash refl e
 
   module _ (s : Shaped n) where
-    abbrev fs : List (List (List ℕ))
-    fs = nodes_of (n.outputs + n.divisors) n.counts n.words
-
     module _ (h : listable n ≡ true) where
       few : n.outputs + n.divisors ≤ length n.counts
       unfolding listable
       few = (sized-out n s (both (sized n) _ h).0).counted
 
-      -- the other rules, of the nodes as they are held
-      ruled-held : ruled (net_of n) ≡
-          (all expression fs && (all (over (net_of n)) (nodes (net_of n)) &&
-          (leb (total literals_of fs) most_literals && eqb (length (listing (net_of n))) n.divisors)))
-      unfolding ruled
-      ruled-held = rw (nodes-held n, divisors-held n few)
-
       -- with a listing the rest decides
-      pub rules-as : rules n ≡ (eqb (length (numbers_of n)) n.divisors && (all expression fs && leb (total literals_of fs) most_literals))
-      unfolding rules listable numbers_of
+      pub rules-as : rules n ≡ (eqb (length (numbers_of n)) n.divisors && (all expression (nodes (net_of n)) && leb (capped (literal_count (net_of n))) most_literals))
+      unfolding rules ruled listable numbers_of
       rules-as =
           let p = both (sized n) (all (over (net_of n)) (nodes (net_of n))) h in
-          ap₂ ◌&&◌ p.0 (ruled-held ∙ turn (all expression fs) _ (leb (total literals_of fs) most_literals)
-          (eqb (length (listing (net_of n))) n.divisors) p.1) ∙ rw (p.0, p.1)
+          rw (leb-capped (literal_count (net_of n)), p.0, p.1, divisors-held n few)
+          (order (all expression (nodes (net_of n))) (leb (literal_count (net_of n)) most_literals) (eqb (length (listing (net_of n))) n.divisors))
         where
           order : (x t w : Bool) → (x && (t && w)) ≡ (w && (x && t))
           order true true true = refl
@@ -67,14 +57,6 @@ module _ (n : Network) where
           order false t true = refl
           order false t false = refl
 
-          turn : (x r t w : Bool) → r ≡ true → (x && (r && (t && w))) ≡ (w && (x && t))
-          turn x r t w e = ap (λ s. x && (s && (t && w))) e ∙ order x t w
-
-    -- the literals of the nodes as they are held
-    pub within-is : sized n ≡ true → capped (total literals_of fs) ≡ literals_within n
-    unfolding literals_within
-    within-is e = rw e (ap (λ l. capped (total literals_of l)) (sym (nodes-held n)))
-
     -- a network by the rules has its literal count
     pub within_count : rules n ≡ true → literals_within n ≡ literal_count (net_of n)
     unfolding literals_within rules
@@ -83,10 +65,6 @@ module _ (n : Network) where
     pub counted_is : (t : ℕ) → rules n ≡ true → t ≡ literals_within n → Is t ≡ counted n
     unfolding counted
     counted_is t e q = rw e (ap Is (q ∙ within_count e))
-
-  pub within-no : sized n ≡ false → 0 ≡ literals_within n
-  unfolding literals_within
-  within-no e = rw e
 
   pub counted-no : rules n ≡ false → No 10 ≡ counted n
   unfolding counted

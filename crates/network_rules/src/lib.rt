@@ -1,57 +1,42 @@
 // The rules on networks, and the literal count of a network by the rules.
 #![tactic(auto)]
 
-ghost use Rattle.std.specs.Prelude.{◌≡◌, ◌≤◌, eqb, length};
-ghost use Rattle.sets.specs.Lists.{all, total};
-ghost use Rattle.expression.specs.Expression.{expression, literals_of};
+ghost use Rattle.std.specs.Prelude.{◌≡◌, eqb, length};
+ghost use Rattle.sets.specs.Lists.{all};
+ghost use Rattle.expression.specs.Expression.{expression};
 ghost use Rattle.expression.specs.Answers.{capped};
-ghost use Rattle.network.specs.Held.{rules};
+ghost use Rattle.network.specs.Net.{nodes, literal_count};
+ghost use Rattle.network.specs.Held.{net_of, rules};
 ghost use Rattle.network.specs.Answers.{judged, counted, numbers_of};
-ghost use Rattle.network.specs.Parts.{nodes_of};
-ghost use Rattle.network_rules.specs.Parts.{lawful_nodes, literals_within};
+ghost use Rattle.network.specs.Parts.{Limited};
+ghost use Rattle.network_rules.specs.Parts.{literals_within};
 
 use expression::Verdict;
 use network::{Network, Number};
 
 // Whether each node is an expression.
-fn all_expressions(words: &[u64], counts: &[usize], e: usize) -> bool
-    requires { e ≤ length counts.now }
-    ensures { result ≡ all expression (nodes_of e counts.now words.now) }
+fn all_expressions(n: &Network) -> bool
+    requires { Limited n.now }
+    ensures { result ≡ all expression (nodes (net_of n.now)) }
 {
-    let mut i = 0;
-    while i < e {
-        if !expression_accept::is_expression(network_nodes::node(words, counts, i)) {
-            return false;
-        }
-        i += 1;
-    }
-    true
+    network_nodes::each(&n.words, &n.counts)
+        .take(n.outputs + n.divisors)
+        .all(expression_accept::is_expression)
 }
 
-// The literals of the first e nodes.
-fn count(words: &[u64], counts: &[usize], e: usize) -> u64
-    ensures { result ≡ capped (total literals_of (nodes_of e counts.now words.now)) }
+// The literals of all nodes.
+fn count(n: &Network) -> u64
+    requires { Limited n.now }
+    ensures { result ≡ capped (literal_count (net_of n.now)) }
 {
-    expression_survey::literals(network_nodes::front(words, counts, e))
-}
-
-// Whether the first e nodes are expressions, with few enough literals.
-fn is_lawful(words: &[u64], counts: &[usize], e: usize) -> bool
-    requires { e ≤ length counts.now }
-    ensures { result ≡ lawful_nodes (nodes_of e counts.now words.now) }
-{
-    if !all_expressions(words, counts, e) {
-        return false;
-    }
-    count(words, counts, e) <= network::MOST_LITERALS
+    expression_survey::literals(network_nodes::front(&n.words, &n.counts, n.outputs + n.divisors))
 }
 
 // Whether every divisor is listed.
 fn is_acyclic(n: Network) -> bool
     ensures { result ≡ eqb (length (numbers_of n)) n.divisors }
 {
-    let l = network_listing::listing(n);
-    l.count == n.divisors
+    network_listing::listing(n).count == n.divisors
 }
 
 // Whether all rules are kept.
@@ -61,12 +46,7 @@ fn follows(n: Network) -> bool
     if !network_listing::is_listable(n) {
         return false;
     }
-    if !is_acyclic(n) {
-        return false;
-    }
-    let words = n.words;
-    let counts = n.counts;
-    is_lawful(&words, &counts, n.outputs + n.divisors)
+    is_acyclic(n) && all_expressions(&n) && count(&n) <= network::MOST_LITERALS
 }
 
 // Whether the network keeps the rules: 10 where it does not.
@@ -88,9 +68,7 @@ pub fn literals_within(n: Network) -> u64
     if !network::is_sized(n) {
         return 0;
     }
-    let words = n.words;
-    let counts = n.counts;
-    count(&words, &counts, n.outputs + n.divisors)
+    count(&n)
 }
 
 // The literal count over all expressions.

@@ -6,4 +6,4 @@ use Rattle.network_rules.proofs.is_acyclic.Goals as goal
 
 pub returns : goal.returns
 unfolding listed_of
-returns c = ap (λ (l : Listed). eqb l.count c.args.n.divisors) c.listing-l.ensures
+returns c = ap (λ (l : Listed). eqb l.count c.args.n.divisors) c.listing.ensures
