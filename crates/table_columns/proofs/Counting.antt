@@ -3,13 +3,14 @@ use Prim.Native.Nat.{ℕ, zero, suc, ◌+◌, ◌-◌, ◌<◌, ◌≤◌, max}
 use mathlib.Core.Path.{◌≡◌, refl, sym, ◌∙◌, ap, subst}
 use mathlib.Core.Logic.{◌⊎◌, inl, inr}
 use mathlib.Core.Bool.{Bool, true, false, cond, not}
-use mathlib.Core.List.{List, [], ◌∷◌, map}
+use mathlib.Core.List.{List, [], ◌∷◌}
 use mathlib.Core.Option.{Option, none, some}
 use native.Mathlib.Omega.{arith}
 use lib.Dec.{eqb, leb}
-use lib.ListN.{length, get_or, take, drop, length-drop, length-map, drop_of_length-le, get_or-map}
-use lib.Seq.{length-take-le, get_or-take, drop-drop}
+use lib.ListN.{length, get_or, take, drop, length-drop, drop_of_length-le}
+use lib.Seq.{drop-drop}
 use borrow.Author.Tests.{eq-eqb, ne_eqb, le-leb, lt-leb}
+use Rattle.std.specs.List.{prefix_len}
 use Rattle.sets.proofs.{Truth.below, Truth.equal, Truth.beyond, Truth.compared, Places.drop-next}
 use Rattle.letters.specs.Meaning.{is_digit}
 use Rattle.table_lines.specs.{Text.trim_front, Text.content, Text.content_span, declared.Span.Span}
@@ -19,8 +20,6 @@ use Rattle.table_kinds.specs.declared.Kind.TheVariants.{Empty, Inputs, Outputs, 
 use Rattle.table_columns.specs.Forms as good
 use Rattle.table_columns.specs.Forms.{front, limit, reach, cube_form, cube_forms, forms, farthest}
 use Rattle.table_columns.specs.Columns.{unless_zero, or_zero, digit_place, one_place, row_place, kind_place, place_in, place_of}
-use Rattle.table_columns.specs.Parts.{part_of}
-use Rattle.table_columns.specs.declared.{Part.Part, Sort.TheVariants.Blank, Most.TheVariants.Any}
 
 -- ---- bytes at the front
 
@@ -30,37 +29,12 @@ front-none f zero b t h = refl
 front-none f (suc n) b t (inl e) = absurd (omega arith)
 front-none f (suc n) b t (inr e) = rw e
 
-front-nil : (f : ℕ → Bool) (n : ℕ) → front f n [] ≡ 0
+pub front_is : (f : ℕ → Bool) (n : ℕ) (t : List ℕ) → front f n t ≡ prefix_len f (take n t)
 unfolding front
-front-nil f zero = refl
-front-nil f (suc n) = refl
-
-front-one : (f : ℕ → Bool) (n m : ℕ) (b : ℕ) (t : List ℕ) → n ≡ suc m → f b ≡ true → front f n (b ∷ t) ≡ suc (front f m t)
-unfolding front
-front-one f n m b t q e = rw (q, e)
-
--- k bytes were counted of at most n, and the next stands at i
-pub front-start : (f : ℕ → Bool) (n : ℕ) (t : List ℕ) → 0 + front f (n - 0) t ≡ front f n t
-front-start f n t = let q : n - 0 ≡ n = omega arith in rw q (omega arith)
-
-module _ (f : ℕ → Bool) (n : ℕ) (c : List ℕ) (i k : ℕ) where
-  -- it fails the test
-  pub front-stop : i < length c → f (get_or c i 0) ≡ false → k + front f (n - k) (drop i c) ≡ k
-  front-stop h e = rw (drop-next c i 0 h, front-none f (n - k) (get_or c i 0) (drop (i + 1) c) (inr e)) (omega arith)
-
-  -- it passes it
-  pub front-on : k < n → i < length c → f (get_or c i 0) ≡ true
-      → k + front f (n - k) (drop i c) ≡ (k + 1) + front f (n - (k + 1)) (drop (i + 1) c)
-  front-on l h e = rw (drop-next c i 0 h, front-one f (n - k) (n - (k + 1)) (get_or c i 0) (drop (i + 1) c) (omega arith) e) (omega arith)
-
-  -- there are n already
-  pub front-full : n ≤ k → k + front f (n - k) (drop i c) ≡ k
-  unfolding front
-  front-full l = let z : n - k ≡ 0 = omega arith in rw z (omega arith)
-
-  -- there is none
-  pub front-done : length c ≤ i → k + front f (n - k) (drop i c) ≡ k
-  front-done h = rw (drop_of_length-le c h, front-nil f (n - k)) (omega arith)
+front_is f zero t = refl
+front_is f (suc n) [] = refl
+front_is f (suc n) (b ∷ t) = elim (f b) as (λ e. cond e (suc (front f n t)) 0 ≡ cond e (1 + prefix_len f (take n t)) 0)
+    [ true ↦ omega (arith, front_is f n t) | false ↦ refl ]
 
 pub front-bound : (f : ℕ → Bool) (k : ℕ) (t : List ℕ) → front f k t ≤ length t
 unfolding front
@@ -113,18 +87,6 @@ reach-bound (p ∷ ps) t = let k = taken p t in let h = front-bound p.test (limi
     elim (leb p.least k) as (λ e. cond e (k + reach ps (drop k t)) k ≤ length t)
     [ true ↦ omega (arith, reach-bound ps (drop k t), length-drop k t) | false ↦ h ]
 
-abbrev pub no_part : Part
-no_part = record { sort = Blank; least = 0; most = Any }
-
--- the parts from i on, of those that are counted
-pub part-next : (l : List Part) (n i : ℕ) → i < n → n ≤ length l
-    → drop i (map part_of (take n l)) ≡ part_of (get_or l i no_part) ∷ drop (i + 1) (map part_of (take n l))
-part-next l n i h k =
-    let e : length (take n l) ≡ n = length-take-le n l k in
-    let j : i < length (map part_of (take n l)) = omega (arith, length-map (take n l) part_of) in
-    drop-next (map part_of (take n l)) i (part_of no_part) j
-    ∙ ap (◌∷ drop (i + 1) (map part_of (take n l))) (get_or-map part_of (take n l) i no_part ∙ ap part_of (get_or-take n l i no_part h))
-
 -- ---- the `1` before which k others stand
 
 one-other : (k b : ℕ) (t : List ℕ) → (b ≡ 49 → ⊥) → one_place k (b ∷ t) ≡ suc (one_place k t)
@@ -162,16 +124,6 @@ one-bound (suc k) (b ∷ o) = omega (arith, one-bound (cond (eqb b 49) k (suc k)
 
 -- ---- the farthest of some forms
 
--- one form more, in front
-pub far-next : (f g : List good.Part) (fs : List (List good.Part)) (c : List ℕ) (k r : ℕ) → r ≡ max (reach f c) k → f ≡ g → k ≡ farthest fs c
-    → r ≡ farthest (g ∷ fs) c
-unfolding farthest
-far-next f g fs c k r e q h = rw (e, q, h)
-
-pub far_none : (c : List ℕ) → farthest [] c ≡ 0
-unfolding farthest
-far_none c = refl
-
 -- the larger of two numbers is one of them
 pub max_of : (P : ℕ → Type 0) (a b : ℕ) → P a → P b → P (max a b)
 max_of P a b h k = elim (compared a b) [
@@ -187,10 +139,6 @@ far-bound (f ∷ fs) c = max_of (λ k. k ≤ length c) (reach f c) (farthest fs 
 
 -- ---- inputs and outputs, 0 while they are missing
 
-pub or-zero : (n : ℕ) → or_zero (unless_zero n) ≡ n
-or-zero zero = refl
-or-zero (suc n) = refl
-
 pub known-one : (n k : ℕ) → unless_zero n ≡ some k → 1 ≤ k
 known-one zero k e = let z : ◌≡◌ {A = ℕ} 0 1 = cc in absurd (omega arith)
 known-one (suc n) k e = let q : suc n ≡ k = cc in omega arith
@@ -198,11 +146,6 @@ known-one (suc n) k e = let q : suc n ≡ k = cc in omega arith
 pub cubes-less : (w : Option ℕ) → cube_forms w none ≡ []
 cubes-less none = refl
 cubes-less (some n) = refl
-
-pub cubes-known : (n m : ℕ) → (n ≡ 0 → ⊥) → (m ≡ 0 → ⊥) → cube_forms (unless_zero n) (unless_zero m) ≡ cube_form n m ∷ []
-cubes-known zero m h k = absurd (h refl)
-cubes-known (suc n) zero h k = absurd (k refl)
-cubes-known (suc n) (suc m) h k = refl
 
 -- ---- places
 

@@ -8,6 +8,7 @@ use lib.Dec.{eqb}
 use lib.ListN.{length, take, drop, length-drop}
 use lib.Seq.{drop-drop}
 use Rattle.std.proofs.lemmas.List.Sums.{prefix_len-le-length}
+use Rattle.std.specs.List.{slice_split, onto_first}
 use Rattle.table_lines.specs.Text.{line_of, onto, lines_of}
 use Rattle.table_lines.proofs.Ends.{line-upto, line-length}
 
@@ -40,6 +41,17 @@ lines-last (b ∷ t) h = go (eqb b 10) h (lines-last t)
         → cond e ([] ∷ lines_of t) (onto b (lines_of t)) ≡ cond e [] (b ∷ line_of t) ∷ []
     go true k f = absurd (omega arith)
     go false k f = ap (onto b) (f (omega arith))
+
+-- the lines are the parts between the LFs
+onto-first : (b : ℕ) (ls : List (List ℕ)) → onto_first b ls ≡ onto b ls
+onto-first b [] = refl
+onto-first b (l ∷ ls) = refl
+
+pub lines-split : (t : List ℕ) → slice_split (λ b. eqb b 10) t ≡ lines_of t
+unfolding lines_of
+lines-split [] = refl
+lines-split (b ∷ t) = ap (λ (ls : List (List ℕ)). cond (eqb b 10) ([] ∷ ls) (onto_first b ls)) (lines-split t)
+    ∙ ap (λ (ls : List (List ℕ)). cond (eqb b 10) ([] ∷ lines_of t) ls) (onto-first b (lines_of t))
 
 -- ---- a line that begins at a byte of a text and ends at e
 

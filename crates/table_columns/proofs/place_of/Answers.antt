@@ -22,20 +22,11 @@ placed q = let a = q.args in
 pub overflow_add-result : goal.overflow_add-result
 overflow_add-result c = record { fits = omega (arith, (placed (goal.at.overflow_add-result c).After-place_in-p).0) }
 
-pub slice_bounds-place_in-count : goal.slice_bounds-place_in-count
-slice_bounds-place_in-count c = (inside c).0
-
-pub slice_bounds-place_in-start : goal.slice_bounds-place_in-start
-slice_bounds-place_in-start c = omega (arith, inside c)
-
 pub slice_bounds-place_in-end : goal.slice_bounds-place_in-end
-slice_bounds-place_in-end c = (inside c).1
+slice_bounds-place_in-end c = (inside (goal.at.slice_bounds-place_in-end c).After-content_of-span).1
 
-pub overflow_sub-end : goal.overflow_sub-end
-overflow_sub-end c = omega (arith, inside (goal.at.overflow_sub-end c).After-content_of-span)
-
-pub returns-then-p-end : goal.returns-then-p-end
-returns-then-p-end c = (placed (goal.at.returns-then-p-end c).After-place_in-p).1 c.if-p-end.true
+pub returns-then-p-span : goal.returns-then-p-span
+returns-then-p-span c = (placed (goal.at.returns-then-p-span c).After-place_in-p).1 c.if-p-span.true
 
 pub returns : goal.returns
-returns c = (placed (goal.at.returns c).After-place_in-p).2 c.if-p-end.false
+returns c = (placed (goal.at.returns c).After-place_in-p).2 c.if-p-span.false

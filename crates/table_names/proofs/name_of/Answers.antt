@@ -1,75 +1,69 @@
 -- The answers of `table_names::name_of`.
-use Prim.Native.Nat.{ℕ, ◌+◌, ◌-◌, ◌≤◌}
-use mathlib.Core.Path.{◌≡◌, sym, ◌∙◌, ap}
-use mathlib.Core.List.{List, [], ◌∷◌}
-use native.Mathlib.Omega.{arith}
-use lib.ListN.{length, take, drop}
-use Rattle.table_lines.specs.Text.{line_of, lines_of}
-use Rattle.table_lines.proofs.Lining.{line-part, line-ends}
-use Rattle.table_names.specs.Names.{named, begins_cube, first_name, name_of}
-use Rattle.table_names.proofs.Naming.{no_bytes, name-found, name-closed, name-later, names-from, names-over, name-few, name-many}
+use Rattle.std.proofs.Common.{◌≡◌, ◌∙◌, ◌+◌, ◌<◌, ◌≤◌, ℕ, List, [], ◌∷◌, sym, ap, arith, eqb, length, get_or, drop, rules, tests}
+use Rattle.std.proofs.lemmas.Iterator.Splits.{YieldsList-from_slice_split}
+use Rattle.std.proofs.lemmas.Iterator.Consumers.{YieldsList-turn, YieldsList-end}
+use Rattle.std.proofs.lemmas.List.{length_push}
+use Rattle.std.proofs.lemmas.Bool.Decides.{nat_tests}
+use lib.ListN.{drop_of_length-le}
+use Rattle.sets.proofs.Places.{drop-next}
+use Rattle.table_lines.specs.Text.{lines_of}
+use Rattle.table_lines.proofs.Lining.{lines-split}
+use Rattle.table_names.specs.Names.{named, first_name, name_of}
+use Rattle.table_names.proofs.Naming.{no_bytes, name-found, name-closed, name-later, name-few, name-many}
 use Rattle.table_names.proofs.name_of.Goals as goal
-use Rattle.table_names.proofs.name_of.Goals.{After-line_end-e, After-named-name, At-loop-at, Else-name-gt0}
+use Rattle.table_names.proofs.name_of.Goals.{After-named-name, After-begins_cube}
 
-abbrev table : At-loop-at → List ℕ
-table h = h.args.table.now
+pub returns-then-i-ge100 : goal.returns-then-i-ge100
+returns-then-i-ge100 c = sym (name-many _ _ c.if-i-ge100.true)
 
-abbrev input : At-loop-at → ℕ
-input h = h.args.i
+pub loop-line-init : goal.loop-line-init
+loop-line-init c = name-few _ _ c.if-i-ge100.false
 
-abbrev line : At-loop-at → List ℕ
-line h = line_of (drop h.loop-at.at (table h))
+-- the line of a turn is the next of the lines
+turn : (c : After-named-name) → let k = length c.loop-line.yielded in let ls = lines_of c.args.table.now in
+    (k < length ls) × (c.in-Some.line.now ≡ get_or ls k c.in-Some.line.now)
+turn c = rw (lines-split c.args.table.now) at (YieldsList-turn
+    (YieldsList-from_slice_split _ (λ b. eqb b 10) c.args.table.now (cc) (cc)
+    (ap (λ s. s.pred) c.into_iter-line-iterator.ensures.into_iter_gives ∙ c.split-line-items.ensures.closure) (λ x b q k. search (rules, tests)))
+    c.loop-line.yielded _ c.loop-line.yielded_by _ _ c.in-Some.line c.in-Some.is c.next.ensures.steps)
 
 -- it is the first of those that are left
-left : (c : After-named-name) → name_of ((c.args.i)) ((c.args.table.now))
-    ≡ first_name ((c.args.i)) ((line_of (drop c.loop-at.at ((c.args.table.now)))) ∷ lines_of (drop (c.line_end-e.result + 1) ((c.args.table.now))))
-left c = c.loop-at.invariant.2 ∙ names-from _ _ _ _ c.line_end-e.ensures
-
-whole : (c : After-named-name)
-    → take (c.line_end-e.result - c.loop-at.at) (drop c.loop-at.at ((c.args.table.now))) ≡ (line_of (drop c.loop-at.at ((c.args.table.now))))
-whole c = line-part _ _ _ c.line_end-e.ensures
-
-name : (c : After-named-name) → c.named-name.result.now ≡ named ((c.args.i)) ((line_of (drop c.loop-at.at ((c.args.table.now)))))
-name c = c.named-name.ensures ∙ ap (named ((c.args.i))) (whole c)
+left : (c : After-named-name) → let l = c.in-Some.line.now in let k = length c.loop-line.yielded in
+    name_of c.args.i c.args.table.now ≡ first_name c.args.i (l ∷ drop (k + 1) (lines_of c.args.table.now))
+left c =
+    let t = turn c in
+    let l = c.in-Some.line.now in
+    let k = length c.loop-line.yielded in
+    c.loop-line.invariant ∙ ap (first_name c.args.i) (drop-next (lines_of c.args.table.now) k l t.0)
+    ∙ ap (λ (x : List ℕ). first_name c.args.i (x ∷ drop (k + 1) (lines_of c.args.table.now))) (sym t.1)
 
 -- it names nothing
-unnamed : (c : Else-name-gt0) → named ((c.args.i)) ((line_of (drop c.loop-at.at ((c.args.table.now))))) ≡ []
-unnamed c = sym ((let it : c.named-name.result.now ≡ named ((c.args.i)) ((line_of (drop c.loop-at.at ((c.args.table.now))))) = c.named-name.ensures ∙ ap (named ((c.args.i))) ((let it : take (c.line_end-e.result - c.loop-at.at) (drop c.loop-at.at ((c.args.table.now))) ≡ (line_of (drop c.loop-at.at ((c.args.table.now)))) = line-part _ _ _ c.line_end-e.ensures in it)) in it)) ∙ no_bytes _ c.if-name-gt0.false
+unnamed : (c : After-begins_cube) → named c.args.i c.in-Some.line.now ≡ []
+unnamed c = let h : length c.named-name.result.now ≤ 0 = grind (arith, nat_tests) in sym c.named-name.ensures ∙ no_bytes _ h
 
-ends : (c : After-line_end-e) → (c.loop-at.at ≤ c.line_end-e.result) × (c.line_end-e.result ≤ length ((c.args.table.now)))
-ends c = line-ends _ _ _ c.line_end-e.ensures (omega (arith, c.loop-at-test.true))
-
--- ---- the needs
-pub returns-then-i-ge100 : goal.returns-then-i-ge100
-returns-then-i-ge100 c = c.nothing.ensures ∙ sym (name-many _ _ c.if-i-ge100.true)
-
-pub loop-at-init : goal.loop-at-init
-loop-at-init c = (omega arith, omega arith, name-few _ _ (omega arith))
-
-pub returns-then-name-gt0 : goal.returns-then-name-gt0
-returns-then-name-gt0 c = name (goal.at.returns-then-name-gt0 c).After-named-name ∙ sym (left (goal.at.returns-then-name-gt0 c).After-named-name ∙ name-found _ _ _ (omega (arith, c.if-name-gt0.true, ap length (name (goal.at.returns-then-name-gt0 c).After-named-name))))
+pub returns-then-not-is_empty : goal.returns-then-not-is_empty
+returns-then-not-is_empty c =
+    let w = (goal.at.returns-then-not-is_empty c).After-named-name in
+    let h : 0 < length c.named-name.result.now = grind (arith, nat_tests) in
+    c.named-name.ensures ∙ sym (left w ∙ name-found _ _ _ (omega (arith, ap length c.named-name.ensures)))
 
 pub returns-then-begins_cube : goal.returns-then-begins_cube
 returns-then-begins_cube c =
-    let cube = ap begins_cube (sym (whole (goal.at.returns-then-begins_cube c).After-named-name)) ∙ sym c.begins_cube.ensures ∙ c.if-begins_cube.true in
-    c.nothing-then-begins_cube.ensures ∙ sym (left (goal.at.returns-then-begins_cube c).After-named-name ∙ name-closed _ _ _ (unnamed (goal.at.returns-then-begins_cube c).Else-name-gt0) cube)
+    let w = goal.at.returns-then-begins_cube c in
+    sym (left w.After-named-name ∙ name-closed _ _ _ (unnamed w.After-begins_cube) (sym c.begins_cube.ensures ∙ c.if-begins_cube.true))
 
-pub loop-at-preserved : goal.loop-at-preserved
-loop-at-preserved c =
-    let open' = ap begins_cube (sym (whole (goal.at.loop-at-preserved c).After-named-name)) ∙ sym c.begins_cube.ensures ∙ c.if-begins_cube.false in
-    (omega (arith, (ends (goal.at.loop-at-preserved c).After-line_end-e).1), c.loop-at.invariant.1, left (goal.at.loop-at-preserved c).After-named-name ∙ name-later _ _ _ (unnamed (goal.at.loop-at-preserved c).Else-name-gt0) open')
+pub loop-line-preserved : goal.loop-line-preserved
+loop-line-preserved c =
+    let w = goal.at.loop-line-preserved c in
+    left w.After-named-name ∙ name-later _ _ _ (unnamed w.After-begins_cube) (sym c.begins_cube.ensures ∙ c.if-begins_cube.false)
+    ∙ ap (λ (k : ℕ). first_name c.args.i (drop k (lines_of c.args.table.now))) (sym (length_push c.loop-line.yielded c.in-Some.line))
 
 pub returns : goal.returns
-returns c = c.nothing-2.ensures ∙ sym (c.loop-at.invariant.2 ∙ names-over _ _ _ c.loop-at-test.false)
-
-pub slice_bounds-line-count : goal.slice_bounds-line-count
-slice_bounds-line-count c = (ends c).0
-
-pub slice_bounds-line-end : goal.slice_bounds-line-end
-slice_bounds-line-end c = (ends c).1
-
-pub overflow_add-at : goal.overflow_add-at
-overflow_add-at c = let e = ends (goal.at.overflow_add-at c).After-line_end-e in omega arith
-
-pub loop-at-smaller : goal.loop-at-smaller
-loop-at-smaller c = let e = ends (goal.at.loop-at-smaller c).After-line_end-e in omega arith
+unfolding first_name
+returns c =
+    let e = YieldsList-end
+    (YieldsList-from_slice_split _ (λ b. eqb b 10) c.args.table.now (cc) (cc)
+    (ap (λ s. s.pred) c.into_iter-line-iterator.ensures.into_iter_gives ∙ c.split-line-items.ensures.closure) (λ x b q k. search (rules, tests)))
+    c.loop-line.yielded _ c.loop-line.yielded_by _ _ c.in-None.is c.next.ensures.steps in
+    let n : length (lines_of c.args.table.now) ≤ length c.loop-line.yielded = omega (arith, e.1, ap length (lines-split c.args.table.now)) in
+    sym (c.loop-line.invariant ∙ ap (first_name c.args.i) (drop_of_length-le (lines_of c.args.table.now) n))

@@ -1,9 +1,0 @@
--- `table_columns::is_digit` meets its contract. Assumes nothing.
-use borrow.Author.Tests.{le-leb, lt-leb}
-use Rattle.table_columns.proofs.is_digit.Goals as goal
-
-pub returns-then-b-lt48 : goal.returns-then-b-lt48
-returns-then-b-lt48 c = rw (lt-leb 48 c.args.b c.if-b-lt48.true)
-
-pub returns : goal.returns
-returns c = rw (le-leb 48 c.args.b c.if-b-lt48.false)
