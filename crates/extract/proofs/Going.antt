@@ -12,7 +12,7 @@ use lib.Signed.{le_z, lt_z}
 use borrow.Author.Tests.{leb-true, leb-false, le-ltb, lt-ltb}
 use Rattle.sets.proofs.Truth.{clash}
 use Rattle.network.specs.{Net.Net, Net.literal_count, Held.net_of, Held.most_variables, Handed.Holds, Handed.Shaped}
-use Rattle.network.{specs.declared.Network.Network, proofs.Holding.rules-divisors, proofs.Holding.rules-iff, proofs.Limits.rules-sized}
+use Rattle.network.{specs.declared.Network.Network, proofs.Holding.rules-divisors, proofs.Holding.rules-iff}
 use Rattle.extract_laws.specs.Divisor as divisors
 use Rattle.extract_laws.{specs.Extract.step, proofs.Moving.worth-done, proofs.Moving.move-iff, proofs.Making.step-variables}
 use Rattle.extract_laws.specs.Run as runs
@@ -28,9 +28,9 @@ use Rattle.extract_step.specs.Replace.{outcome_of, After, Stepped}
 use Rattle.extract_step.specs.declared.Outcome.TheVariants as Outcome
 use Rattle.extract_step.specs.declared.Next.{Next}
 use Rattle.extract_step.proofs.Keeping.{Takes, takes-is, takes-rules, takes-arranged}
-use Rattle.extract.specs.Answers.{stop_of, made_of, no_made, places, Told}
+use Rattle.extract.specs.Answers.{stop_of, made_of, made_in, no_made, no_steps, places, Told}
 use Rattle.extract.specs.Parts.{Runnable, Leaves, made_by, ended_at, reason_of, stopped_with}
-use Rattle.extract.specs.declared.{Made.Made, Stop.Stop, Stop.TheVariants.Done, Stop.TheVariants.Asked}
+use Rattle.extract.specs.declared.{Made.Made, Steps.Steps, Stop.Stop, Stop.TheVariants.Done, Stop.TheVariants.Asked}
 use Rattle.extract.proofs.Taking.{Choice, chosen-as, Taken, stepped-as}
 use Rattle.extract.proofs.Taking.{Choice.nothing_left, Choice.one_taken, Taken.was_made, Taken.was_not}
 
@@ -38,30 +38,26 @@ use Rattle.extract.proofs.Taking.{Choice.nothing_left, Choice.one_taken, Taken.w
 abbrev after : List runs.Made → Result → Result
 after l r = record { network = r.network; stop = r.stop; steps = l ++ r.steps }
 
--- the steps that a list has
-abbrev listed : ℕ → List Made → List runs.Made
-listed count list = map made_of (take count list)
-
 -- of a run of k steps from m so many steps are listed, it goes on from the network, of so many literals, for the steps left, and s is the
 -- best step there
-pub record Going (k : ℕ) (m : Net) (list : List Made) (count left : ℕ) (net : Network) (literals : ℕ) (s : Step) : Type 0 where
+pub record Going (k : ℕ) (m : Net) (made : Steps) (left : ℕ) (net : Network) (literals : ℕ) (s : Step) : Type 0 where
   pub ready : Runnable net
   pub shape : Shaped net
-  pub few : count ≤ net.divisors
-  pub long : length list ≡ places
-  pub rest : drop count list ≡ replicate (places - count) no_made
+  pub few : made.count ≤ net.divisors
+  pub long : length made.list ≡ places
+  pub rest : drop made.count made.list ≡ replicate (places - made.count) no_made
   pub counted : literals ≡ literal_count (net_of net)
   pub chosen : Chosen (chosen_in net) s
-  pub goes : run_from k m ≡ after (listed count list) (run_from left (net_of net))
+  pub goes : run_from k m ≡ after (made_in made) (run_from left (net_of net))
 
-pub going-first : (k : ℕ) (n : Network) (list : List Made) (literals : ℕ) (s : Step) → Shaped n → Runnable n
-    → list ≡ replicate places no_made → literals ≡ literal_count (net_of n) → Chosen (chosen_in n) s → Going k (net_of n) list 0 k n literals s
-going-first k n list literals s a r e q c = record {
+pub going-first : (k : ℕ) (n : Network) (literals : ℕ) (s : Step) → Shaped n → Runnable n
+    → literals ≡ literal_count (net_of n) → Chosen (chosen_in n) s → Going k (net_of n) no_steps k n literals s
+going-first k n literals s a r q c = record {
   ready = r;
   shape = a;
   few = omega arith;
-  long = ap length e ∙ length-replicate places no_made;
-  rest = e;
+  long = length-replicate places no_made;
+  rest = refl;
   counted = q;
   chosen = c;
   goes = refl;
@@ -85,9 +81,9 @@ module _ (n : Network) (shape : Shaped n) (r : Runnable n) where
       held = subst (Holds p.network) (sym next-is) t.after.held;
     }
 
-    -- one divisor more, and the same inputs
-    next-divisors : (p.network.divisors ≡ suc n.divisors) × (p.network.inputs ≡ n.inputs)
-    next-divisors = let h = t.after.held in (omega (arith, h.divisors, step-variables (net_of n) d, rules-divisors n shape r.lawful), h.inputs)
+    -- one divisor more
+    next-divisors : p.network.divisors ≡ suc n.divisors
+    next-divisors = let h = t.after.held in omega (arith, h.divisors, h.inputs, step-variables (net_of n) d, rules-divisors n shape r.lawful)
 
 -- ---- why it ends
 
@@ -116,48 +112,47 @@ run-asked n d w = from-none n ∙ go (move_of n) ((move-iff n (move_of n)).0 ref
     go m (no_rows v l h) = refl
     go m (next v l h) = refl
 
-module _ {k : ℕ} {m : Net} {list : List Made} {count left : ℕ} {net : Network} {literals : ℕ} {s : Step}
-    (g : Going k m list count left net literals s) where
-  pub going-room : count < most_variables
+module _ {k : ℕ} {m : Net} {made : Steps} {left : ℕ} {net : Network} {literals : ℕ} {s : Step}
+    (g : Going k m made left net literals s) where
+  pub going-room : made.count < most_variables
   going-room = omega (arith, g.few, ready-few net g.shape g.ready)
 
-  -- no more variables than there are numbers
-  pub going-numbers : net.inputs + net.divisors ≤ most_variables
-  going-numbers = (rules-sized net g.shape g.ready.lawful).variables
-
-  made-length : length (listed count list) ≡ count
-  made-length = length-map (take count list) made_of ∙ length-take-le count list (omega (arith, going-room, g.long))
+  made-length : length (made_in made) ≡ made.count
+  made-length = length-map (take made.count made.list) made_of ∙ length-take-le made.count made.list (omega (arith, going-room, g.long))
 
   -- one more step is listed
   module _ (x : Made) where
-    listed_next : listed (count + 1) (set list count x) ≡ listed count list ++ (made_of x ∷ [])
-    listed_next =
-        ap (map made_of) (ap (λ (c : ℕ). take c (set list count x)) (add-one count) ∙ take-suc-set list count x (omega (arith, going-room, g.long)))
-        ∙ map-append made_of (take count list) (x ∷ [])
+    abbrev longer : Steps
+    longer = record { count = made.count + 1; list = set made.list made.count x }
 
-    listed-rest : drop (count + 1) (set list count x) ≡ replicate (places - (count + 1)) no_made
-    listed-rest =
-        let e : places - count ≡ suc (places - (count + 1)) = omega (arith, going-room) in
-        drop-set-lt (count + 1) list count x (omega arith) ∙ sym (drop-drop 1 count list)
+    made-next : made_in longer ≡ made_in made ++ (made_of x ∷ [])
+    made-next =
+        ap (map made_of) (ap (λ (c : ℕ). take c longer.list) (add-one made.count) ∙ take-suc-set made.list made.count x (omega (arith, going-room, g.long)))
+        ∙ map-append made_of (take made.count made.list) (x ∷ [])
+
+    made-rest : drop longer.count longer.list ≡ replicate (places - longer.count) no_made
+    made-rest =
+        let e : places - made.count ≡ suc (places - (made.count + 1)) = omega (arith, going-room) in
+        drop-set-lt (made.count + 1) made.list made.count x (omega arith) ∙ sym (drop-drop 1 made.count made.list)
         ∙ ap (drop 1) (g.rest ∙ ap (λ (c : ℕ). replicate c no_made) e)
 
   going-stop : (x : Stop) → run_from left (net_of net) ≡ record { network = net_of net; stop = stop_of x; steps = [] }
-      → Told (some (run_from k m)) (stopped_with x net count list)
+      → Told (some (run_from k m)) (stopped_with x net made)
   going-stop x e =
-      subst (λ (z : Result). Told (some z) (stopped_with x net count list))
-      (sym (g.goes ∙ ap (after (listed count list)) e
-      ∙ ap (λ (l : List runs.Made). record { network = net_of net; stop = stop_of x; steps = l }) (append-nil (listed count list))))
+      subst (λ (z : Result). Told (some z) (stopped_with x net made))
+      (sym (g.goes ∙ ap (after (made_in made)) e
+      ∙ ap (λ (l : List runs.Made). record { network = net_of net; stop = stop_of x; steps = l }) (append-nil (made_in made))))
       ((x, refl, refl), g.ready.held, record { number = sym made-length; steps = refl; rest = g.rest })
 
   chosen-here : Choice (net_of net) s
   chosen-here = chosen-as net s g.ready.tidy g.chosen
 
   -- no weight above 0
-  pub going_done : lt_z (pos 0) s.weight ≡ false → Told (some (run_from k m)) (stopped_with Done net count list)
+  pub going_done : lt_z (pos 0) s.weight ≡ false → Told (some (run_from k m)) (stopped_with Done net made)
   going_done h = elim chosen-here [ nothing_left p e ↦ going-stop Done (run-finished left (net_of net) e) | one_taken p w q ↦ clash p h ]
 
   -- no step is left to make
-  pub going-ended : left ≡ 0 → Told (some (run_from k m)) (stopped_with (ended_at s.weight) net count list)
+  pub going-ended : left ≡ 0 → Told (some (run_from k m)) (stopped_with (ended_at s.weight) net made)
   going-ended z = elim chosen-here [
     | nothing_left p e ↦ rw p (going-stop Done (run-finished left (net_of net) e))
     | one_taken p w q ↦ rw p (going-stop Asked (ap (λ (x : ℕ). run_from x (net_of net)) z ∙ run-asked (net_of net) (divisor_of s.divisor) w))
@@ -185,20 +180,17 @@ module _ {k : ℕ} {m : Net} {list : List Made} {count left : ℕ} {net : Networ
         let l = step-smaller (net_of net) good d (worth-fit good worth.0).whole worth.0.above in
         record { left = literal_count (step (net_of net) d); is = falls; within = omega (arith, g.counted); less = omega arith }
 
-    module _ (l : 0 < left) (t : Next) (o : Stepped net (outcome_of net s.divisor) t) where
+    module _ (still : ℕ) (l : left ≡ suc still) (t : Next) (o : Stepped net (outcome_of net s.divisor) t) where
       step-taken : Taken (net_of net) d t
       step-taken =
           stepped-as net s.divisor t g.ready.tidy (rules-within net g.shape g.ready.lawful).literals good worth.0 o
 
-      some_left : left ≡ suc (left - 1)
-      some_left = omega arith
-
       -- no number or no rows for the step
-      pub going-full : (t.outcome ≡ Outcome.Made → ⊥) → Told (some (run_from k m)) (stopped_with (reason_of t.outcome) net count list)
+      pub going-full : (t.outcome ≡ Outcome.Made → ⊥) → Told (some (run_from k m)) (stopped_with (reason_of t.outcome) net made)
       going-full f = elim step-taken [
         | was_made q e i ↦ absurd (f q)
         | was_not q e ↦ going-stop (reason_of t.outcome)
-            (ap (λ (z : ℕ). run_from z (net_of net)) some_left ∙ from-stuck (left - 1) (net_of net) (stop_of (reason_of t.outcome)) e)
+            (ap (λ (z : ℕ). run_from z (net_of net)) l ∙ from-stuck still (net_of net) (stop_of (reason_of t.outcome)) e)
       ]
 
       -- the step is made, and listed
@@ -218,9 +210,7 @@ module _ {k : ℕ} {m : Net} {list : List Made} {count left : ℕ} {net : Networ
         })
 
         abbrev Onward : Type 0
-        Onward =
-            Going k m (set list count x) (count + 1) (left - 1) t.network rest b
-            × (t.network.inputs + t.network.divisors ≡ suc (net.inputs + net.divisors))
+        Onward = Going k m (longer x) still t.network rest b
 
         pub going_on : Onward
         going_on = elim step-taken [ was_made p e i ↦ go e i | was_not p e ↦ absurd (p q) ]
@@ -229,20 +219,17 @@ module _ {k : ℕ} {m : Net} {list : List Made} {count left : ℕ} {net : Networ
             go e i =
                 let more = next-divisors net g.shape g.ready d t i in
                 let is = next-is net g.shape g.ready d t i ∙ sym (prepare-same (step (net_of net) d)) in
-                let later = run_from (left - 1) (prepare (step (net_of net) d)) in (
-                  record {
-                    ready = next-ready net g.shape g.ready d t i;
-                    shape = shape-t;
-                    few = omega (arith, g.few);
-                    long = length-set list count x ∙ g.long;
-                    rest = listed-rest x;
-                    counted = rest-is ∙ ap literal_count (sym (next-is net g.shape g.ready d t i));
-                    chosen = c (next-ready net g.shape g.ready d t i);
-                    goes = g.goes ∙ ap (after (listed count list)) (ap (λ (z : ℕ). run_from z (net_of net)) some_left ∙ from-make (left - 1) (net_of net) d e)
-                        ∙ ap (λ (l : List runs.Made). record { network = later.network; stop = later.stop; steps = l })
-                        (sym (append_assoc (listed count list) (making (net_of net) d ∷ []) later.steps))
-                        ∙ ap₂ (λ (l : List runs.Made) (z : Net). after l (run_from (left - 1) z))
-                        (sym (listed_next x ∙ ap (λ (z : runs.Made). listed count list ++ (z ∷ [])) (step-made i.after))) (sym is);
-                  },
-                  omega arith,
-                )
+                let later = run_from still (prepare (step (net_of net) d)) in record {
+                  ready = next-ready net g.shape g.ready d t i;
+                  shape = shape-t;
+                  few = omega (arith, g.few);
+                  long = length-set made.list made.count x ∙ g.long;
+                  rest = made-rest x;
+                  counted = rest-is ∙ ap literal_count (sym (next-is net g.shape g.ready d t i));
+                  chosen = c (next-ready net g.shape g.ready d t i);
+                  goes = g.goes ∙ ap (after (made_in made)) (ap (λ (z : ℕ). run_from z (net_of net)) l ∙ from-make still (net_of net) d e)
+                      ∙ ap (λ (l : List runs.Made). record { network = later.network; stop = later.stop; steps = l })
+                      (sym (append_assoc (made_in made) (making (net_of net) d ∷ []) later.steps))
+                      ∙ ap₂ (λ (l : List runs.Made) (z : Net). after l (run_from still z))
+                      (sym (made-next x ∙ ap (λ (z : runs.Made). made_in made ++ (z ∷ [])) (step-made i.after))) (sym is);
+                }

@@ -12,7 +12,7 @@ use Rattle.extract_step.specs.declared.Outcome.{Outcome}
 use Rattle.extract_tidy.specs.Tidy.{arranged}
 use Rattle.extract.specs.declared.{Stop.Stop, Answer.TheVariants.Stopped, Made.Made}
 use Rattle.extract.specs.declared.Stop.TheVariants.{Done, Asked, Numbers, Rows}
-use Rattle.extract.specs.declared.Ran.{Ran}
+use Rattle.extract.specs.declared.{Steps.Steps, Ran.Ran}
 
 -- by the rules, in cube order, and zero in the slots that are not in use
 pub record Runnable (n : Network) : Type 0 where
@@ -47,5 +47,5 @@ reason_of Outcome.Rows = Rows
 reason_of Outcome.Unfit = Rows
 
 -- a run that stopped, with the steps that it made
-abbrev pub stopped_with : Stop → Network → ℕ → List Made → Ran
-stopped_with s n count list = record { answer = Stopped s; network = n; steps = record { count = count; list = list } }
+abbrev pub stopped_with : Stop → Network → Steps → Ran
+stopped_with s n made = record { answer = Stopped s; network = n; steps = made }

@@ -1,13 +1,13 @@
 // Runs: the best divisor again and again, until the first reason to stop.
 #![tactic(auto)]
 
-ghost use Rattle.std.specs.Prelude.{◌≡◌, pos, ◌-ℤ◌, replicate};
+ghost use Rattle.std.specs.Prelude.{◌≡◌, pos, ◌-ℤ◌};
 ghost use Rattle.std.proofs.Math.Option.{some};
 ghost use Rattle.network.specs.Net.{nodes, literal_count};
 ghost use Rattle.network.specs.Held.{net_of};
 ghost use Rattle.extract_laws.specs.Run.{run_from};
 ghost use Rattle.extract_counts.specs.Counts.{Says};
-ghost use Rattle.extract.specs.Answers.{no_made, no_steps, places, Told, run_on};
+ghost use Rattle.extract.specs.Answers.{no_steps, Told, run_on};
 ghost use Rattle.extract.specs.Parts.{Runnable, Leads, Leaves, made_by, ended_at, reason_of, stopped_with};
 
 use cube::Variable;
@@ -67,21 +67,13 @@ pub struct Ran {
 fn made_by(s: Step, number: Variable, literals: u64) -> Made
     ensures { result ≡ made_by s number literals }
 {
-    let divisor = s.divisor;
     Made {
-        divisor,
+        divisor: s.divisor,
         weight: s.weight,
         uses: s.uses,
         number,
         literals,
     }
-}
-
-// A list of no steps.
-fn no_list() -> [Made; MOST_STEPS]
-    ensures { result ≡ replicate places no_made }
-{
-    [made_by(extract_divisor::no_step(), Variable(0), 0); MOST_STEPS]
 }
 
 // No steps made.
@@ -90,7 +82,7 @@ pub fn no_steps() -> Steps
 {
     Steps {
         count: 0,
-        list: no_list(),
+        list: [made_by(extract_divisor::no_step(), Variable(0), 0); MOST_STEPS],
     }
 }
 
@@ -100,19 +92,17 @@ fn reason(o: Outcome) -> Stop
 {
     match o {
         Outcome::Numbers => Stop::Numbers,
-        Outcome::Rows => Stop::Rows,
-        Outcome::Made => Stop::Rows,
-        Outcome::Unfit => Stop::Rows,
+        Outcome::Rows | Outcome::Made | Outcome::Unfit => Stop::Rows,
     }
 }
 
-fn ending(stop: Stop, network: Network, count: usize, list: [Made; MOST_STEPS]) -> Ran
-    ensures { result ≡ stopped_with stop network count list }
+fn ending(stop: Stop, network: Network, steps: Steps) -> Ran
+    ensures { result ≡ stopped_with stop network steps }
 {
     Ran {
         answer: Answer::Stopped(stop),
         network,
-        steps: Steps { count, list },
+        steps,
     }
 }
 
@@ -120,20 +110,15 @@ fn ending(stop: Stop, network: Network, count: usize, list: [Made; MOST_STEPS]) 
 fn ended(weight: i32) -> Stop
     ensures { result ≡ ended_at weight }
 {
-    if weight <= 0 {
-        return Stop::Done;
-    }
-    Stop::Asked
+    if weight <= 0 { Stop::Done } else { Stop::Asked }
 }
 
 // The literals of a network that a run starts from.
-fn literals_of(n: Network) -> u64
-    requires { Runnable n }
-    ensures { result ≡ literal_count (net_of n) }
+fn literals_of(n: &Network) -> u64
+    requires { Runnable n.now }
+    ensures { result ≡ literal_count (net_of n.now) }
 {
-    let words = n.words;
-    let counts = n.counts;
-    expression_survey::literals(network_nodes::front(&words, &counts, n.outputs + n.divisors))
+    expression_survey::literals(network_nodes::front(&n.words, &n.counts, n.outputs + n.divisors))
 }
 
 // A count of literals with a weight taken off.
@@ -144,87 +129,75 @@ fn taken_off(count: u64, weight: i32) -> u64
     (count as i32 - weight) as u64
 }
 
-// The best step on a network, by a table that is filled with it.
-fn first_best(t: &mut [u32; TABLE_WORDS], g: &mut [u16; MOST_ENTRIES], n: Network) -> Step
-    ensures { Runnable n → Leads t.new g.new n result }
-{
-    extract_keep::fill(t, g, n);
-    extract_choice::best(t, g, n)
+// The table of gains and its entries.
+#[derive(Drop)]
+struct Gains {
+    table: [u32; TABLE_WORDS],
+    entries: [u16; MOST_ENTRIES],
 }
 
-// The best step on the network that comes after another, of which the table says the gains.
-fn next_best(
-    t: &mut [u32; TABLE_WORDS],
-    g: &mut [u16; MOST_ENTRIES],
-    old: Network,
-    new: Network,
-) -> Step
-    ensures { Says t.old g.old (nodes (net_of old)) → Runnable new → Leads t.new g.new new result }
-{
-    extract_keep::renew(t, g, old, new);
-    extract_choice::best(t, g, new)
-}
+impl Gains {
+    // The best step on a network, by the table that is filled with it.
+    fn first_best(&mut self, n: Network) -> Step
+        ensures { Runnable n → Leads self.new.table self.new.entries n result }
+    {
+        extract_keep::fill(&mut self.table, &mut self.entries, n);
+        extract_choice::best(&self.table, &self.entries, n)
+    }
 
-// From a network in cube order; s is the best step on the network that the run has come to, of which the table says the gains, and so many
-// literals are in it.
-fn follow(t: &mut [u32; TABLE_WORDS], g: &mut [u16; MOST_ENTRIES], n: Network, steps: u64) -> Ran
-    requires { Runnable n }
-    ensures { Told (some (run_from steps (net_of n))) result }
-{
-    let mut list = no_list();
-    let mut count = 0;
-    let mut left = steps;
-    let mut net = n;
-    let mut literals = literals_of(n);
-    let mut s = first_best(t, g, n);
-    loop {
-        if left == 0 {
-            return ending(ended(s.weight), net, count, list);
-        }
-        if s.weight <= 0 {
-            return ending(Stop::Done, net, count, list);
-        }
-        let d = s.divisor;
-        let made = extract_step::step(net, d);
-        let outcome = made.outcome;
-        let next = made.network;
-        let Outcome::Made = outcome else {
-            return ending(reason(outcome), net, count, list);
-        };
-        let number = made.number;
-        let rest = taken_off(literals, s.weight);
-        list[count] = made_by(s, number, rest);
-        count += 1;
-        left -= 1;
-        s = next_best(t, g, net, next);
-        net = next;
-        literals = rest;
+    // The best step on the network that comes after another, of which the table says the gains.
+    fn next_best(&mut self, old: Network, new: Network) -> Step
+        ensures { Says self.old.table self.old.entries (nodes (net_of old)) → Runnable new → Leads self.new.table self.new.entries new result }
+    {
+        extract_keep::renew(&mut self.table, &mut self.entries, old, new);
+        extract_choice::best(&self.table, &self.entries, new)
     }
 }
 
-// The same, with a table of its own.
-fn go(n: Network, steps: u64) -> Ran
+// From a network in cube order. s is the best step on the network that the run has come to, of which the table says the gains, and so many
+// literals are in it.
+fn follow(n: Network, steps: u64) -> Ran
     requires { Runnable n }
     ensures { Told (some (run_from steps (net_of n))) result }
 {
-    let mut t = [0u32; TABLE_WORDS];
-    let mut g = [0u16; MOST_ENTRIES];
-    follow(&mut t, &mut g, n, steps)
+    let mut gains = Gains {
+        table: [0; TABLE_WORDS],
+        entries: [0; MOST_ENTRIES],
+    };
+    let mut made = no_steps();
+    let mut net = n;
+    let mut literals = literals_of(&n);
+    let mut s = gains.first_best(n);
+    for _ in 0..steps {
+        if s.weight <= 0 {
+            return ending(Stop::Done, net, made);
+        }
+        let next = extract_step::step(net, s.divisor);
+        let Outcome::Made = next.outcome else {
+            return ending(reason(next.outcome), net, made);
+        };
+        let rest = taken_off(literals, s.weight);
+        made.list[made.count] = made_by(s, next.number, rest);
+        made.count += 1;
+        s = gains.next_best(net, next.network);
+        net = next.network;
+        literals = rest;
+    }
+    ending(ended(s.weight), net, made)
 }
 
 // A run of so many steps at most: 10 for a network that breaks a rule.
 pub fn run(n: Network, steps: u64) -> Ran
     ensures { Told (run_on steps n) result }
 {
-    let t = extract_tidy::in_order(n);
-    let answer = t.answer;
-    let network = t.network;
-    let Verdict::Accepted = answer else {
+    let tidy = extract_tidy::in_order(n);
+    let network = tidy.network;
+    let Verdict::Accepted = tidy.answer else {
         return Ran {
             answer: Answer::Refused(10),
             network,
             steps: no_steps(),
         };
     };
-    go(network, steps)
+    follow(network, steps)
 }

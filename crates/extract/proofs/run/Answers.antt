@@ -13,20 +13,20 @@ shape s = shape_of _ (search kit_rules) (search kit_rules)
 
 -- what is held where the network is accepted
 kept : (c : In-Accepted) → let n = c.args.n in (rules n ≡ true)
-    × Holds c.in_order-t.result.network (in_order (net_of n))
-kept c = told-accepted c.args.n (in_order (net_of c.args.n)) c.in_order-t.result
-    c.in_order-t.ensures c.in-Accepted.is
+    × Holds c.in_order-tidy.result.network (in_order (net_of n))
+kept c = told-accepted c.args.n (in_order (net_of c.args.n)) c.in_order-tidy.result
+    c.in_order-tidy.ensures c.in-Accepted.is
 
 pub returns-in_default : goal.returns-in_default
 returns-in_default c =
     let n = c.args.n in
-    let q = told-refused n (in_order (net_of n)) c.in_order-t.result _ c.in_order-t.ensures c.in_default.is in
+    let q = told-refused n (in_order (net_of n)) c.in_order-tidy.result _ c.in_order-tidy.ensures c.in_default.is in
     refused-told c.args.steps n _ q.0 refl q.1 c.no_steps.ensures
 
-pub go-requires : goal.go-requires
-go-requires c =
-    start-ready c.args.n c.in_order-t.result.network (shape (goal.at.go-requires c).Start) (kept c).0 (kept c).1
+pub follow-requires : goal.follow-requires
+follow-requires c =
+    start-ready c.args.n c.in_order-tidy.result.network (shape (goal.at.follow-requires c).Start) (kept c).0 (kept c).1
 
 pub returns : goal.returns
 returns c =
-    start-told c.args.n c.in_order-t.result.network (shape (goal.at.returns c).Start) (kept (goal.at.returns c).In-Accepted).0 (kept (goal.at.returns c).In-Accepted).1 c.args.steps c.go.result c.go.ensures
+    start-told c.args.n c.in_order-tidy.result.network (shape (goal.at.returns c).Start) (kept (goal.at.returns c).In-Accepted).0 (kept (goal.at.returns c).In-Accepted).1 c.args.steps c.follow.result c.follow.ensures
