@@ -40,15 +40,15 @@ returns-then-s-le0 c k =
     let s = c.scan-s in
     entries_none _ (kept (goal.at.returns-then-s-le0 c).After-scan-s) _ _ (k (kept (goal.at.returns-then-s-le0 c).After-scan-s)) s.result s.ensures.0 (low (goal.at.returns-then-s-le0 c).Then-s-le0) _ c.no_step-then-s-le0.ensures
 
-pub uses_of-uses-requires : goal.uses_of-uses-requires
-uses_of-uses-requires c =
-    (front-orderly _ _ c.front.ensures.0 (kept (goal.at.uses_of-uses-requires c).After-scan-s) (shape (goal.at.uses_of-uses-requires c).After-scan-s), above (goal.at.uses_of-uses-requires c).Else-s-le0, c.scan-s.ensures.1)
+pub uses_of-requires : goal.uses_of-requires
+uses_of-requires c =
+    (front-orderly _ _ c.front.ensures.0 (kept (goal.at.uses_of-requires c).After-scan-s) (shape (goal.at.uses_of-requires c).After-scan-s), above (goal.at.uses_of-requires c).Else-s-le0, c.scan-s.ensures.1)
 
 pub returns : goal.returns
 returns c k =
     let s = c.scan-s in
     entries-chosen c.args.n (kept (goal.at.returns c).After-scan-s) _ _ (k (kept (goal.at.returns c).After-scan-s)) s.result s.ensures.0 (above (goal.at.returns c).Else-s-le0) _
-    (rw (front-nodes c.args.n _ c.front.ensures.0) c.uses_of-uses.ensures) refl (read (goal.at.returns c).After-scan-s)
+    (rw (front-nodes c.args.n _ c.front.ensures.0) c.uses_of.ensures) refl (read (goal.at.returns c).After-scan-s)
 
 pub overflow_add-e : goal.overflow_add-e
 overflow_add-e c = omega (arith, arranged-few _ (kept (goal.at.overflow_add-e c).After-scan-s) (shape (goal.at.overflow_add-e c).After-scan-s))
