@@ -1,19 +1,20 @@
 -- Counting the uses of a sum: cube by cube, and node by node. Assumes nothing.
 use Prim.Native.Nat.{ℕ, ◌+◌, ◌≤◌}
 use mathlib.Core.Path.{◌≡◌, sym, ◌∙◌}
-use mathlib.Core.Bool.{Bool, true, false}
+use mathlib.Core.Bool.{true, false}
 use mathlib.Core.List.{List, [], ◌∷◌}
 use native.Mathlib.Omega.{arith}
-use lib.ListN.{length, get_or, take}
+use lib.ListN.{length}
 use Rattle.sets.specs.Lists.{all, keep, total}
 use Rattle.sets.proofs.Truth.{both}
 use Rattle.sets.proofs.Lists.{keep-length, total-le}
 use Rattle.expression.specs.{Words.cubes_of, Expression.ordered}
-use Rattle.network.{specs.Held.most_cubes, specs.Parts.nodes_of}
-use Rattle.network_nodes.proofs.{Cutting.cut-lengths}
+use Rattle.network.{specs.Held.most_cubes}
 use Rattle.extract_laws.specs.Divisor.{sum, use_of, uses}
-use Rattle.extract_divisor.{specs.Divisor.found_use, proofs.Using.found-use}
-use Rattle.extract_choice.specs.Parts.{Orderly}
+use Rattle.network.{specs.Net.nodes, specs.Held.net_of, specs.Held.used, specs.Handed.Shaped, specs.declared.Network.Network}
+use Rattle.network.proofs.Holding.{nodes-held, cubes-held}
+use Rattle.network_nodes.specs.Nodes.{cut}
+use Rattle.extract_tidy.{specs.Tidy.arranged, proofs.Arranged.arranged-parts, proofs.Arranged.arranged-sized}
 
 -- ---- in one node
 
@@ -64,21 +65,15 @@ module _ {a b : List ℕ} {fs rest : List (List (List ℕ))} {u : ℕ} (s : Summ
   pub summing-all : rest ≡ [] → u ≡ total (uses (sum a b)) fs
   summing-all h = let x = rw h at s.uses in omega arith
 
-module _ {words counts : List ℕ} {e : ℕ} (o : Orderly words counts e) where
+module _ (n : Network) (h : arranged n ≡ true) (shape : Shaped n) where
+  -- no more cubes than a network may have
+  net-few : total length (nodes (net_of n)) ≤ most_cubes
+  net-few = let s = arranged-sized n h shape in omega (arith, cubes-held n (omega (arith, s.cubes, shape.places)), s.cubes)
+
   -- at first none is counted
-  pub summing_none : (a b : List ℕ) {gs : List (List (List ℕ))} → gs ≡ nodes_of e counts words → Summing a b (nodes_of e counts words) gs 0
-  summing_none a b q = rw q (record {
-    uses = omega arith;
-    sorted = o.sorted;
-    few = omega (arith, cut-lengths (take e counts) (cubes_of words) (omega (arith, o.whole)), o.whole, o.few);
-  })
+  pub summing_none : (a b : List ℕ) {gs : List (List (List ℕ))} → gs ≡ cut (used n) (cubes_of n.words) → Summing a b (nodes (net_of n)) gs 0
+  summing_none a b {gs} q = let e : gs ≡ nodes (net_of n) = q ∙ sym (nodes-held n) in rw e (record { uses = omega arith; sorted = (arranged-parts n h).1; few = net-few })
 
   -- so the number stays small
-  pub uses-few : (a b : List ℕ) → total (uses (sum a b)) (nodes_of e counts words) ≤ most_cubes
-  uses-few a b = omega (
-    arith,
-    total-le (uses (sum a b)) length (nodes_of e counts words) (λ f m. keep-length (use_of a b f) f),
-    cut-lengths (take e counts) (cubes_of words) (omega (arith, o.whole)),
-    o.whole,
-    o.few,
-  )
+  pub uses-few : (a b : List ℕ) → total (uses (sum a b)) (nodes (net_of n)) ≤ most_cubes
+  uses-few a b = omega (arith, total-le (uses (sum a b)) length (nodes (net_of n)) (λ f m. keep-length (use_of a b f) f), net-few)

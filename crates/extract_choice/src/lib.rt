@@ -9,14 +9,13 @@ ghost use Rattle.expression.specs.Words.{cubes_of};
 ghost use Rattle.expression.specs.Expression.{ordered};
 ghost use Rattle.network.specs.Net.{nodes};
 ghost use Rattle.network.specs.Held.{net_of, most_cubes};
-ghost use Rattle.network.specs.Parts.{nodes_of};
 ghost use Rattle.extract_laws.specs.Divisor.{sum, uses};
 ghost use Rattle.extract_tidy.specs.Tidy.{arranged};
 ghost use Rattle.extract_divisor.specs.Divisor.{divisor_of, weighed_of};
 ghost use Rattle.extract_gains.specs.Gains.{many};
 ghost use Rattle.extract_counts.specs.Counts.{Says};
 ghost use Rattle.extract_choice.specs.Choice.{Chosen, chosen_in};
-ghost use Rattle.extract_choice.specs.Parts.{offered, picked, best_below, Modest, Counted, Orderly};
+ghost use Rattle.extract_choice.specs.Parts.{offered, picked, best_below, Modest, Counted};
 
 use cube::Cube;
 use extract_divisor::{Divisor, Step};
@@ -83,12 +82,13 @@ fn count_in(s: &[u64], a: Cube, b: Cube) -> u32
 }
 
 // The uses of a sum in all nodes, the same base in two nodes twice.
-fn count_all(words: &[u64], counts: &[usize], e: usize, a: Cube, b: Cube) -> u32
-    requires { Orderly words.now counts.now e }
-    ensures { result ≡ total (uses (sum (lits a) (lits b))) (nodes_of e counts.now words.now) }
+fn count_all(n: &Network, a: Cube, b: Cube) -> u32
+    requires { arranged n.now ≡ true }
+    ensures { result ≡ total (uses (sum (lits a) (lits b))) (nodes (net_of n.now)) }
 {
+    let e = n.outputs + n.divisors;
     let mut r: u32 = 0;
-    for f in network_nodes::each(words, &counts[..e]) {
+    for f in network_nodes::each(&n.words, &n.counts[..e]) {
         r += count_in(f, a, b);
     }
     r
@@ -103,13 +103,13 @@ fn pair_uses(weight: i32) -> u32
 }
 
 // The uses of the divisor of a step whose weight is above 0.
-fn uses_of(words: &[u64], counts: &[usize], e: usize, s: Step) -> u32
-    requires { Orderly words.now counts.now e × (lt_z (pos 0) s.weight ≡ true) × Modest s.weight }
-    ensures { Counted (nodes_of e counts.now words.now) (divisor_of s.divisor) s.weight result }
+fn uses_of(n: &Network, s: Step) -> u32
+    requires { (arranged n.now ≡ true) × (lt_z (pos 0) s.weight ≡ true) × Modest s.weight }
+    ensures { Counted (nodes (net_of n.now)) (divisor_of s.divisor) s.weight result }
 {
     match s.divisor {
         Divisor::Pair(_, _) => pair_uses(s.weight),
-        Divisor::Sum(a, b) => count_all(words, counts, e, a, b),
+        Divisor::Sum(a, b) => count_all(n, a, b),
     }
 }
 
@@ -126,15 +126,9 @@ pub fn best(t: &[u32; TABLE_WORDS], g: &[u16; MOST_ENTRIES], n: Network) -> Step
     if s.weight <= 0 {
         return extract_divisor::no_step();
     }
-    let e = n.outputs + n.divisors;
     Step {
         divisor: s.divisor,
         weight: s.weight,
-        uses: uses_of(
-            network_nodes::front(&n.words, &n.counts, e),
-            &n.counts,
-            e,
-            s,
-        ),
+        uses: uses_of(&n, s),
     }
 }
