@@ -1,86 +1,79 @@
 -- Counting the uses of a sum: cube by cube, and node by node. Assumes nothing.
-use Prim.Native.Nat.{ℕ, ◌+◌, ◌-◌, ◌<◌, ◌≤◌}
-use mathlib.Core.Path.{◌≡◌, sym, ap, ◌∙◌}
-use mathlib.Core.Bool.{Bool, true, false}
-use mathlib.Core.List.{List, []}
+use Prim.Native.Nat.{ℕ, ◌+◌, ◌≤◌}
+use mathlib.Core.Path.{◌≡◌, sym, ◌∙◌}
+use mathlib.Core.Bool.{true, false}
+use mathlib.Core.List.{List, [], ◌∷◌}
 use native.Mathlib.Omega.{arith}
-use lib.ListN.{length, get_or, take, drop, drop_of_length-le, length-take, length-drop}
-use Rattle.sets.specs.Lists.{keep, total}
-use Rattle.sets.proofs.Lists.{all-out, keep-length, total-le, total-take-le}
-use Rattle.sets.proofs.Places.{at_in, drop-next}
+use lib.ListN.{length}
+use Rattle.sets.specs.Lists.{all, keep, total}
+use Rattle.sets.proofs.Truth.{both}
+use Rattle.sets.proofs.Lists.{keep-length, total-le}
 use Rattle.expression.specs.{Words.cubes_of, Expression.ordered}
-use Rattle.network.{specs.Held.most_cubes, specs.Parts.nodes_of, proofs.Parts.nodes-at, proofs.Parts.nodes-length}
-use Rattle.network_nodes.specs.Nodes.{count_before}
-use Rattle.network_nodes.proofs.{Cutting.cut-node, Cutting.cut-lengths, Starting.start-next}
+use Rattle.network.{specs.Held.most_cubes}
 use Rattle.extract_laws.specs.Divisor.{sum, use_of, uses}
-use Rattle.extract_divisor.{specs.Divisor.found_use, proofs.Using.found-use}
-use Rattle.extract_choice.specs.Parts.{Orderly}
+use Rattle.network.{specs.Net.nodes, specs.Held.net_of, specs.Held.used, specs.Handed.Shaped, specs.declared.Network.Network}
+use Rattle.network.proofs.Holding.{nodes-held, cubes-held}
+use Rattle.network_nodes.specs.Nodes.{cut}
+use Rattle.extract_tidy.{specs.Tidy.arranged, proofs.Arranged.arranged-parts, proofs.Arranged.arranged-sized}
 
 -- ---- in one node
 
--- what the test of the cube at place i says
-pub tested-use : (a b : List ℕ) (f : List (List ℕ)) (i : ℕ) (c : List ℕ) {t : Bool} → ordered f ≡ true → c ≡ get_or f i [] → t ≡ found_use a b f c
-    → use_of a b f (get_or f i []) ≡ t
-tested-use a b f i c o e h = rw (← e) (sym (h ∙ found-use a b f c o))
+-- so many uses are counted, and with those among the cubes that are left they are all
+pub record Counting (a b : List ℕ) (f rest : List (List ℕ)) (u : ℕ) : Type 0 where
+  pub few : u + length rest ≤ length f
+  pub uses : u + length (keep (use_of a b f) rest) ≡ uses (sum a b) f
 
--- the uses among the cubes before place i, and those from there on, are all
-pub record Counting (a b : List ℕ) (f : List (List ℕ)) (i u : ℕ) : Type 0 where
-  pub within : i ≤ length f
-  pub few : u ≤ i
-  pub uses : u + length (keep (use_of a b f) (drop i f)) ≡ uses (sum a b) f
+module _ {a b : List ℕ} {f : List (List ℕ)} where
+  pub counting-none : {g : List (List ℕ)} → g ≡ f → Counting a b f g 0
+  counting-none e = rw e (record { few = omega arith; uses = omega arith })
 
-module _ (a b : List ℕ) (f : List (List ℕ)) where
-  pub counting-none : Counting a b f 0 0
-  counting-none = record { within = omega arith; few = omega arith; uses = omega arith }
+  module _ {rest g : List (List ℕ)} {d : List ℕ} {u : ℕ} (c : Counting a b f rest u) (h : rest ≡ d ∷ g) where
+    pub counting-off : use_of a b f d ≡ false → Counting a b f g u
+    counting-off e = let k = rw h at c.few in record { few = omega arith; uses = rw (h, e) at c.uses }
 
-  module _ (i u : ℕ) (c : Counting a b f i u) where
-    module _ (h : i < length f) where
-      pub counting-off : use_of a b f (get_or f i []) ≡ false → Counting a b f (i + 1) u
-      counting-off e = record { within = omega arith; few = omega arith; uses = rw (drop-next f i [] h, e) at c.uses }
+    pub counting-on : use_of a b f d ≡ true → Counting a b f g (u + 1)
+    counting-on e =
+        let k = rw h at c.few in
+        let x = rw (h, e) at c.uses in
+        record { few = omega arith; uses = omega arith }
 
-      pub counting-on : use_of a b f (get_or f i []) ≡ true → Counting a b f (i + 1) (u + 1)
-      counting-on e =
-          let x = rw (drop-next f i [] h, e) at c.uses in
-          record { within = omega arith; few = omega arith; uses = omega arith }
+  pub counting-all : {rest : List (List ℕ)} {u : ℕ} → Counting a b f rest u → rest ≡ [] → u ≡ uses (sum a b) f
+  counting-all c h = let x = rw h at c.uses in omega arith
 
-    pub counting-all : length f ≤ i → u ≡ uses (sum a b) f
-    counting-all h = let x = rw (drop_of_length-le f {i = i} h) at c.uses in omega arith
+-- ---- in the nodes that words and counts hold
 
--- ---- the nodes that words and counts hold
+-- so many uses are counted, and with those in the nodes that are left they are all; each node is in cube order, and has no more cubes than a network
+pub record Summing (a b : List ℕ) (fs rest : List (List (List ℕ))) (u : ℕ) : Type 0 where
+  pub uses : u + total (uses (sum a b)) rest ≡ total (uses (sum a b)) fs
+  pub sorted : all ordered rest ≡ true
+  pub few : total length rest ≤ most_cubes
 
-module _ {words counts : List ℕ} {e : ℕ} (o : Orderly words counts e) where
-  pub nodes-many : length (nodes_of e counts words) ≡ e
-  nodes-many = nodes-length counts words e o.slots
+module _ {a b : List ℕ} {fs rest : List (List (List ℕ))} {u : ℕ} (s : Summing a b fs rest u) where
+  module _ {f : List (List ℕ)} {gs : List (List (List ℕ))} (h : rest ≡ f ∷ gs) where
+    pub summing-node : (length f ≤ most_cubes) × (ordered f ≡ true)
+    summing-node = let k = rw h at s.few in (omega arith, (both (ordered f) _ (rw h at s.sorted)).0)
 
-  -- each node is in cube order, and has no more cubes than a network
-  module _ (i : ℕ) where
-    pub node-ordered : i < e → ordered (get_or (nodes_of e counts words) i []) ≡ true
-    node-ordered h = all-out ordered (at_in (nodes_of e counts words) i [] (omega (arith, nodes-many))) o.sorted
+    pub summing_next : Summing a b fs gs (u + uses (sum a b) f)
+    summing_next =
+        let x = rw h at s.uses in
+        let k = rw h at s.few in
+        record { uses = omega arith; sorted = (both (ordered f) _ (rw h at s.sorted)).1; few = omega arith }
 
-    pub node-few : length (get_or (nodes_of e counts words) i []) ≤ most_cubes
-    node-few =
-        let f = cubes_of words in
-        let z = count_before i (take e counts) in
-        omega (arith, ap length (cut-node (take e counts) f i), length-take (get_or (take e counts) i 0) (drop z f), length-drop z f, o.few)
+    pub summing-room : u + uses (sum a b) f ≤ total (uses (sum a b)) fs
+    summing-room = let x = rw h at s.uses in omega arith
 
-    -- the cubes from its place on are its own, and then the next begins
-    module _ (at : ℕ) (h : i < e) (p : at ≡ count_before i counts) where
-      pub node-part : take ((at + get_or counts i 0) - at) (drop at (cubes_of words)) ≡ get_or (nodes_of e counts words) i []
-      node-part =
-          let z : (at + get_or counts i 0) - at ≡ get_or counts i 0 = omega arith in
-          rw (z, p) (sym (nodes-at counts words e i h ∙ cut-node counts (cubes_of words) i))
+  pub summing-all : rest ≡ [] → u ≡ total (uses (sum a b)) fs
+  summing-all h = let x = rw h at s.uses in omega arith
 
-      pub next_start : (at + get_or counts i 0 ≡ count_before (i + 1) counts) × (at + get_or counts i 0 ≤ most_cubes)
-      next_start =
-          let n = start-next counts i at (omega (arith, o.slots)) p in
-          (n, omega (arith, total-take-le (λ c. c) counts (i + 1) e (omega arith), o.whole, o.few))
+module _ (n : Network) (h : arranged n ≡ true) (shape : Shaped n) where
+  -- no more cubes than a network may have
+  net-few : total length (nodes (net_of n)) ≤ most_cubes
+  net-few = let s = arranged-sized n h shape in omega (arith, cubes-held n (omega (arith, s.cubes, shape.places)), s.cubes)
+
+  -- at first none is counted
+  pub summing_none : (a b : List ℕ) {gs : List (List (List ℕ))} → gs ≡ cut (used n) (cubes_of n.words) → Summing a b (nodes (net_of n)) gs 0
+  summing_none a b {gs} q = let e : gs ≡ nodes (net_of n) = q ∙ sym (nodes-held n) in rw e (record { uses = omega arith; sorted = (arranged-parts n h).1; few = net-few })
 
   -- so the number stays small
-  pub uses-few : (a b : List ℕ) → total (uses (sum a b)) (nodes_of e counts words) ≤ most_cubes
-  uses-few a b = omega (
-    arith,
-    total-le (uses (sum a b)) length (nodes_of e counts words) (λ f m. keep-length (use_of a b f) f),
-    cut-lengths (take e counts) (cubes_of words) (omega (arith, o.whole)),
-    o.whole,
-    o.few,
-  )
+  pub uses-few : (a b : List ℕ) → total (uses (sum a b)) (nodes (net_of n)) ≤ most_cubes
+  uses-few a b = omega (arith, total-le (uses (sum a b)) length (nodes (net_of n)) (λ f m. keep-length (use_of a b f) f), net-few)

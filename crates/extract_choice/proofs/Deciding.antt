@@ -1,5 +1,5 @@
 -- The choice in the paper's words: the best divisor, where its weight is above 0; and that it leaves one step. Assumes nothing.
-use Prim.Native.Nat.{ℕ, ◌+◌}
+use Prim.Native.Nat.{ℕ}
 use mathlib.Core.Path.{◌≡◌, refl, sym, ap, ap₂, ◌∙◌}
 use mathlib.Core.Logic.{◌↔◌, inl, inr}
 use mathlib.Core.Bool.{Bool, true, false, cond}
@@ -7,42 +7,23 @@ use mathlib.Core.List.{List}
 use mathlib.Core.Option.{Option, none, some, none-ne-some}
 use native.Mathlib.Omega.{arith}
 use lib.IntN.{pos}
-use lib.ListN.{length, take}
-use lib.Seq.{length-take-le}
 use lib.Signed.{lt_z}
 use Rattle.sets.proofs.{Truth.decided, Orders.not_after}
 use Rattle.cube.proofs.Lits.{fit_cube, cube-one}
-use Rattle.expression.specs.Words.{cubes_of}
-use Rattle.network_nodes.specs.Nodes.{cut, count_before}
-use Rattle.network.specs.{Net.Net, Net.nodes, Held.net_of, Held.used, Parts.nodes_of, declared.Network.Network}
-use Rattle.network.{specs.Handed.Shaped, proofs.Holding.nodes-held, proofs.Holding.cut-used}
+use Rattle.network.specs.{Net.Net, Net.nodes, Held.net_of, declared.Network.Network}
 use Rattle.extract_laws.specs.Divisor as extraction
 use Rattle.extract_laws.specs.Extract.{weight, best}
 use Rattle.extract_laws.specs.{Run.Weighed, Run.weighing, Meaning.Worth, Meaning.Done}
 use Rattle.extract_laws.proofs.Choosing.{heavier-order, best-iff, best_none}
-use Rattle.extract_tidy.{specs.Tidy.arranged, proofs.Arranged.arranged-parts, proofs.Arranged.arranged-sized}
+use Rattle.extract_tidy.{specs.Tidy.arranged}
 use Rattle.extract_divisor.specs.Divisor.{divisor_of, weighed_of, no_step}
 use Rattle.extract_divisor.specs.declared.{Divisor.Divisor, Divisor.TheVariants.Pair, Divisor.TheVariants.Sum}
 use Rattle.extract_divisor.specs.declared.Step.{Step}
 use Rattle.extract_gains.specs.Gains.{many}
 use Rattle.extract_counts.{specs.Counts.Says, proofs.Arranged.arranged-neat}
 use Rattle.extract_choice.specs.Choice.{worth_in, chosen_in, Chosen}
-use Rattle.extract_choice.specs.Parts.{best_below, Counted, Orderly}
+use Rattle.extract_choice.specs.Parts.{best_below, Counted}
 use Rattle.extract_choice.proofs.Leading.{table_done, table-worth, counted-uses}
-
--- ---- networks in cube order
-
--- the words of the cubes in use
-module _ (n : Network) (words : List ℕ) (front : cubes_of words ≡ take (count_before (n.outputs + n.divisors) n.counts) (cubes_of n.words)) where
-  pub front-nodes : nodes (net_of n) ≡ nodes_of (n.outputs + n.divisors) n.counts words
-  front-nodes = nodes-held n ∙ sym (ap (cut (used n)) front ∙ cut-used (used n) (cubes_of n.words))
-
-  pub front-orderly : arranged n ≡ true → Shaped n → Orderly words n.counts (n.outputs + n.divisors)
-  front-orderly h shape =
-      let s = arranged-sized n h shape in
-      let q : length (cubes_of words) ≡ count_before (n.outputs + n.divisors) n.counts =
-      ap length front ∙ length-take-le _ _ (omega (arith, s.cubes, shape.places)) in
-      record { slots = s.counted; whole = q; few = omega (arith, s.cubes); sorted = rw (← front-nodes) (arranged-parts n h).1 }
 
 -- ---- the choice
 

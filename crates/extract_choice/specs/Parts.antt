@@ -1,11 +1,8 @@
--- Words for the contracts of the private functions: what the entries of a table offer, and what words and counts hold.
-use Rattle.std.specs.Prelude.{ℕ, zero, suc, ◌≤◌, List, length, get_or, ℤ, pos, ◌-ℤ◌}
+-- Words for the contracts of the private functions: what the entries of a table offer, and uses.
+use Rattle.std.specs.Prelude.{ℕ, zero, suc, List, get_or, ℤ, pos, ◌-ℤ◌}
 use mathlib.Core.{Path.◌≡◌, Bool.true, Bool.cond}
 use Rattle.std.specs.Int.Signed.{lt_z}
-use Rattle.sets.specs.Lists.{all, total}
-use Rattle.expression.specs.{Words.cubes_of, Expression.ordered}
-use Rattle.network_nodes.specs.Nodes.{count_before}
-use Rattle.network.specs.{Held.most_cubes, Parts.nodes_of}
+use Rattle.sets.specs.Lists.{total}
 use Rattle.extract_laws.specs.Divisor.{Divisor, pair, sum, uses}
 use Rattle.extract_laws.specs.{Extract.sooner, Run.Weighed}
 use Rattle.extract_divisor.specs.Divisor.{weighed_of, no_step}
@@ -32,14 +29,7 @@ best_below t g (suc e) = picked (best_below t g e) (offered (key_at t e) (get_or
 abbrev pub Modest : ℤ → Type 0
 Modest w = lt_z w (pos 65536) ≡ true
 
--- ---- what words and counts hold
-
--- there are e counts, as many cubes as they say, no more than a network may have, and each node is in cube order
-pub record Orderly (words counts : List ℕ) (e : ℕ) : Type 0 where
-  pub slots : e ≤ length counts
-  pub whole : length (cubes_of words) ≡ count_before e counts
-  pub few : length (cubes_of words) ≤ most_cubes
-  pub sorted : all ordered (nodes_of e counts words) ≡ true
+-- ---- uses
 
 -- the uses of a pair with this weight, or of a sum in these nodes
 abbrev pub Counted : List (List (List ℕ)) → Divisor → ℤ → ℕ → Type 0

@@ -9,14 +9,13 @@ ghost use Rattle.expression.specs.Words.{cubes_of};
 ghost use Rattle.expression.specs.Expression.{ordered};
 ghost use Rattle.network.specs.Net.{nodes};
 ghost use Rattle.network.specs.Held.{net_of, most_cubes};
-ghost use Rattle.network.specs.Parts.{nodes_of};
 ghost use Rattle.extract_laws.specs.Divisor.{sum, uses};
 ghost use Rattle.extract_tidy.specs.Tidy.{arranged};
 ghost use Rattle.extract_divisor.specs.Divisor.{divisor_of, weighed_of};
 ghost use Rattle.extract_gains.specs.Gains.{many};
 ghost use Rattle.extract_counts.specs.Counts.{Says};
 ghost use Rattle.extract_choice.specs.Choice.{Chosen, chosen_in};
-ghost use Rattle.extract_choice.specs.Parts.{offered, picked, best_below, Modest, Counted, Orderly};
+ghost use Rattle.extract_choice.specs.Parts.{offered, picked, best_below, Modest, Counted};
 
 use cube::Cube;
 use extract_divisor::{Divisor, Step};
@@ -33,7 +32,7 @@ fn weight_of(gain: u16, cost: u32) -> i32
     requires { cost < 65536 }
     ensures { result ≡ pos gain -ℤ pos cost }
 {
-    gain as i32 - cost as i32
+    i32::from(gain) - cost as i32
 }
 
 // The better of the step that is held and that of a key with so much gain. Its uses are left for later.
@@ -44,9 +43,8 @@ fn offer(held: Step, key: u32, gain: u16) -> Step
     if weight < held.weight {
         return held;
     }
-    let divisor = extract_keys::divisor_of(key);
     let s = Step {
-        divisor,
+        divisor: extract_keys::divisor_of(key),
         weight,
         uses: 0,
     };
@@ -57,15 +55,12 @@ fn offer(held: Step, key: u32, gain: u16) -> Step
 fn scan(t: &[u32; TABLE_WORDS], g: &[u16; MOST_ENTRIES]) -> Step
     ensures { (weighed_of result ≡ best_below t.now g.now (many t.now)) × Modest result.weight }
 {
-    let n = extract_gains::number(t);
     let mut held = extract_divisor::no_step();
-    let mut e = 0;
-    while e < n {
+    for e in 0..extract_gains::number(t) {
         let gain = extract_gains::gain_at(g, e);
-        if gain as i32 > held.weight {
+        if i32::from(gain) > held.weight {
             held = offer(held, extract_gains::key_at(t, e), gain);
         }
-        e += 1;
     }
     held
 }
@@ -78,29 +73,23 @@ fn count_in(s: &[u64], a: Cube, b: Cube) -> u32
     ensures { result ≡ uses (sum (lits a) (lits b)) (cubes_of s.now) }
 {
     let mut r: u32 = 0;
-    let mut i = 0;
-    while i < expression::number(s) {
-        if extract_divisor::is_use(s, expression::cube_at(s, i), a, b) {
+    for c in expression::each(s) {
+        if extract_divisor::is_use(s, c, a, b) {
             r += 1;
         }
-        i += 1;
     }
     r
 }
 
 // The uses of a sum in all nodes, the same base in two nodes twice.
-fn count_all(words: &[u64], counts: &[usize], e: usize, a: Cube, b: Cube) -> u32
-    requires { Orderly words.now counts.now e }
-    ensures { result ≡ total (uses (sum (lits a) (lits b))) (nodes_of e counts.now words.now) }
+fn count_all(n: &Network, a: Cube, b: Cube) -> u32
+    requires { arranged n.now ≡ true }
+    ensures { result ≡ total (uses (sum (lits a) (lits b))) (nodes (net_of n.now)) }
 {
+    let e = n.outputs + n.divisors;
     let mut r: u32 = 0;
-    let mut at = 0;
-    let mut i = 0;
-    while i < e {
-        let next = at + counts[i];
-        r += count_in(expression::part(words, at, next), a, b);
-        at = next;
-        i += 1;
+    for f in network_nodes::each(&n.words, &n.counts[..e]) {
+        r += count_in(f, a, b);
     }
     r
 }
@@ -114,14 +103,13 @@ fn pair_uses(weight: i32) -> u32
 }
 
 // The uses of the divisor of a step whose weight is above 0.
-fn uses_of(words: &[u64], counts: &[usize], e: usize, s: Step) -> u32
-    requires { Orderly words.now counts.now e × (lt_z (pos 0) s.weight ≡ true) × Modest s.weight }
-    ensures { Counted (nodes_of e counts.now words.now) (divisor_of s.divisor) s.weight result }
+fn uses_of(n: &Network, s: Step) -> u32
+    requires { (arranged n.now ≡ true) × (lt_z (pos 0) s.weight ≡ true) × Modest s.weight }
+    ensures { Counted (nodes (net_of n.now)) (divisor_of s.divisor) s.weight result }
 {
-    let d = s.divisor;
-    match d {
+    match s.divisor {
         Divisor::Pair(_, _) => pair_uses(s.weight),
-        Divisor::Sum(a, b) => count_all(words, counts, e, a, b),
+        Divisor::Sum(a, b) => count_all(n, a, b),
     }
 }
 
@@ -138,14 +126,9 @@ pub fn best(t: &[u32; TABLE_WORDS], g: &[u16; MOST_ENTRIES], n: Network) -> Step
     if s.weight <= 0 {
         return extract_divisor::no_step();
     }
-    let words = n.words;
-    let counts = n.counts;
-    let e = n.outputs + n.divisors;
-    let uses = uses_of(network_nodes::front(&words, &counts, e), &counts, e, s);
-    let divisor = s.divisor;
     Step {
-        divisor,
+        divisor: s.divisor,
         weight: s.weight,
-        uses,
+        uses: uses_of(&n, s),
     }
 }

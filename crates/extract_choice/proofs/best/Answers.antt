@@ -1,26 +1,20 @@
 -- `extract_choice::best` meets its contract: no step out of order, and else the best entry of the table, with its uses. Assumes nothing.
 use mathlib.Core.Path.{◌≡◌, refl, sym, ap, ◌∙◌}
 use mathlib.Core.Bool.{true, false}
-use native.Mathlib.Omega.{arith}
 use lib.IntN.{pos}
 use lib.Signed.{lt_z, le_z}
 use mir.Syntax.{w32}
 use mir.Val.{to_z, of_z}
 use mir.Facts.{to_z-of_z}
-use Rattle.network.{specs.Handed.Shaped, proofs.Handing.shape_of}
 use Rattle.extract_tidy.specs.Tidy.{arranged}
-use Rattle.extract_counts.proofs.Arranged.{arranged-few}
 use Rattle.extract_choice.proofs.{Weights.above_most}
-use Rattle.extract_choice.proofs.Deciding.{front-nodes, front-orderly, chosen-not, entries_none, entries-chosen}
+use Rattle.extract_choice.proofs.Deciding.{chosen-not, entries_none, entries-chosen}
 use borrow.Author.Rules.{rules}
 use Rattle.extract_choice.proofs.best.Goals as goal
 use Rattle.extract_choice.proofs.best.Goals.{After-scan-s, Else-s-le0, Then-s-le0}
 
 kept : (c : After-scan-s) → arranged c.args.n ≡ true
 kept c = sym c.is_arranged.ensures ∙ c.if-not-is_arranged.false
-
-shape : (c : After-scan-s) → Shaped c.args.n
-shape c = shape_of _ (search rules) (search rules)
 
 -- the weight that is read is the step's
 read : (c : After-scan-s) → let s = c.scan-s.result in to_z w32 (of_z w32 s.weight) ≡ s.weight
@@ -40,15 +34,12 @@ returns-then-s-le0 c k =
     let s = c.scan-s in
     entries_none _ (kept (goal.at.returns-then-s-le0 c).After-scan-s) _ _ (k (kept (goal.at.returns-then-s-le0 c).After-scan-s)) s.result s.ensures.0 (low (goal.at.returns-then-s-le0 c).Then-s-le0) _ c.no_step-then-s-le0.ensures
 
-pub uses_of-uses-requires : goal.uses_of-uses-requires
-uses_of-uses-requires c =
-    (front-orderly _ _ c.front.ensures.0 (kept (goal.at.uses_of-uses-requires c).After-scan-s) (shape (goal.at.uses_of-uses-requires c).After-scan-s), above (goal.at.uses_of-uses-requires c).Else-s-le0, c.scan-s.ensures.1)
+pub uses_of-requires : goal.uses_of-requires
+uses_of-requires c =
+    (kept (goal.at.uses_of-requires c).After-scan-s, above (goal.at.uses_of-requires c).Else-s-le0, c.scan-s.ensures.1)
 
 pub returns : goal.returns
 returns c k =
     let s = c.scan-s in
     entries-chosen c.args.n (kept (goal.at.returns c).After-scan-s) _ _ (k (kept (goal.at.returns c).After-scan-s)) s.result s.ensures.0 (above (goal.at.returns c).Else-s-le0) _
-    (rw (front-nodes c.args.n _ c.front.ensures.0) c.uses_of-uses.ensures) refl (read (goal.at.returns c).After-scan-s)
-
-pub overflow_add-e : goal.overflow_add-e
-overflow_add-e c = omega (arith, arranged-few _ (kept (goal.at.overflow_add-e c).After-scan-s) (shape (goal.at.overflow_add-e c).After-scan-s))
+    c.uses_of.ensures refl (read (goal.at.returns c).After-scan-s)

@@ -1,61 +1,44 @@
 -- The answers of `extract_choice::count_all`.
-use Prim.Native.Nat.{ℕ}
-use mathlib.Core.Path.{◌≡◌, refl, ap, ◌∙◌}
-use mathlib.Core.List.{List, []}
+use mathlib.Core.Path.{ap, ap₂, ◌∙◌}
 use native.Mathlib.Omega.{arith}
-use lib.ListN.{get_or}
-use lib.Seq.{take_all}
-use Rattle.sets.{specs.Lists.total, proofs.Places.total-next, proofs.Places.total-room}
 use Rattle.cube.specs.Cube.{lits}
 use Rattle.expression.specs.Words.{cubes_of}
-use Rattle.network.specs.Parts.{nodes_of}
-use Rattle.extract_laws.specs.Divisor.{sum, uses}
-use Rattle.extract_choice.proofs.Counting.{nodes-many, node-part, next_start, node-few, node-ordered, uses-few}
+use Rattle.network_nodes.specs.Nodes.{cut}
+use Rattle.network_nodes.proofs.Chains.{left}
+use Prim.Native.Nat.{◌+◌, ◌≤◌}
+use Rattle.extract_counts.proofs.Arranged.{arranged-few}
+use Rattle.extract_choice.proofs.Counting.{summing_none, summing-node, summing_next, summing-room, summing-all, uses-few}
 use Rattle.extract_choice.proofs.count_all.Goals as goal
-use Rattle.extract_choice.proofs.count_all.Goals.{After-count_in-r, After-part, At-loop-i}
+use Rattle.extract_choice.proofs.count_all.Goals.{Start}
+use borrow.Author.Rules.{rules}
+use Rattle.network.{specs.Handed.Shaped, specs.Handed.node_slots, proofs.Handing.shape_of}
 
--- the nodes, and the uses in one
-abbrev held : At-loop-i → List (List (List ℕ))
-held l = nodes_of l.args.e l.args.counts.now l.args.words.now
+-- its arrays are of their lengths
+shape : (c : Start) → Shaped c.args.n.now
+shape c = shape_of _ (search rules) (search rules)
 
-abbrev used : At-loop-i → List (List ℕ) → ℕ
-used l = uses (sum (lits l.args.a) (lits l.args.b))
+-- and there are counts for its nodes
+few : (c : Start) → c.args.n.now.outputs + c.args.n.now.divisors ≤ node_slots
+few c = arranged-few c.args.n.now c.requires (shape c)
 
--- the part is node i
-node : (c : After-part) → cubes_of c.part.result.now ≡ get_or ((nodes_of c.args.e c.args.counts.now c.args.words.now)) c.loop-i.i []
-node c = c.part.ensures.0 ∙ node-part c.requires c.loop-i.i c.loop-i.at (omega arith) c.loop-i.invariant.1
+pub overflow_add-e : goal.overflow_add-e
+overflow_add-e c = omega (arith, few (goal.at.overflow_add-e c).Start)
 
-node-counted : (c : After-count_in-r) → c.count_in-r.result ≡ uses (sum (lits c.args.a) (lits c.args.b)) (get_or (nodes_of c.args.e c.args.counts.now c.args.words.now) c.loop-i.i [])
-node-counted c = c.count_in-r.ensures ∙ ap (uses (sum (lits c.args.a) (lits c.args.b))) (c.part.ensures.0 ∙ node-part c.requires c.loop-i.i c.loop-i.at (omega arith) c.loop-i.invariant.1)
+pub shared_ref_as_front-each : goal.shared_ref_as_front-each
+shared_ref_as_front-each c = few (goal.at.shared_ref_as_front-each c).Start
 
-pub overflow_add-next : goal.overflow_add-next
-overflow_add-next c = omega (arith, next_start c.requires c.loop-i.i c.loop-i.at (omega arith) c.loop-i.invariant.1)
+pub loop-f-init : goal.loop-f-init
+loop-f-init c = summing_none c.args.n.now c.requires (shape (goal.at.loop-f-init c).Start) _ _ (ap left c.into_iter-f-iterator.ensures.into_iter_gives ∙ ap₂ (λ ns ws. cut ns (cubes_of ws)) c.each-f-items.ensures.1 c.each-f-items.ensures.0)
 
 pub count_in-r-requires : goal.count_in-r-requires
-count_in-r-requires c = rw (node c) (node-few c.requires c.loop-i.i, node-ordered c.requires c.loop-i.i (omega arith))
+count_in-r-requires c = summing-node c.loop-f.invariant c.in-Some.ensures.steps
 
 pub overflow_add-r : goal.overflow_add-r
 overflow_add-r c =
-    omega (
-      arith,
-      node-counted c,
-      total-room (used (goal.at.overflow_add-r c).At-loop-i) (held (goal.at.overflow_add-r c).At-loop-i) c.loop-i.i [] (omega (arith, nodes-many c.requires)),
-      uses-few c.requires (lits c.args.a) (lits c.args.b),
-    )
+    omega (arith, c.count_in-r.ensures, summing-room c.loop-f.invariant c.in-Some.ensures.steps, uses-few c.args.n.now c.requires (shape (goal.at.overflow_add-r c).Start) (lits c.args.a) (lits c.args.b))
 
-pub loop-i-preserved : goal.loop-i-preserved
-loop-i-preserved c =
-    let n = next_start c.requires c.loop-i.i c.loop-i.at (omega arith) c.loop-i.invariant.1 in
-    (omega arith, n.0, omega (arith, node-counted c, total-next (used (goal.at.loop-i-preserved c).At-loop-i) (held (goal.at.loop-i-preserved c).At-loop-i) c.loop-i.i [] (omega (arith, nodes-many c.requires))))
+pub loop-f-preserved : goal.loop-f-preserved
+loop-f-preserved c = rw c.count_in-r.ensures (summing_next c.loop-f.invariant c.in-Some.ensures.steps)
 
 pub returns : goal.returns
-returns c = c.loop-i.invariant.2 ∙ ap (total (used (goal.at.returns c).At-loop-i)) (take_all c.loop-i.i (held (goal.at.returns c).At-loop-i) (omega (arith, nodes-many c.requires)))
-
-pub loop-i-init : goal.loop-i-init
-loop-i-init c = (omega arith, refl, refl)
-
-pub offset_bounds-counts-i : goal.offset_bounds-counts-i
-offset_bounds-counts-i c = omega (arith, c.requires.slots)
-
-pub bounds-counts-i : goal.bounds-counts-i
-bounds-counts-i c = omega (arith, c.requires.slots)
+returns c = summing-all c.loop-f.invariant c.in-None.ensures.steps.0

@@ -27,6 +27,6 @@ returns-then-weight-held c =
 pub returns : goal.returns
 returns c =
     let a = c.args in
-    let s : Step = record { divisor = c.divisor_of-divisor.result; weight = to_z w32 (of_z w32 c.weight_of-weight.result); uses = 0 } in
+    let s : Step = record { divisor = c.divisor_of.result; weight = to_z w32 (of_z w32 c.weight_of-weight.result); uses = 0 } in
     ap weighed_of c.better_of.ensures ∙ picked-taken a.held s
-    ∙ ap (picked (weighed_of a.held)) (offered-step a.key a.gain s c.divisor_of-divisor.ensures (weight (goal.at.returns c).After-weight_of-weight) refl)
+    ∙ ap (picked (weighed_of a.held)) (offered-step a.key a.gain s c.divisor_of.ensures (weight (goal.at.returns c).After-weight_of-weight) refl)
