@@ -1,3 +1,4 @@
 pub mod Taking
+pub mod Copying
 pub mod Placing
 pub mod Renumbering

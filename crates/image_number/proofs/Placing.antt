@@ -1,13 +1,14 @@
 -- The new numbers in their places: each variable at its own first, then the divisors one after the other. Assumes nothing.
-use Prim.Native.Nat.{ℕ, zero, suc, ◌+◌, ◌<◌, ◌≤◌}
-use mathlib.Core.Path.{◌≡◌, refl, sym, ◌∙◌}
+use Prim.Native.Nat.{ℕ, ◌+◌, ◌<◌, ◌≤◌}
+use mathlib.Core.Path.{◌≡◌, ◌∙◌}
 use mathlib.Core.Logic.{◌⊎◌, inl, inr}
 use mathlib.Core.List.{List}
 use native.Mathlib.Omega.{arith}
-use lib.Dec.{eqb}
-use lib.ListN.{length, get_or, set, replicate, length-set, length-replicate}
+use lib.Dec.{eqb, ltb}
+use lib.ListN.{length, get_or, set, length-set}
 use lib.Seq.{get_or-set_same, get_or-set_other}
-use borrow.Author.Tests.{eqb-true, eqb-false}
+use Rattle.std.proofs.lemmas.List.{get_or_past}
+use borrow.Author.Tests.{eqb-true, eqb-false, ltb-true, ltb-false}
 use Rattle.sets.proofs.Truth.{decided}
 use Rattle.network.specs.Held.{most_variables, number_at}
 use Rattle.image_number.specs.Parts.{Wide, Itself, Numbers, Placing}
@@ -19,29 +20,24 @@ stored ps v x u h = elim (decided (eqb u v)) [
   | inr t ↦ inr (eqb-false u v t, get_or-set_other ps v u x 0 (eqb-false u v t))
 ]
 
-zero-at : (n v : ℕ) → get_or {A = ℕ} (replicate n 0) v 0 ≡ 0
-zero-at zero v = refl
-zero-at (suc n) zero = refl
-zero-at (suc n) (suc v) = zero-at n v
-
 wide-set : {ps : List ℕ} → Wide ps → (v x : ℕ) → v < most_variables → x < most_variables → Wide (set ps v x)
 wide-set {ps} w v x h s = record {
   whole = length-set ps v x ∙ w.whole;
   small = λ u. elim (stored ps v x u (omega (arith, w.whole))) [ inl (e, k) ↦ omega arith | inr (e, k) ↦ omega (arith, w.small u) ];
 }
 
-wide-zeros : Wide (replicate most_variables 0)
-wide-zeros = record { whole = length-replicate {A = ℕ} most_variables 0; small = λ v. omega (arith, zero-at most_variables v) }
-
 -- ---- each at its own
 
-pub itself-none : Itself 0 (replicate most_variables 0)
-itself-none = record { span = wide-zeros; each = λ v h. absurd (omega arith) }
-
-pub itself-next : (e : ℕ) (ps : List ℕ) → e < most_variables → Itself e ps → Itself (e + 1) (set ps e e)
-itself-next e ps h i = record {
-  span = wide-set i.span e e h h;
-  each = λ v k. elim (stored ps e e v (omega (arith, i.span.whole))) [ inl (p, q) ↦ q ∙ sym p | inr (p, q) ↦ q ∙ i.each v (omega arith) ];
+pub itself-all : {ps : List ℕ} → length ps ≡ most_variables → ((v : ℕ) → v < most_variables → get_or ps v 0 ≡ v) → Itself most_variables ps
+itself-all {ps} w f = record {
+  span = record {
+    whole = w;
+    small = λ v. elim (decided (ltb v most_variables)) [
+      | inl t ↦ let h = ltb-true v most_variables t in omega (arith, f v h)
+      | inr t ↦ omega (arith, get_or_past ps v 0 (omega (arith, w, ltb-false v most_variables t)))
+    ];
+  };
+  each = f;
 }
 
 -- ---- then the divisors

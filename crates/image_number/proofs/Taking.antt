@@ -9,8 +9,8 @@ use lib.ListN.{length, get_or, length-map}
 use Rattle.expression.proofs.Sorting.{sort-length}
 use borrow.Author.Tests.{eqb-true, eqb-false, lt-ltb}
 use Rattle.sets.specs.Sets.{mem, asc, insert, union}
-use Rattle.sets.proofs.Sets.{insert-mem, insert-asc, union-mem, union-asc, union_comm, ext}
-use Rattle.cube.specs.Cube.{joined, width}
+use Rattle.sets.proofs.Sets.{mem-head, insert-mem, insert-asc, union-mem, union-asc, union_comm, ext}
+use Rattle.cube.{specs.Cube.joined, specs.Cube.width, specs.Cube.lits, specs.declared.Cube.Cube, proofs.Lits.lits-inside}
 use Rattle.image_number.specs.Parts.{Wide, literal_by, cube_by, node_by}
 
 -- ---- the new literal
@@ -60,6 +60,10 @@ by-more ps c x d r s w a e f =
 pub by_all : (ps c r : List ℕ) → c ≡ [] → union (cube_by ps c) r ≡ r
 unfolding cube_by union
 by_all ps c r e = rw e
+
+-- the first literal of a cube is of a variable
+pub first-small : (c : Cube) {x : ℕ} {l : List ℕ} → lits c ≡ x ∷ l → x < 2 * width
+first-small c {x} {l} e = lits-inside c x (rw e (mem-head x l))
 
 -- a node has as many cubes as before
 pub node-length : (ps : List ℕ) (f : List (List ℕ)) → length (node_by ps f) ≡ length f

@@ -1,6 +1,4 @@
 -- `image_number::copy` meets its contract. The loop's invariant: the cubes passed stand renumbered from place `at` on. Assumes nothing.
-use Prim.Native.Nat.{◌-◌, ◌≤◌}
-use mathlib.Core.Path.{◌≡◌}
 use mathlib.Core.List.{map}
 use lib.ListN.{length, take}
 use Rattle.expression.{specs.Words.cubes_of, specs.Words.Placed}
@@ -8,7 +6,8 @@ use Rattle.image_number.specs.Parts.{cube_by}
 use Rattle.image_number.proofs.copy.Given as goal
 
 abbrev pub invariant-loop-i : goal.invariant-loop-i
-invariant-loop-i l = (l.i ≤ length (cubes_of l.f)) × Placed l.initial.out l.out l.at (take l.i (map (cube_by l.places) (cubes_of l.f))) × (length l.out ≡ length l.initial.out)
-
-abbrev pub decreases-loop-i : goal.decreases-loop-i
-decreases-loop-i l = length (cubes_of l.f) - l.i
+invariant-loop-i l = record {
+  goes_on : (goal.iterator-loop-i).can_next l.i-iterator;
+  ends : (goal.iterator-loop-i).is_finite l.i-iterator;
+  put : Placed l.fn.out l.out l.at (take (length l.yielded) (map (cube_by l.places) (cubes_of l.f)));
+}

@@ -1,10 +1,7 @@
 -- `image_number::places_of` meets its contract. The loop's invariant: the divisors passed have the numbers from n on. Assumes nothing.
-use Prim.Native.Nat.{◌-◌, ◌≤◌}
+
 use Rattle.image_number.specs.Parts.{Placing}
 use Rattle.image_number.proofs.places_of.Given as goal
 
 abbrev pub invariant-loop-i : goal.invariant-loop-i
-invariant-loop-i l = (l.i ≤ l.k) × Placing l.n l.i l.order l.places
-
-abbrev pub decreases-loop-i : goal.decreases-loop-i
-decreases-loop-i l = l.k - l.i
+invariant-loop-i l = Placing l.n l.i l.order l.places

@@ -11,10 +11,10 @@ use Rattle.image_number.proofs.renumber.Goals.{In-Accepted}
 
 pub returns-in_default : goal.returns-in_default
 returns-in_default c =
-    told-refuses _ _ _ (refused-rules _ _ (sym c.judge-answer.ensures ∙ c.in_default.is)) c.refuse.ensures
+    told-refuses _ _ _ (refused-rules _ _ (sym c.judge.ensures ∙ c.in_default.is)) c.refuse.ensures
 
 lawful : (c : In-Accepted) → rules c.args.n ≡ true
-lawful c = accepted-rules _ (sym c.judge-answer.ensures ∙ c.in-Accepted.is)
+lawful c = accepted-rules _ (sym c.judge.ensures ∙ c.in-Accepted.is)
 
 pub build-requires : goal.build-requires
 build-requires c =
