@@ -1,5 +1,5 @@
 -- A count as 64 bits hold it, and one more. Assumes nothing.
-use Prim.Native.Nat.{ℕ, suc, ◌+◌, ◌-◌, ◌<◌, ◌≤◌, min}
+use Prim.Native.Nat.{ℕ, suc, ◌+◌, min}
 use mathlib.Core.Path.{◌≡◌, ◌∙◌, ap}
 use mathlib.Core.{Logic.inl, Logic.inr}
 use mathlib.Core.List.{List, [], ◌∷◌}
@@ -18,13 +18,6 @@ capped-least t = elim (decided (ltb t (suc largest))) [
   | inl h ↦ rw h (omega (arith, ltb-true t (suc largest) h))
   | inr h ↦ rw h (omega (arith, ltb-false t (suc largest) h))
 ]
-
-module _ (t n sum : ℕ) (e : sum ≡ capped t) where
-  pub capped-more : n ≤ largest - sum → sum + n ≡ capped (t + n)
-  capped-more h = omega (arith, capped-least t, capped-least (t + n))
-
-  pub capped-full : largest - sum < n → largest ≡ capped (t + n)
-  capped-full h = omega (arith, capped-least t, capped-least (t + n))
 
 -- the sum of the lengths, held at the most
 counts-from : (t : ℕ) (f : List (List ℕ)) → fold (λ a d. min (a + length d) largest) (capped t) f ≡ capped (t + total length f)

@@ -30,9 +30,6 @@ pub record Left (c : List ℕ) (f : List (List ℕ)) (low high : ℕ) : Type 0 w
   pub enough : high - low ≤ turns
   pub going : halve turns c f low high ≡ find_in c f
 
-pub left-start : (c : List ℕ) (f : List (List ℕ)) → Left c f 0 (length f)
-left-start c f = record { turns = length f; enough = omega arith; going = refl }
-
 module _ (c : List ℕ) (f : List (List ℕ)) (low high : ℕ) where
   -- one turn
   turn : (k : ℕ) → low < high → halve (suc k) c f low high

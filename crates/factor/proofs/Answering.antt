@@ -8,13 +8,13 @@ use lib.Seq.{take_all}
 use Rattle.expression.specs.Words.{cubes_of, Placed, fitting}
 use Rattle.expression.proofs.Placing.{placed-as, placed-span, placed-sort, placed-fitting}
 use Rattle.expression.{specs.Expression.sort, proofs.Sorting.sort-length, proofs.Sorting.total-sort}
-use Rattle.factor.specs.{Form.form_by, Text.form_text, Text.text_of, Parts.cubes_from, Parts.written_sum}
+use Rattle.factor.specs.{Form.form_by, Text.form_text, Text.text_of, Parts.written_sum}
 
 -- ---- the cubes copied and sorted
 
 pub sorted_front : {old mid new : List ℕ} {n : ℕ} (f : List ℕ) → n ≡ length (cubes_of f) → n ≤ length (cubes_of old)
     → Placed old mid 0 (fitting old 0 (take (n - 0) (drop 0 (cubes_of f)))) → Placed mid new 0 (sort (take (n - 0) (drop 0 (cubes_of mid))))
-    → cubes_from 0 n new ≡ sort (cubes_of f)
+    → take n (cubes_of new) ≡ sort (cubes_of f)
 sorted_front {old} {mid} {new} {n} f h k c p =
     let z : n ≡ n - 0 = omega arith in
     let whole : take (n - 0) (cubes_of f) ≡ cubes_of f = take_all (n - 0) (cubes_of f) (omega arith) in

@@ -2,23 +2,17 @@
 use Prim.Native.Nat.{ℕ, zero, suc, ◌+◌, ◌-◌, ◌*◌, ◌<◌, ◌≤◌}
 use mathlib.Core.Path.{◌≡◌, refl, ◌∙◌, ap, ap₂, subst}
 use mathlib.Core.Bool.{Bool, true, false, cond}
-use mathlib.Core.{List.List, List.◌∷◌, Logic.inl, Logic.inr}
+use mathlib.Core.{Logic.inl, Logic.inr}
 use native.Mathlib.Omega.{arith}
 use native.Mathlib.Nat.{eq-or-lt_of_le}
 use lib.Dec.{ltb}
 use borrow.Author.Tests.{lt-ltb, le-ltb, ltb-true, ltb-false}
-use Rattle.sets.{specs.Sets.mem, proofs.Truth.decided}
+use Rattle.sets.{proofs.Truth.decided}
 use Rattle.cube.specs.Cube.{width}
 use Rattle.factor.specs.Form.{used_in, most, most_used}
 use Rattle.expression.specs.Expression.{Cubes}
 
 -- ---- one literal at a time
-
-pub uses-yes : (l : ℕ) (c : List ℕ) (f : Cubes) → mem l c ≡ true → used_in l (c ∷ f) ≡ suc (used_in l f)
-uses-yes l c f h = rw h
-
-pub uses-no : (l : ℕ) (c : List ℕ) (f : Cubes) → mem l c ≡ false → used_in l (c ∷ f) ≡ used_in l f
-uses-no l c f h = rw h
 
 most-suc : (k : ℕ) (f : Cubes) (l b : ℕ) → most (suc k) f l b ≡ most k f (suc l) (cond (ltb (used_in b f) (used_in l f)) l b)
 unfolding most

@@ -10,7 +10,7 @@ ghost use Rattle.expression.specs.Words.{cubes_of};
 ghost use Rattle.expression.specs.Answers.{most_handed, refusal};
 ghost use Rattle.factor.specs.Form.{used_in, most_used};
 ghost use Rattle.factor.specs.Text.{sum_text, text_of};
-ghost use Rattle.factor.specs.Parts.{cubes_from, Spared, Parted, Gathered, written_sum, product_of, Wrought};
+ghost use Rattle.factor.specs.Parts.{Spared, Parted, Gathered, written_sum, product_of};
 
 use cube::Literal;
 use expression::Verdict;
@@ -57,17 +57,17 @@ fn most_used(f: &[u64]) -> Literal
     Literal(best)
 }
 
-// ---- a part of the cubes
+// ---- the cubes, parted
 
-// The cubes with l come first, without it; the rest go to the spare words. Where the first end.
-fn gather(w: &mut [u64], spare: &mut [u64], a: usize, e: usize, l: Literal) -> usize
-    requires { (l.0 < 2 * width) × Spared w.old spare.old a e }
-    ensures { Gathered w.old w.new spare.new a result e l.0 }
+// The cubes with l come first, without it; the rest go to the spare words. How many the first are.
+fn gather(w: &mut [u64], spare: &mut [u64], l: Literal) -> usize
+    requires { (l.0 < 2 * width) × Spared w.old spare.old }
+    ensures { Gathered w.old w.new spare.new result l.0 }
 {
     let one = cube::with(cube::empty(), l);
-    let mut m = a;
+    let mut m = 0;
     // By place: the cubes are written as well as read.
-    for i in a..e {
+    for i in 0..expression::number(w) {
         let c = expression::cube_at(w, i);
         if cube::has(c, l) {
             expression::put_cube(w, m, cube_sets::without(c, one));
@@ -79,56 +79,49 @@ fn gather(w: &mut [u64], spare: &mut [u64], a: usize, e: usize, l: Literal) -> u
     m
 }
 
-// The cubes from a up to e parted by l: those with it, without it, then the rest. Where the first end.
-fn split(w: &mut [u64], spare: &mut [u64], a: usize, e: usize, l: Literal) -> usize
-    requires { (l.0 < 2 * width) × Spared w.old spare.old a e }
-    ensures { Parted w.old w.new a result e l.0 }
+// The cubes parted by l: those with it, without it, then the rest. How many the first are.
+fn split(w: &mut [u64], spare: &mut [u64], l: Literal) -> usize
+    requires { (l.0 < 2 * width) × Spared w.old spare.old }
+    ensures { Parted w.old w.new result l.0 }
 {
-    let m = gather(w, spare, a, e, l);
-    expression::copy(spare, 0, e - m, w, m);
+    let m = gather(w, spare, l);
+    let others = expression::number(w) - m;
+    expression::copy(spare, 0, others, w, m);
     m
 }
 
 // ---- the writers
 
-// The text of the cubes from a up to e; what stands there afterwards is of no use.
+// The text of the cubes; what stands there afterwards is of no use.
 #[cycle(product_sum)]
-fn sum(w: &mut [u64], spare: &mut [u64], a: usize, e: usize, o: &mut [u8], at: usize) -> usize
-    requires { Spared w.old spare.old a e }
-    ensures { Wrought w.old w.new o.old o.new a e at result (written_sum (cubes_from a e w.old)) }
+fn sum(w: &mut [u64], spare: &mut [u64], o: &mut [u8], at: usize) -> usize
+    requires { Spared w.old spare.old }
+    ensures { Laid o.old o.new at result (written_sum (cubes_of w.old)) }
 {
-    let f = expression::part(w, a, e);
-    let l = most_used(f);
-    if uses(f, l) < 2 {
-        return put_cubes(o, at, f);
+    let l = most_used(w);
+    if uses(w, l) < 2 {
+        return put_cubes(o, at, w);
     }
-    let m = split(w, spare, a, e, l);
-    let p = product(l, w, spare, a, m, o, at);
-    if m == e {
+    let m = split(w, spare, l);
+    let (quotient, rest) = w.split_at_mut(expression::WORDS * m);
+    let p = product(l, quotient, spare, o, at);
+    if expression::number(rest) == 0 {
         return p;
     }
     let q = letters::put(o, p, b'+');
-    sum(w, spare, m, e, o, q)
+    sum(rest, spare, o, q)
 }
 
-// The text of l times the cubes from a up to e.
+// The text of l times the cubes.
 #[cycle(product_sum)]
-fn product(
-    l: Literal,
-    w: &mut [u64],
-    spare: &mut [u64],
-    a: usize,
-    e: usize,
-    o: &mut [u8],
-    at: usize,
-) -> usize
-    requires { Spared w.old spare.old a e }
-    ensures { Wrought w.old w.new o.old o.new a e at result (product_of l.0 (cubes_from a e w.old)) }
+fn product(l: Literal, w: &mut [u64], spare: &mut [u64], o: &mut [u8], at: usize) -> usize
+    requires { Spared w.old spare.old }
+    ensures { Laid o.old o.new at result (product_of l.0 (cubes_of w.old)) }
 {
     let p = letters_products::put_literal(o, at, l);
     let q = letters::put(o, p, b'*');
     let r = letters::put(o, q, b'(');
-    let s = sum(w, spare, a, e, o, r);
+    let s = sum(w, spare, o, r);
     letters::put(o, s, b')')
 }
 
@@ -144,7 +137,7 @@ fn text(f: &[u64], o: &mut [u8]) -> usize
     let n = expression::number(f);
     expression::copy(f, 0, n, &mut w, 0);
     expression_sort::sort_part(&mut w, 0, n);
-    sum(&mut w, &mut spare, 0, n, o, 0)
+    sum(&mut w[..expression::WORDS * n], &mut spare, o, 0)
 }
 
 // The factored text of f into the room o, and its length: 6, 7, then 9.

@@ -1,7 +1,5 @@
 -- Literals and cubes as bytes.
-use Rattle.std.specs.Prelude.{ℕ, ◌*◌, ◌/◌, ◌%◌, cond, List, [], ◌∷◌, ◌++◌, eqb}
-use Rattle.std.proofs.Math.Option.{Option, none, some}
-use Rattle.cube.specs.Cube.{width}
+use Rattle.std.specs.Prelude.{ℕ, ◌/◌, ◌%◌, cond, List, [], ◌∷◌, ◌++◌, eqb}
 use Rattle.letters.specs.Letters.{name_text}
 
 -- `x3` and `x3'`
@@ -13,8 +11,3 @@ unfoldable pub cube_text : List ℕ → List ℕ
 cube_text [] = 49 ∷ []
 cube_text (l ∷ []) = literal_text l
 cube_text (l ∷ m ∷ c) = literal_text l ++ (42 ∷ cube_text (m ∷ c))
-
--- the number of a literal found; past the last literal where there is none
-abbrev pub number_of : Option ℕ → ℕ
-number_of none = 2 * width
-number_of (some l) = l

@@ -1,5 +1,4 @@
 -- The answers of `division::list`.
-use mathlib.Core.Path.{◌∙◌}
 use native.Mathlib.Omega.{arith}
 use Rattle.std.proofs.lemmas.List.{map-append}
 use Rattle.cube.specs.Cube.{lits}
@@ -19,5 +18,4 @@ loop-c-preserved g c =
       rw (map-append lits c.loop-c.yielded _) (appends-put h.0 (omega (arith, h.2, p.2)) c.put_cube.ensures),
       p.1,
       omega (arith, h.2, p.2),
-      c.put_cube.auto.s ∙ h.3,
     )

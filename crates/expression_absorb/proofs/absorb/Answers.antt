@@ -6,22 +6,19 @@ use Rattle.expression_absorb.proofs.Compacting.{stands-first, stands-number, sta
 use Rattle.expression_absorb.proofs.absorb.Goals as goal
 
 pub next-init : goal.next-init
-next-init c = (stands-first _ (cubes-asc _), refl, refl)
+next-init c = (stands-first _ (cubes-asc _), refl)
 
 pub next-preserved-then-absorbs : goal.next-preserved-then-absorbs
 next-preserved-then-absorbs c =
     let h = c.next.invariant in
     let drops = sym c.absorbs.ensures ∙ c.if-absorbs.true in
-    (turn-dropped h.0 (omega arith) _ c.cube_at-c.ensures c.loop-j.j _ (omega arith) c.cube_at.ensures drops, h.1, h.2)
+    (turn-dropped h.0 (omega arith) _ c.cube_at-c.ensures c.loop-j.j _ (omega arith) c.cube_at.ensures drops, h.1)
 
 pub next-preserved : goal.next-preserved
 next-preserved c =
     let h = c.next.invariant in
-    let p = c.put_cube.ensures in (
-      rw p.cubes (turn-kept h.0 (omega arith) _ c.cube_at-c.ensures (λ j l. c.loop-j.invariant j (omega arith))),
-      p.spare ∙ h.1,
-      c.put_cube.auto.s ∙ h.2,
-    )
+    let p = c.put_cube.ensures in
+    (rw p.cubes (turn-kept h.0 (omega arith) _ c.cube_at-c.ensures (λ j l. c.loop-j.invariant j (omega arith))), p.spare ∙ h.1)
 
 pub returns-clause-number : goal.returns-clause-number
 returns-clause-number c = stands-number c.next.invariant.0 (omega arith)

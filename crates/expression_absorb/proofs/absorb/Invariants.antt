@@ -5,7 +5,7 @@ use mathlib.Core.Bool.{false, not, ◌&&◌, ◌||◌}
 use mathlib.Core.List.{[]}
 use Prim.Native.Nat.{ℕ, ◌<◌}
 use lib.Dec.{ltb}
-use lib.ListN.{length, get_or}
+use lib.ListN.{get_or}
 use Rattle.sets.specs.Sets.{sub, same}
 use Rattle.cube.specs.Cube.{lits}
 use Rattle.expression.{specs.Words.cubes_of, specs.Words.spare_of}
@@ -18,4 +18,4 @@ invariant-loop-j l =
 
 abbrev pub invariant-next : goal.invariant-next
 invariant-next l =
-    Stands (cubes_of l.initial.s) (cubes_of l.s) l.i l.kept × (spare_of l.s ≡ spare_of l.initial.s) × (length l.s ≡ length l.initial.s)
+    Stands (cubes_of l.initial.s) (cubes_of l.s) l.i l.kept × (spare_of l.s ≡ spare_of l.initial.s)

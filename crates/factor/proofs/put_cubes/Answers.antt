@@ -19,15 +19,12 @@ pub loop-c-init : goal.loop-c-init
 loop-c-init c =
     let first : cubes_of c.args.f.now ≡ lits c.in-Some.first ∷ cubes_of c.into_iter-c-iterator.result.words.now =
     rw (← c.each-cubes.ensures, c.into_iter-c-iterator.ensures.into_iter_gives) c.in-Some.ensures.steps in
-    (due-next (due_all _ _ (omega arith) (omega arith) (ap sum_text first ∙ sum_first _ _)) c.put_product-p.ensures, c.put_product-p.auto.o)
+    due-next (due_all _ _ (omega arith) (omega arith) (ap sum_text first ∙ sum_first _ _)) c.put_product-p.ensures
 
 pub loop-c-preserved : goal.loop-c-preserved
 loop-c-preserved c =
-    let h = c.loop-c.invariant in
-    let s = due-as h.0 (ap plussed c.in-Some-c.ensures.steps ∙ marked-cons cube_text 43 _ _) in (
-      due-next (due-next s c.put-p.ensures) c.put_product-p-in-loop-c.ensures,
-      c.put_product-p-in-loop-c.auto.o ∙ c.put-p.auto.o ∙ h.1,
-    )
+    let s = due-as c.loop-c.invariant (ap plussed c.in-Some-c.ensures.steps ∙ marked-cons cube_text 43 _ _) in
+    due-next (due-next s c.put-p.ensures) c.put_product-p-in-loop-c.ensures
 
 pub returns : goal.returns
-returns c = due-done (due-as c.loop-c.invariant.0 (ap plussed c.in-None.ensures.steps.0 ∙ marked-nil cube_text 43))
+returns c = due-done (due-as c.loop-c.invariant (ap plussed c.in-None.ensures.steps.0 ∙ marked-nil cube_text 43))

@@ -1,15 +1,16 @@
 -- `factor::text` meets its contract: the cubes are copied, put in cube order, and written as a sum. Assumes nothing.
 use mathlib.Core.Path.{◌≡◌, refl, sym, ◌∙◌, ap}
 use mathlib.Core.List.{List}
-use Prim.Native.Nat.{ℕ, ◌*◌, ◌≤◌}
+use Prim.Native.Nat.{ℕ, ◌*◌}
 use native.Mathlib.Omega.{arith}
-use lib.ListN.{length, replicate}
-use Rattle.expression.{specs.Words.cube_words, specs.Words.cubes_of, specs.Answers.most_handed, proofs.Words.same-room, proofs.Words.room-cubes}
-use Rattle.factor.specs.{Text.text_of, Parts.cubes_from, Parts.written_sum}
-use Rattle.letters.proofs.Laying.{Due, due_all, due-last}
+use lib.ListN.{length, take, replicate, length-take}
+use Rattle.expression.{specs.Words.cube_words, specs.Words.cubes_of, specs.Answers.most_handed, proofs.Words.room-cubes, proofs.Words.cubes-take}
+use Rattle.expression.specs.Expression.{sort}
+use Rattle.factor.specs.Parts.{written_sum}
+use Rattle.letters.proofs.Laying.{due_all, due-last}
 use Rattle.factor.proofs.{Answering.sorted_front, Answering.text-sum}
 use Rattle.factor.proofs.text.Goals as goal
-use Rattle.factor.proofs.text.Goals.{After-number-n, After-sort_part}
+use Rattle.factor.proofs.text.Goals.{After-sort_part}
 
 -- the words that there are places for
 abbrev places : List ℕ
@@ -18,31 +19,17 @@ places = replicate (cube_words * most_handed) 0
 room : length (cubes_of places) ≡ most_handed
 room = room-cubes places most_handed refl
 
--- there are places for the cubes
-few : (c : After-number-n) → c.number-n.result ≤ length (cubes_of places)
-few c = omega (arith, room, c.number-n.ensures, c.requires)
-
--- the sorted cubes are due
-whole : (c : After-sort_part) → let s = c.args in
-    Due s.o.now 0 (text_of s.f.now) s.o.now 0 (written_sum (cubes_from 0 c.number-n.result c.sort_part.new.s))
-whole c =
-    let front = sorted_front c.args.f.now c.number-n.ensures ((let it : c.number-n.result ≤ length (cubes_of places) = omega (arith, room, c.number-n.ensures, c.requires) in it)) c.copy.ensures c.sort_part.ensures in
-    due_all _ _ (omega arith) (omega arith) (sym (ap written_sum front ∙ text-sum c.args.f.now))
+-- what is handed to `sum` are the sorted cubes
+sorted : (c : After-sort_part) → cubes_of (take (2 * c.number-n.result) c.sort_part.new.s) ≡ sort (cubes_of c.args.f.now)
+sorted c =
+    cubes-take c.sort_part.new.s c.number-n.result
+    ∙ sorted_front c.args.f.now c.number-n.ensures (omega (arith, room, c.number-n.ensures, c.requires)) c.copy.ensures c.sort_part.ensures
 
 pub sum-requires : goal.sum-requires
 sum-requires c =
-    record {
-      held = record {
-        forth = omega arith;
-        inside = omega (
-          arith,
-          few (goal.at.sum-requires c).After-number-n,
-          same-room c.copy.new.to places c.copy.auto.to,
-          same-room c.sort_part.new.s c.copy.new.to c.sort_part.auto.s,
-        );
-      };
-      places = few (goal.at.sum-requires c).After-number-n;
-    }
+    omega (arith, ap length (cubes-take c.sort_part.new.s c.number-n.result), length-take c.number-n.result (cubes_of c.sort_part.new.s), room, c.number-n.ensures, c.requires)
 
 pub returns : goal.returns
-returns c = due-last (whole (goal.at.returns c).After-sort_part) c.sum.ensures.laid
+returns c =
+    let front = sorted (goal.at.returns c).After-sort_part in
+    due-last (due_all _ _ (omega arith) (omega arith) (sym (ap written_sum front ∙ text-sum c.args.f.now))) c.sum.ensures

@@ -17,12 +17,7 @@ pub loop-l-init : goal.loop-l-init
 loop-l-init c =
     let first : lits c.args.c ≡ c.in-Some.first.0 ∷ lits c.into_iter-l-iterator.result.rest =
     rw (← c.each-literals.ensures, c.into_iter-l-iterator.ensures.into_iter_gives) c.in-Some.ensures.steps in
-    (due-next (due_all _ _ (omega arith) (omega arith) (ap cube_text first ∙ cube-starred _ _)) c.put_literal-p.ensures, c.put_literal-p.auto.o)
+    due-next (due_all _ _ (omega arith) (omega arith) (ap cube_text first ∙ cube-starred _ _)) c.put_literal-p.ensures
 
 pub loop-l-preserved : goal.loop-l-preserved
-loop-l-preserved c =
-    let h = c.loop-l.invariant in
-    let s = due-as h.0 (ap starred c.in-Some-l.ensures.steps) in (
-      due-next (due-next s c.put-p.ensures) c.put_literal-p-in-loop-l.ensures,
-      c.put_literal-p-in-loop-l.auto.o ∙ c.put-p.auto.o ∙ h.1,
-    )
+loop-l-preserved c = due-next (due-next (due-as c.loop-l.invariant (ap starred c.in-Some-l.ensures.steps)) c.put-p.ensures) c.put_literal-p-in-loop-l.ensures
