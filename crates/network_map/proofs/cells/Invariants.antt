@@ -12,7 +12,4 @@ abbrev pub Rows : Network → List Bool → ℕ → Type 0
 Rows n l j = (k v : ℕ) → k < j → v < most_variables → get_or l (k * most_variables + v) false ≡ mem v (row_of n k)
 
 abbrev pub invariant-loop-j : goal.invariant-loop-j
-invariant-loop-j l = (l.j ≤ most_outputs) × (length l.all ≡ most_outputs * most_variables) × Rows l.n l.all l.j
-
-abbrev pub decreases-loop-j : goal.decreases-loop-j
-decreases-loop-j l = most_outputs - l.j
+invariant-loop-j l = (length l.all ≡ most_outputs * most_variables) × Rows l.n l.all l.j
