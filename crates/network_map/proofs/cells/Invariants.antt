@@ -1,5 +1,5 @@
 -- `network_map::cells` meets its contract. The loop's invariant: the rows passed are as they are to be. Assumes nothing.
-use Prim.Native.Nat.{ℕ, ◌+◌, ◌-◌, ◌*◌, ◌<◌, ◌≤◌}
+use Prim.Native.Nat.{ℕ, ◌+◌, ◌*◌, ◌<◌}
 use mathlib.Core.{Path.◌≡◌, Bool.Bool, Bool.false, List.List}
 use lib.ListN.{length, get_or}
 use Rattle.sets.specs.Sets.{mem}

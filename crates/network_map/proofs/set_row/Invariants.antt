@@ -1,5 +1,5 @@
 -- `network_map::set_row` meets its contract. The loop's invariant: the cells passed are as the set says, the rows before as they were. Assumes nothing.
-use Prim.Native.Nat.{ℕ, ◌+◌, ◌-◌, ◌*◌, ◌<◌, ◌≤◌}
+use Prim.Native.Nat.{ℕ, ◌+◌, ◌*◌, ◌<◌}
 use mathlib.Core.Path.{◌≡◌}
 use mathlib.Core.{Bool.false}
 use lib.ListN.{length, get_or}
