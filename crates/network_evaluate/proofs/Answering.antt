@@ -1,37 +1,28 @@
--- The answer as the code has it, of a network whose words and counts are lent. Assumes nothing.
+-- The answer as the code has it. Assumes nothing.
 use Prim.Native.Nat.{ℕ, ◌-◌}
-use mathlib.Core.Path.{◌≡◌, sym, ap, ap₂, ◌∙◌}
+use mathlib.Core.Path.{◌≡◌, ap, ap₂, ◌∙◌}
 use mathlib.Core.Bool.{true, false}
 use mathlib.Core.List.{List, [], map}
 use lib.ListN.{length, take, replicate}
 use lib.Seq.{take-append_seam}
 use Rattle.sets.specs.Masks.{bit, packed}
 use Rattle.network_known.specs.Known.{Truths, some_within}
-use Rattle.network.specs.{Net.Net, Listing.listing, Evaluation.evaluate, Answers.evaluated, declared.Network.Network}
+use Rattle.network.specs.{Listing.listing, Evaluation.evaluate, Answers.evaluated, declared.Network.Network}
 use Rattle.network.specs.Held.{net_of, rules, most_variables}
-use Rattle.network.specs.Parts.{nodes_of, held_in, net_at}
 use Rattle.network.specs.declared.Number.TheVariants.{Is, No}
 use Rattle.network.proofs.Holding.{rules-sound}
-use Rattle.network.proofs.Parts.{outputs-are}
 use Rattle.network_listing.specs.Parts.{PaddedList}
 use Rattle.network_evaluate.specs.Parts.{settled_in}
 use Rattle.network_evaluate.proofs.Settling.{outputs-value}
 
-module _ (n m k : ℕ) (words counts : List ℕ) (count : ℕ) (order : List ℕ) where
-  abbrev net : Net
-  net = net_at n m k counts words
+-- the numbers in use of a list handed out
+pub taken : (l : List ℕ) {count : ℕ} {order : List ℕ} → PaddedList l count order → take count order ≡ l
+taken l o = ap₂ take o.number o.places ∙ take-append_seam l (replicate (most_variables - length l) 0)
 
-  module _ (o : PaddedList (listing net) count order) where
-    taken : take count order ≡ listing net
-    taken = ap₂ take o.number o.places ∙ take-append_seam (listing net) (replicate (most_variables - length (listing net)) 0)
-
-    pub answer-is : rules (held_in n m k counts words) ≡ true → (s : ℕ) (g t : List ℕ) → Truths n [] (bit s) g
-        → t ≡ settled_in net (take count order) g
-        → packed (map (some_within t) (nodes_of m counts words)) ≡ evaluate net s
-    answer-is h s g t w q =
-        ap₂ (λ (u : List ℕ) (l : List (List (List ℕ))). packed (map (some_within u) l)) (q ∙ ap (λ o. settled_in net o g) taken)
-        (sym (outputs-are counts words m k))
-        ∙ outputs-value net (rules-sound (held_in n m k counts words) h) s g w
+pub answer-is : (n : Network) → rules n ≡ true → (s : ℕ) {g t order : List ℕ} → Truths n.inputs [] (bit s) g → order ≡ listing (net_of n)
+    → t ≡ settled_in (net_of n) order g → packed (map (some_within t) (net_of n).outputs) ≡ evaluate (net_of n) s
+answer-is n h s {g} w e q =
+    ap (λ (u : List ℕ). packed (map (some_within u) (net_of n).outputs)) (q ∙ ap (λ o. settled_in (net_of n) o g) e) ∙ outputs-value (net_of n) (rules-sound n h) s g w
 
 -- ---- what is answered
 

@@ -1,18 +1,12 @@
 -- Words for the contracts of the private functions: what a set becomes.
-use Rattle.std.specs.Prelude.{ℕ, ◌+◌, get_or}
+use Rattle.std.specs.Prelude.{ℕ}
 use mathlib.Core.{Bool.cond, List.List, List.[]}
 use Rattle.sets.specs.Sets.{mem}
-use Rattle.network.specs.Parts.{nodes_of, net_at}
 use Rattle.network_reads.specs.Reading.{reads_of, Marks}
-use Rattle.network_hangs.specs.Hangs.{hangs_on}
 
 -- what an expression reads, where the variable v is in the list
 abbrev pub read_if : ℕ → List (List ℕ) → List ℕ → List ℕ
 read_if v f l = cond (mem v l) (reads_of f) []
-
--- the divisors that node i of lent words and counts hangs on
-abbrev pub hangs_in : ℕ → ℕ → ℕ → List ℕ → List ℕ → ℕ → List ℕ
-hangs_in n m k counts words i = hangs_on (net_at n m k counts words) (get_or (nodes_of (m + k) counts words) i [])
 
 -- of any list that the literals mark, r marks what f makes
 pub record Makes (set r : List ℕ) (f : List ℕ → List ℕ) : Type 0 where

@@ -7,11 +7,11 @@ ghost use Rattle.sets.specs.Sets.{union};
 ghost use Rattle.cube.specs.Cube.{lits};
 ghost use Rattle.expression.specs.Words.{cubes_of};
 ghost use Rattle.network_nodes.specs.Nodes.{cut};
-ghost use Rattle.network.specs.Held.{most_outputs, most_variables, place_at};
-ghost use Rattle.network.specs.Parts.{net_at, InLimits};
+ghost use Rattle.network.specs.Held.{net_of, most_outputs, most_variables, place_at};
+ghost use Rattle.network.specs.Parts.{nodes_of, Limited};
 ghost use Rattle.network_reads.specs.Reading.{Marks};
-ghost use Rattle.network_hangs.specs.Hangs.{read_by, reached, hangs_at};
-ghost use Rattle.network_hangs.specs.Parts.{read_if, hangs_in, Makes};
+ghost use Rattle.network_hangs.specs.Hangs.{read_by, reached, hangs_on, hangs_at};
+ghost use Rattle.network_hangs.specs.Parts.{read_if, Makes};
 
 use cube::{Cube, Variable};
 use expression::Verdict;
@@ -26,41 +26,37 @@ fn alone(v: usize) -> Cube
 }
 
 // What the divisor of number v reads, where the set has it.
-fn asked(words: &[u64], counts: &[usize], n: usize, m: usize, v: usize, set: Cube) -> Cube
-    requires { (m ≤ most_outputs) × (v < most_variables) }
-    ensures { Makes (lits set) (lits result) (read_if v (get_or (cut counts.now (cubes_of words.now)) (place_at n m v) [])) }
+fn asked(n: &Network, v: usize, set: Cube) -> Cube
+    requires { (n.now.outputs ≤ most_outputs) × (v < most_variables) }
+    ensures { Makes (lits set) (lits result) (read_if v (get_or (cut n.now.counts (cubes_of n.now.words)) (place_at n.now.inputs n.now.outputs v) [])) }
 {
-    if cube::has(set, cube::plain(Variable(v as u32))) {
-        return network_reads::reads(network_nodes::node(words, counts, network::place_of(n, m, v)));
+    if !network_known::has_plain(set, v) {
+        return cube::empty();
     }
-    cube::empty()
+    let i = network::place_of(n.inputs, n.outputs, v);
+    network_reads::reads(network_nodes::node(&n.words, &n.counts, i))
 }
 
 // The variables of the set, and those that the divisors among them read.
-fn once(words: &[u64], counts: &[usize], n: usize, m: usize, k: usize, set: Cube) -> Cube
-    requires { InLimits n m k words.now counts.now }
-    ensures { Makes (lits set) (lits result) (λ l. union l (read_by (net_at n m k counts.now words.now) l)) }
+fn once(n: &Network, set: Cube) -> Cube
+    requires { Limited n.now }
+    ensures { Makes (lits set) (lits result) (λ l. union l (read_by (net_of n.now) l)) }
 {
     let mut all = set;
-    let mut i = 0;
-    while i < k {
-        let v = network::number_of(n, i);
-        all = cube_sets::union(all, asked(words, counts, n, m, v, set));
-        i += 1;
+    for i in 0..n.divisors {
+        all = cube_sets::union(all, asked(n, network::number_of(n.inputs, i), set));
     }
     all
 }
 
-// The same k times over: enough, since a chain of divisors that read one another has at most k.
-fn often(words: &[u64], counts: &[usize], n: usize, m: usize, k: usize, set: Cube) -> Cube
-    requires { InLimits n m k words.now counts.now }
-    ensures { Makes (lits set) (lits result) (reached k (net_at n m k counts.now words.now)) }
+// The same as many times over as there are divisors: enough, since a chain of divisors that read one another has at most so many.
+fn often(n: &Network, set: Cube) -> Cube
+    requires { Limited n.now }
+    ensures { Makes (lits set) (lits result) (reached n.now.divisors (net_of n.now)) }
 {
     let mut all = set;
-    let mut turns = 0;
-    while turns < k {
-        all = once(words, counts, n, m, k, all);
-        turns += 1;
+    for _ in 0..n.divisors {
+        all = once(n, all);
     }
     all
 }
@@ -71,35 +67,30 @@ fn above(n: usize, set: Cube) -> Cube
     ensures { Makes (lits set) (lits result) (keep (λ v. leb n v)) }
 {
     let mut left = set;
-    let mut v = 0;
-    while v < n {
+    for v in 0..n {
         left = cube_sets::without(left, alone(v));
-        v += 1;
     }
     left
 }
 
 // The divisors that node i hangs on.
-fn found(words: &[u64], counts: &[usize], n: usize, m: usize, k: usize, i: usize) -> Cube
-    requires { InLimits n m k words.now counts.now × (i < m + k) }
-    ensures { Marks (lits result) (hangs_in n m k counts.now words.now i) }
+fn found(n: &Network, i: usize) -> Cube
+    requires { Limited n.now × (i < n.now.outputs + n.now.divisors) }
+    ensures { Marks (lits result) (hangs_on (net_of n.now) (get_or (nodes_of (n.now.outputs + n.now.divisors) n.now.counts n.now.words) i [])) }
 {
-    let direct = network_reads::reads(network_nodes::node(words, counts, i));
-    above(n, often(words, counts, n, m, k, direct))
+    let direct = network_reads::reads(network_nodes::node(&n.words, &n.counts, i));
+    above(n.inputs, often(n, direct))
 }
 
 // The divisors that node i hangs on, directly and through others.
 pub fn hangs(n: Network, i: usize) -> Cube
     ensures { Marks (lits result) (hangs_at n i) }
 {
-    let j = network_rules::judge(n);
-    let Verdict::Accepted = j else {
+    let Verdict::Accepted = network_rules::judge(n) else {
         return cube::empty();
     };
     if i >= n.outputs + n.divisors {
         return cube::empty();
     }
-    let words = n.words;
-    let counts = n.counts;
-    found(&words, &counts, n.inputs, n.outputs, n.divisors, i)
+    found(&n, i)
 }

@@ -1,59 +1,56 @@
 -- The answers of `network_evaluate::collect`.
-use Prim.Native.Nat.{ℕ, ◌<◌, ◌-◌, ◌^◌}
-use mathlib.Core.Path.{◌≡◌, sym, ◌∙◌, ap, subst}
-use mathlib.Core.{Bool.true, Bool.false, List.List, List.[]}
+use Prim.Native.Nat.{ℕ, ◌<◌, ◌≤◌, ◌-◌, ◌^◌}
+use mathlib.Core.Path.{◌≡◌, refl, sym, ◌∙◌, ap, subst}
+use mathlib.Core.Bool.{Bool, true, false, cond}
+use mathlib.Core.List.{List, [], map}
+use mir.Val.{bool_byte}
 use native.Mathlib.Omega.{arith}
-use lib.ListN.{length, get_or}
+use lib.ListN.{length}
+use Rattle.sets.specs.Masks.{packed}
 use Rattle.cube.specs.Cube.{lits}
-use Rattle.network.{specs.Parts.nodes_of, proofs.Parts.nodes-length, proofs.Parts.nodes-at, specs.Held.most_outputs}
+use Rattle.network.{specs.Parts.nodes_of, proofs.Parts.nodes-length, proofs.Parts.nodes-at, proofs.Parts.outputs-are, specs.Held.most_outputs}
 use Rattle.network_known.specs.Known.{some_within}
 use Rattle.network_evaluate.proofs.Settling.{Collected, collected-none, collected-small, collected-more, collected-all}
 use Rattle.network_evaluate.proofs.collect.Goals as goal
-use Rattle.network_evaluate.proofs.collect.Goals.{After-within, At-loop-j, Start}
+use Rattle.network_evaluate.proofs.collect.Goals.{At-loop-i, Start}
 
-abbrev held : At-loop-j → List (List (List ℕ))
-held l = nodes_of l.args.m l.args.counts.now l.args.words.now
+byte-is : (b : Bool) → bool_byte b ≡ cond b 1 0
+byte-is true = refl
+byte-is false = refl
 
-many : (s : Start) → length (nodes_of s.args.m s.args.counts.now s.args.words.now) ≡ s.args.m
-many s = nodes-length s.args.counts.now s.args.words.now s.args.m s.requires.0
+byte-few : (b : Bool) → bool_byte b ≤ 1
+byte-few true = omega arith
+byte-few false = omega arith
 
-small : (l : At-loop-j) → l.loop-j.r < 2 ^ most_outputs
-small l = collected-small _ _ l.loop-j.j l.loop-j.r l.loop-j.invariant.1 (omega (arith, (let it : length (nodes_of l.args.m l.args.counts.now l.args.words.now) ≡ l.args.m = nodes-length l.args.counts.now l.args.words.now l.args.m l.requires.0 in it), l.requires.1))
+abbrev held : Start → List (List (List ℕ))
+held s = let n = s.args.n.now in nodes_of n.outputs n.counts n.words
 
--- what the test says of output i
-tested : (c : After-within) → some_within (lits c.args.t)
-    (get_or ((nodes_of c.args.m c.args.counts.now c.args.words.now)) (c.loop-j.j - 1) []) ≡ c.within.result
-tested c =
-    ap (some_within (lits c.args.t)) (nodes-at c.args.counts.now c.args.words.now c.args.m (c.loop-j.j - 1)
-    (omega arith) ∙ sym c.node.ensures.0)
-    ∙ sym c.within.ensures
+many : (s : Start) → length (held s) ≡ s.args.n.now.outputs
+many s = let n = s.args.n.now in nodes-length n.counts n.words n.outputs (omega (arith, s.requires.counted))
 
-pub loop-j-init : goal.loop-j-init
-loop-j-init c = (omega arith, collected-none _ _ _ (omega (arith, many (goal.at.loop-j-init c).Start)))
+small : (l : At-loop-i) → l.loop-i.r < 2 ^ most_outputs
+small l = collected-small _ _ l.loop-i.i l.loop-i.r l.loop-i.invariant (omega (arith, many (goal.at.At-loop-i l).Start, l.requires.narrow))
+
+pub loop-i-init : goal.loop-i-init
+loop-i-init c = collected-none _ _ _ (omega (arith, many (goal.at.loop-i-init c).Start))
 
 pub overflow_mul-r : goal.overflow_mul-r
-overflow_mul-r c = omega (arith, small (goal.at.overflow_mul-r c).At-loop-j)
+overflow_mul-r c = omega (arith, small (goal.at.overflow_mul-r c).At-loop-i)
 
 pub overflow_add-r : goal.overflow_add-r
-overflow_add-r c = omega (arith, small (goal.at.overflow_add-r c).At-loop-j)
+overflow_add-r c = omega (arith, small (goal.at.overflow_add-r c).At-loop-i, c.from.ensures, byte-few c.within.result)
 
-pub overflow_mul-r-else-within : goal.overflow_mul-r-else-within
-overflow_mul-r-else-within c = omega (arith, small (goal.at.overflow_mul-r-else-within c).At-loop-j)
-
-pub loop-j-preserved-then-within : goal.loop-j-preserved-then-within
-loop-j-preserved-then-within c = (
-  omega arith,
-  collected-more _ (held (goal.at.loop-j-preserved-then-within c).At-loop-j) [] c.loop-j.j (c.loop-j.j - 1) c.loop-j.r _ true (omega arith) (omega (arith, many (goal.at.loop-j-preserved-then-within c).Start))
-      c.loop-j.invariant.1 (tested (goal.at.loop-j-preserved-then-within c).After-within ∙ c.if-within.true) (omega arith),
-)
-
-pub loop-j-preserved : goal.loop-j-preserved
-loop-j-preserved c = (
-  omega arith,
-  collected-more _ (held (goal.at.loop-j-preserved c).At-loop-j) [] c.loop-j.j (c.loop-j.j - 1) c.loop-j.r _ false (omega arith) (omega (arith, many (goal.at.loop-j-preserved c).Start))
-      c.loop-j.invariant.1 (tested (goal.at.loop-j-preserved c).After-within ∙ c.if-within.false) (omega arith),
-)
+pub loop-i-preserved : goal.loop-i-preserved
+loop-i-preserved c =
+    let n = c.args.n.now in
+    let s = (goal.at.loop-i-preserved c).Start in
+    collected-more _ (held s) [] c.loop-i.i (c.loop-i.i - 1) c.loop-i.r _ c.within.result (omega arith) (omega (arith, many s)) c.loop-i.invariant
+    (ap (some_within (lits c.args.t)) (nodes-at n.counts n.words n.outputs (c.loop-i.i - 1) (omega arith) ∙ sym c.node-f.ensures.0) ∙ sym c.within.ensures)
+    (omega (arith, c.from.ensures, byte-is c.within.result))
 
 pub returns : goal.returns
-returns c = collected-all _ (held (goal.at.returns c).At-loop-j) c.loop-j.r
-    (subst (λ x. Collected (some_within (lits c.args.t)) (held (goal.at.returns c).At-loop-j) x c.loop-j.r) (omega arith) c.loop-j.invariant.1)
+returns c =
+    let n = c.args.n.now in
+    let s = (goal.at.returns c).Start in
+    collected-all _ (held s) c.loop-i.r (subst (λ x. Collected (some_within (lits c.args.t)) (held s) x c.loop-i.r) (omega arith) c.loop-i.invariant)
+    ∙ ap (λ fs. packed (map (some_within (lits c.args.t)) fs)) (sym (outputs-are n.counts n.words n.outputs n.divisors))

@@ -14,7 +14,7 @@ returns-in_default c =
     evaluated-no c.args.n c.args.setting (refused-rules _ _ (sym c.judge-j.ensures ∙ c.in_default.is))
 
 pub value-requires : goal.value-requires
-value-requires c = kept c
+value-requires c = kept (goal.at.value-requires c).In-Accepted
 
 pub returns : goal.returns
 returns c =

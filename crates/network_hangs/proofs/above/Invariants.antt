@@ -1,5 +1,4 @@
 -- `network_hangs::above` meets its contract. The loop's invariant: what is left is the variables from v on. Assumes nothing.
-use Prim.Native.Nat.{◌-◌, ◌≤◌}
 use lib.Dec.{leb}
 use Rattle.sets.specs.Lists.{keep}
 use Rattle.cube.specs.Cube.{lits}
@@ -7,7 +6,4 @@ use Rattle.network_hangs.specs.Parts.{Makes}
 use Rattle.network_hangs.proofs.above.Given as goal
 
 abbrev pub invariant-loop-v : goal.invariant-loop-v
-invariant-loop-v l = (l.v ≤ l.n) × Makes (lits l.initial.left) (lits l.left) (keep (λ u. leb l.v u))
-
-abbrev pub decreases-loop-v : goal.decreases-loop-v
-decreases-loop-v l = l.n - l.v
+invariant-loop-v l = Makes (lits l.initial.left) (lits l.left) (keep (λ u. leb l.v u))

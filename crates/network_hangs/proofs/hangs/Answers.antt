@@ -10,7 +10,7 @@ use Rattle.network_hangs.proofs.hangs.Goals as goal
 use Rattle.network_hangs.proofs.hangs.Goals.{In-Accepted}
 
 kept : (c : In-Accepted) → rules c.args.n ≡ true
-kept c = accepted-rules _ (sym c.judge-j.ensures ∙ c.in-Accepted.is)
+kept c = accepted-rules _ (sym c.judge.ensures ∙ c.in-Accepted.is)
 
 shape : (c : In-Accepted) → Shaped c.args.n
 shape c = shape_of _ (search steps) (search steps)
@@ -20,7 +20,7 @@ limited c = rules-sized c.args.n (shape c) (kept c)
 
 pub returns-in_default : goal.returns-in_default
 returns-in_default c =
-    hangs-refused c.args.n c.args.i (refused-rules _ _ (sym c.judge-j.ensures ∙ c.in_default.is)) c.empty.ensures
+    hangs-refused c.args.n c.args.i (refused-rules _ _ (sym c.judge.ensures ∙ c.in_default.is)) c.empty.ensures
 
 pub overflow_add-n : goal.overflow_add-n
 overflow_add-n c = omega (arith, (limited (goal.at.overflow_add-n c).In-Accepted).narrow, (limited (goal.at.overflow_add-n c).In-Accepted).variables)

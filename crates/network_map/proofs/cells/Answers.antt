@@ -22,11 +22,11 @@ next n l m j set p r old k v h b = go (compared k j)
     go (beyond i _ _) = absurd (omega arith)
 
 pub loop-j-init : goal.loop-j-init
-loop-j-init c = (search rules, search rules, λ k v h b. absurd (omega arith))
+loop-j-init c = (search rules, λ k v h b. absurd (omega arith))
 
 pub loop-j-preserved : goal.loop-j-preserved
 loop-j-preserved c =
-    (search rules, c.set_row.ensures.size ∙ c.loop-j.invariant.1, next _ _ _ _ _ c.row.ensures c.set_row.ensures c.loop-j.invariant.2)
+    (c.set_row.ensures.size ∙ c.loop-j.invariant.0, next _ _ _ _ _ c.row.ensures c.set_row.ensures c.loop-j.invariant.1)
 
 pub returns : goal.returns
-returns c = record { each = λ j v h b. c.loop-j.invariant.2 j v (omega arith) b }
+returns c = record { each = λ j v h b. c.loop-j.invariant.1 j v (omega arith) b }

@@ -8,6 +8,6 @@ pub returns-then-j-n : goal.returns-then-j-n
 unfolding row_of
 returns-then-j-n c = rw (lt-ltb _ _ c.if-j-n.true) c.hangs.ensures
 
-pub returns : goal.returns
+pub returns-else-j-n : goal.returns-else-j-n
 unfolding row_of
-returns c = rw (le-ltb _ _ c.if-j-n.false) (marks-none c.empty.ensures)
+returns-else-j-n c = rw (le-ltb _ _ c.if-j-n.false) (marks-none c.empty.ensures)

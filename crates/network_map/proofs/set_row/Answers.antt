@@ -24,18 +24,17 @@ next l a v x p h e old u b = go (compared u v)
     go (beyond k _ _) = absurd (omega arith)
 
 pub loop-v-init : goal.loop-v-init
-loop-v-init c = (search rules, c.requires.size, λ u h. absurd (omega arith), λ i h. refl)
+loop-v-init c = (c.requires.size, λ u h. absurd (omega arith), λ i h. refl)
 
 pub loop-v-preserved : goal.loop-v-preserved
 loop-v-preserved c =
     let a = c.args.j * most_variables in (
       search rules,
-      search rules,
-      next c.loop-v.cells a c.loop-v.v c.has.result (λ u. mem (plain_of u) (lits c.args.set)) (omega arith) c.has.ensures
-          c.loop-v.invariant.2,
-      λ i k. get_or-set_other c.loop-v.cells (a + c.loop-v.v) i c.has.result false (λ q. omega arith) ∙ c.loop-v.invariant.3 i k,
+      next c.loop-v.cells a c.loop-v.v c.has_plain.result (λ u. mem (plain_of u) (lits c.args.set)) (omega arith) c.has_plain.ensures
+          c.loop-v.invariant.1,
+      λ i k. get_or-set_other c.loop-v.cells (a + c.loop-v.v) i c.has_plain.result false (λ q. omega arith) ∙ c.loop-v.invariant.2 i k,
     )
 
 pub returns : goal.returns
 returns c =
-    record { size = omega (arith, c.requires.size); row = λ v k. c.loop-v.invariant.2 v (omega arith); before = c.loop-v.invariant.3 }
+    record { size = omega (arith, c.requires.size); row = λ v k. c.loop-v.invariant.1 v (omega arith); before = c.loop-v.invariant.2 }
