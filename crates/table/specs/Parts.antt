@@ -1,12 +1,11 @@
 -- What the private parts of reading and building hold and leave.
-use Rattle.std.specs.Prelude.{ℕ, ◌+◌, ◌-◌, ◌<◌, ◌≤◌, leb, ltb, eqb, List, [], ◌∷◌, map, length, take, drop, replicate}
+use Rattle.std.specs.Prelude.{ℕ, ◌+◌, ◌-◌, ◌<◌, ◌≤◌, ltb, eqb, List, [], ◌∷◌, map, length, take, drop, replicate}
 use Rattle.std.proofs.Math.Option.{Option, none, some}
 use mathlib.Core.{Path.◌≡◌, Bool.Bool, Bool.cond}
 use Rattle.sets.specs.Lists.{keep, total, from}
 use Rattle.sets.specs.Masks.{bit, packed}
 use Rattle.expression.specs.{Words.cubes_of, Expression.sort, Expression.absorbed}
 use Rattle.network.specs.{Net.Net, Held.most_outputs}
-use Rattle.table_lines.specs.Text.{lines_of}
 use Rattle.table_kinds.specs.Kinds.{kind_of}
 use Rattle.table_rows.specs.Lines.{CubeLine, rows_in, cube_of}
 use Rattle.table_columns.specs.Columns.{unless_zero, or_zero, column_of}
@@ -83,10 +82,6 @@ abbrev pub Keeps : State → List ℕ → ℕ → ℕ → State → List ℕ →
 Keeps s cube mask rows r words marks words' marks' =
     (t : table.State) (l : CubeLine) → Stands t s words marks → cube ≡ cube_of l → mask ≡ packed l.marks → rows ≡ rows_in l
     → Stands (table.with_line t l) r words' marks'
-
--- the lines from a byte on; none past the end
-abbrev pub lines_from : List ℕ → ℕ → List (List ℕ)
-lines_from text at = cond (leb at (length text)) (lines_of (drop at text)) []
 
 -- a text that is not too long, and places for its cubes and masks
 pub record Ready (text words marks : List ℕ) : Type 0 where

@@ -94,8 +94,10 @@ fn number_line(s: State, held: usize, least: u32, n: u32, most: u32) -> Turn
 fn set_inputs(s: State, n: u32) -> Turn
     ensures { Answers (set_wide n) s result }
 {
-    let mut t = s;
-    t.inputs = n as usize;
+    let t = State {
+        inputs: n as usize,
+        ..s
+    };
     number_line(t, s.inputs, 1, n, MOST_INPUTS)
 }
 
@@ -103,8 +105,10 @@ fn set_inputs(s: State, n: u32) -> Turn
 fn set_outputs(s: State, n: u32) -> Turn
     ensures { Answers (set_tall n) s result }
 {
-    let mut t = s;
-    t.outputs = n as usize;
+    let t = State {
+        outputs: n as usize,
+        ..s
+    };
     number_line(t, s.outputs, 1, n, MOST_OUTPUTS)
 }
 
@@ -112,8 +116,10 @@ fn set_outputs(s: State, n: u32) -> Turn
 fn set_stated(s: State, n: u32) -> Turn
     ensures { Answers (set_stated n) s result }
 {
-    let mut t = s;
-    t.stated = n as usize + 1;
+    let t = State {
+        stated: n as usize + 1,
+        ..s
+    };
     number_line(t, s.stated, 0, n, MOST_PRODUCTS)
 }
 
@@ -187,8 +193,7 @@ fn take_line(c: &[u8], s: State, words: &mut [u64], marks: &mut [u64]) -> Turn
     requires { Roomy s words.old marks.old }
     ensures { Leaves (by_line c.now) s result words.old marks.old words.new marks.new }
 {
-    let kind = table_kinds::kind_of(c);
-    match kind {
+    match table_kinds::kind_of(c) {
         Kind::Empty => Turn::Next(s),
         Kind::Inputs(n) => set_inputs(s, n),
         Kind::Outputs(n) => set_outputs(s, n),
@@ -265,20 +270,13 @@ fn scan(text: &[u8], words: &mut [u64], marks: &mut [u64]) -> Scanned
         rows: 0,
         kept: 0,
     };
-    let mut line: u32 = 1;
-    let mut at = 0;
-    while at <= text.len() {
-        let e = table_lines::line_end(text, at);
-        let span = table_lines::content_of(&text[at..e]);
-        let from = at + span.start;
-        let to = at + span.end;
-        let turn = take_line(&text[from..to], s, words, marks);
+    for (i, l) in text.split(|b| *b == b'\n').enumerate() {
+        let span = table_lines::content_of(l);
+        let turn = take_line(&l[span.start..span.end], s, words, marks);
         let Turn::Next(t) = turn else {
-            return stopped(turn, &text[at..e], line, s);
+            return stopped(turn, l, i as u32 + 1, s);
         };
         s = t;
-        at = e + 1;
-        line += 1;
     }
     Scanned {
         answer: Answer::Refused(whole(5)),
@@ -300,13 +298,11 @@ fn collect(words: &[u64], marks: &[u64], kept: usize, j: usize, out: &mut [u64],
     ensures { Appends out.old out.new at (pick j words.now marks.now kept) result }
 {
     let mut to = at;
-    let mut i = 0;
-    while i < kept {
+    for i in 0..kept {
         if is_marked(marks[i], j) {
             expression::put_cube(out, to, expression::cube_at(words, i));
             to += 1;
         }
-        i += 1;
     }
     to
 }
@@ -338,12 +334,10 @@ fn build(inputs: usize, outputs: usize, words: &[u64], marks: &[u64], kept: usiz
     let mut counts = [0usize; network::NODE_SLOTS];
     let mut out = [0u64; network::WORD_SLOTS];
     let mut at = 0;
-    let mut j = 0;
-    while j < outputs {
+    for j in 0..outputs {
         let to = fill_output(words, marks, kept, j, &mut out, at);
         counts[j] = to - at;
         at = to;
-        j += 1;
     }
     Network {
         inputs,

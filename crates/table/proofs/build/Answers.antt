@@ -12,18 +12,18 @@ use Rattle.table.proofs.build.Goals as goal
 
 pub loop-j-init : goal.loop-j-init
 unfolding from
-loop-j-init c = (omega arith, length-replicate {A = ℕ} word_slots 0, laid_none)
+loop-j-init c = (length-replicate {A = ℕ} word_slots 0, laid_none)
 
 pub fill_output-to-requires : goal.fill_output-to-requires
 fill_output-to-requires c =
-    laid-room c.requires c.loop-j-test.true c.loop-j.invariant.2 (room-cubes _ cube_slots c.loop-j.invariant.1)
+    laid-room c.requires c.loop-j-test.true c.loop-j.invariant.1 (room-cubes _ cube_slots c.loop-j.invariant.0)
 
 pub loop-j-preserved : goal.loop-j-preserved
 loop-j-preserved c =
-    (omega arith, search rules, laid-output c.requires c.loop-j-test.true c.loop-j.invariant.2 c.fill_output-to.ensures)
+    (search rules, laid-output c.requires c.loop-j-test.true c.loop-j.invariant.1 c.fill_output-to.ensures)
 
 pub returns : goal.returns
-returns c = laid-outputs c.requires _ (omega arith) c.loop-j.invariant.2
+returns c = laid-outputs c.requires _ (omega arith) c.loop-j.invariant.1
 
 pub overflow_sub-counts : goal.overflow_sub-counts
 overflow_sub-counts c = omega (arith, c.fill_output-to.ensures.next)

