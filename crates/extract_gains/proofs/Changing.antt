@@ -12,7 +12,7 @@ use Rattle.sets.proofs.Truth.{iff}
 use Rattle.extract_gains.specs.Gains.{entries, first, slots, many, key_at, newest, gain, most_gain, Sound, Keyed, Turns, only, none}
 use Rattle.extract_gains.specs.Parts.{Chained, Holds}
 use Rattle.extract_gains.proofs.Holding.{holds-set}
-use Rattle.extract_gains.proofs.Table.{gain-entry, turns-none, turns_as}
+use Rattle.extract_gains.proofs.Table.{gain-entry, turns_as}
 
 pub sound-chains : {t g : List ℕ} → Sound t g → Chained t
 sound-chains s = record { few = s.few; heads = s.heads; links = s.links }
@@ -94,13 +94,6 @@ turns-raise t g key e by r found = turns_as (only_none key) (λ k. refl) (turns-
 pub turns_lower : (t g : List ℕ) (key e by : ℕ) → e < entries → (Chained t → (e < many t) × (key_at t e ≡ key)) → by ≤ get_or g e 0
     → Turns t g t (set g e (get_or g e 0 - by)) (only key by) none
 turns_lower t g key e by r found b = turns_as (λ k. refl) (only_none key) (turns-set t g key e (get_or g e 0 - by) by 0 r found (omega arith))
-
--- nothing rises or falls
-pub turns-still : (t g : List ℕ) (key by : ℕ) → by ≡ 0 → Turns t g t g none (only key by) × Turns t g t g (only key by) none
-turns-still t g key by z = rw z (
-  turns_as (λ k. refl) (λ k. sym (only_none key k)) (turns-none t g),
-  turns_as (λ k. sym (only_none key k)) (λ k. refl) (turns-none t g),
-)
 
 -- a full table, where the gain of an entry would rise past the most
 pub turns-past : {t g u h : List ℕ} (key e by : ℕ) → entries ≤ many u → (Chained t → (e < many t) × (key_at t e ≡ key)) → most_gain < get_or g e 0 + by

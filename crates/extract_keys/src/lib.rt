@@ -52,7 +52,7 @@ pub fn pair_key(p: Literal, q: Literal) -> u32
 
 // The part of a number.
 #[tactic(auto, unfolding(crate::specs::Keys::part_of))]
-fn part_of(x: u32) -> Cube
+pub fn part_of(x: u32) -> Cube
     ensures { lits result ≡ part_of x }
 {
     cube::with(

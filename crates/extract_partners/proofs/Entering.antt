@@ -3,11 +3,11 @@ use Prim.Native.Nat.{ℕ, suc, ◌+◌, ◌%◌, ◌<◌, ◌≤◌}
 use mathlib.Core.Path.{◌≡◌, sym, ◌∙◌}
 use mathlib.Core.List.{List}
 use native.Mathlib.Omega.{arith}
-use lib.ListN.{length, get_or, set, length-set}
+use lib.ListN.{get_or, set, length-set}
 use lib.Seq.{get_or-set_same, get_or-set_other}
 use borrow.Author.Tests.{eq-eqb, ne_eqb}
 use Rattle.sets.proofs.Truth.{Stand, below, equal, beyond, compared}
-use Rattle.extract_partners.specs.Table.{left_at, code_of, first, place_of, link_at, code_at, newest, Chained, Entered, Enters}
+use Rattle.extract_partners.specs.Table.{first, place_of, link_at, code_at, newest, Chained, Enters}
 use Rattle.extract_partners.proofs.Chains.{newest-same}
 
 -- the link, the code and the head, written one after the other
@@ -82,17 +82,3 @@ module _ (r : List ℕ) (e h code : ℕ) (s : Chained r e) (b : e < 16384) (to :
     old = codes;
     new = code-new;
   }
-
--- it is entered by the code of what it leaves
-pub entered-next : {f : List (List ℕ)} {ws r s : List ℕ} {e code : ℕ} → Entered f ws r e → e < length ws → code ≡ code_of (left_at f (get_or ws e 0))
-    → Enters r s e code → Entered f ws s (suc e)
-entered-next {f} {ws} {r} {s} {e} {code} p b q n = record {
-  chained = n.chained;
-  within = omega arith;
-  codes = λ d l. go d l (compared d e);
-}
-  where
-    go : (d : ℕ) → d < suc e → Stand d e → code_at s d ≡ code_of (left_at f (get_or ws d 0))
-    go d l (below k _ _) = n.old d k ∙ p.codes d k
-    go d l (equal k _ _) = rw k (n.new ∙ q)
-    go d l (beyond k _ _) = absurd (omega arith)

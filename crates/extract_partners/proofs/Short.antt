@@ -1,12 +1,12 @@
 -- The number of removals, and the rule by which a node is searched by them. Assumes nothing.
 use Prim.Native.Nat.{ℕ, ◌+◌, ◌*◌, ◌<◌, ◌≤◌}
-use mathlib.Core.{Path.◌≡◌, Path.refl, Bool.true, Bool.false, List.List, List.[]}
+use mathlib.Core.{Path.◌≡◌, Bool.true, Bool.false, List.List, List.[], List.◌∷◌}
 use native.Mathlib.Nat.{mul-le-mul}
 use native.Mathlib.Omega.{arith}
 use lib.Dec.{leb}
-use lib.ListN.{length, get_or, take}
+use lib.ListN.{length}
 use borrow.Author.Tests.{leb-true, le-leb, lt-leb}
-use Rattle.sets.proofs.{Truth.both, Places.total-next, Places.total-room}
+use Rattle.sets.proofs.{Truth.both}
 use Rattle.cube.{specs.Cube.width, specs.Cube.lits, specs.declared.Cube.Cube, proofs.Lits.lits-at-most}
 use Rattle.extract_partners.specs.Removal.{removals, most_removals, removals_of, is_short}
 use Rattle.extract_partners.proofs.Removing.{removals-length}
@@ -21,18 +21,13 @@ product-most c = let h = lits-at-most c in omega (
 pub removals-most : (c : Cube) → length (removals (lits c)) ≤ 8256
 removals-most c = omega (arith, product-most c, removals-length (lits c))
 
-pub removals-none : removals_of [] ≡ 0
+pub removals-none : {f : List (List ℕ)} → f ≡ [] → removals_of f ≡ 0
 unfolding removals_of
-removals-none = refl
+removals-none e = rw e
 
-module _ (f : List (List ℕ)) (i : ℕ) (h : i < length f) where
-  pub removals-next : removals_of (take (i + 1) f) ≡ removals_of (take i f) + length (removals (get_or f i []))
-  unfolding removals_of
-  removals-next = total-next (λ c. length (removals c)) f i [] h
-
-  pub removals-room : removals_of (take i f) + length (removals (get_or f i [])) ≤ removals_of f
-  unfolding removals_of
-  removals-room = total-room (λ c. length (removals c)) f i [] h
+pub removals-first : {c : List ℕ} {f g : List (List ℕ)} → f ≡ c ∷ g → removals_of f ≡ length (removals c) + removals_of g
+unfolding removals_of
+removals-first e = rw e
 
 -- ---- the rule
 

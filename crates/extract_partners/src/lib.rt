@@ -10,7 +10,8 @@ ghost use Rattle.extract_counts.specs.Counts.{sums_gain};
 ghost use Rattle.extract_partners.specs.Removal.{removals, is_short};
 ghost use Rattle.extract_partners.specs.Table.{removal_of, part_at, left_at, removals_from, use_gain, Listed, code_of, Chained, Entered, Enters};
 
-use cube::{Cube, Found, Literal};
+use cube::{Cube, Literal};
+use cube_order::Literals;
 
 const TABLE_WORDS: usize = extract_gains::TABLE_WORDS;
 
@@ -26,18 +27,11 @@ const REMOVAL_WORDS: usize = FIRST_REMOVAL + 2 * MOST_REMOVALS;
 
 // ---- the removals of a node
 
-// A word as a number of places.
-fn wide(x: u32) -> usize
-    ensures { result ≡ x }
-{
-    x as usize
-}
-
 // The removals of a cube: one or two of its literals.
 fn removals_of(c: Cube) -> usize
     ensures { result ≡ length (removals (lits c)) }
 {
-    let n = wide(cube_sets::count(c));
+    let n = cube_sets::count(c) as usize;
     n * (n + 1) / 2
 }
 
@@ -50,34 +44,27 @@ fn is_short(f: &[u64]) -> bool
         return false;
     }
     let mut n = 0;
-    let mut i = 0;
-    while i < k {
-        n += removals_of(expression::cube_at(f, i));
+    for c in expression::each(f) {
+        n += removals_of(c);
         if n > MOST_REMOVALS {
             return false;
         }
-        i += 1;
     }
     9 * n + k <= k * k
 }
 
-// The removals of p and another literal, of which c has the greater ones, are listed from place `at` on: the place after them.
-fn list_pairs(ws: &mut [u32], at: usize, j: usize, p: Literal, c: Cube) -> usize
-    requires { (j < 65536) × (p.0 < 2 * width) × (at + length (lits c) ≤ length ws.old) }
-    ensures { Listed ws.old ws.new at (map (λ q. removal_of j (p.0 ∷ q ∷ [])) (lits c)) result }
+// The removals of p and each of the greater literals are listed from place `at` on: the place after them.
+fn list_pairs(ws: &mut [u32], at: usize, j: usize, p: Literal, greater: Literals) -> usize
+    requires { (j < 65536) × (p.0 < 2 * width) × (at + length (lits greater.rest) ≤ length ws.old) }
+    ensures { Listed ws.old ws.new at (map (λ q. removal_of j (p.0 ∷ q ∷ [])) (lits greater.rest)) result }
 {
     let base = 65536 * j as u32 + 256 * p.0;
     let mut n = at;
-    let mut rest = c;
-    loop {
-        let found = cube_order::first_from(rest, Literal(0));
-        let Found::At(q) = found else {
-            return n;
-        };
-        rest = cube_sets::without(rest, cube::with(cube::empty(), q));
+    for q in greater {
         ws[n] = base + q.0;
         n += 1;
     }
+    n
 }
 
 // The removals of c, the cube at place j.
@@ -86,16 +73,13 @@ fn list_cube(ws: &mut [u32], at: usize, j: usize, c: Cube) -> usize
     ensures { Listed ws.old ws.new at (map (removal_of j) (removals (lits c))) result }
 {
     let mut n = at;
-    let mut rest = c;
-    loop {
-        let found = cube_order::first_from(rest, Literal(0));
-        let Found::At(p) = found else {
-            return n;
-        };
-        rest = cube_sets::without(rest, cube::with(cube::empty(), p));
+    let mut rest = cube_order::each(c);
+    // No `for`: each turn needs those that are left.
+    while let Some(p) = rest.next() {
         ws[n] = 65536 * j as u32 + 257 * p.0;
         n = list_pairs(ws, n + 1, j, p, rest);
     }
+    n
 }
 
 // The removals of all cubes.
@@ -103,12 +87,9 @@ fn list_node(ws: &mut [u32], f: &[u64]) -> usize
     requires { (length (cubes_of f.now) ≤ 65536) × (length (removals_from 0 (cubes_of f.now)) ≤ length ws.old) }
     ensures { Listed ws.old ws.new 0 (removals_from 0 (cubes_of f.now)) result }
 {
-    let k = expression::number(f);
     let mut n = 0;
-    let mut j = 0;
-    while j < k {
+    for j in 0..expression::number(f) {
         n = list_cube(ws, n, j, expression::cube_at(f, j));
-        j += 1;
     }
     n
 }
@@ -117,18 +98,14 @@ fn list_node(ws: &mut [u32], f: &[u64]) -> usize
 fn part_at(w: u32) -> Cube
     ensures { lits result ≡ part_at w }
 {
-    let x = w % 65536;
-    cube::with(
-        cube::with(cube::empty(), Literal(x / 256)),
-        Literal(x % 256),
-    )
+    extract_keys::part_of(w % 65536)
 }
 
 // What is left of its cube.
 fn left_at(f: &[u64], w: u32) -> Cube
     ensures { lits result ≡ left_at (cubes_of f.now) w }
 {
-    cube_sets::without(expression::cube_at(f, wide(w / 65536)), part_at(w))
+    cube_sets::without(expression::cube_at(f, (w / 65536) as usize), part_at(w))
 }
 
 // ---- the search
@@ -176,12 +153,13 @@ fn count_partners(
         (λ k. total (λ v. use_gain (cubes_of f.now) k v (get_or ws.now e 0)) (take e ws.now)) }
 {
     let w = ws[e];
-    let mut at = wide(r[wide(code) % FIRST_REMOVAL]);
+    let mut at = r[code as usize % FIRST_REMOVAL] as usize;
+    // By links: each place is read at the one before it.
     while at >= FIRST_REMOVAL {
         if r[at + 1] == code {
             count_use(t, g, f, ws[(at - FIRST_REMOVAL) / 2], w);
         }
-        at = wide(r[at]);
+        at = r[at] as usize;
     }
 }
 
@@ -191,7 +169,7 @@ fn enter(r: &mut [u32; REMOVAL_WORDS], e: usize, code: u32)
     ensures { Enters r.old r.new e code }
 {
     let at = FIRST_REMOVAL + 2 * e;
-    let h = wide(code) % FIRST_REMOVAL;
+    let h = code as usize % FIRST_REMOVAL;
     r[at] = r[h];
     r[at + 1] = code;
     r[h] = at as u32;
@@ -227,10 +205,8 @@ fn count_short(t: &mut [u32; TABLE_WORDS], g: &mut [u16; MOST_ENTRIES], f: &[u64
     let mut ws = [0u32; MOST_REMOVALS];
     let mut r = [0u32; REMOVAL_WORDS];
     let n = list_node(&mut ws, f);
-    let mut e = 0;
-    while e < n {
+    for e in 0..n {
         count_removal(t, g, f, &ws, &mut r, e);
-        e += 1;
     }
 }
 
@@ -239,8 +215,7 @@ fn count_long(t: &mut [u32; TABLE_WORDS], g: &mut [u16; MOST_ENTRIES], f: &[u64]
     ensures { Turns t.old g.old t.new g.new none (λ k. sums_gain k (cubes_of f.now)) }
 {
     let n = expression::number(f);
-    let mut i = 0;
-    while i < n {
+    for i in 0..n {
         extract_rows::count_row(
             t,
             g,
@@ -248,7 +223,6 @@ fn count_long(t: &mut [u32; TABLE_WORDS], g: &mut [u16; MOST_ENTRIES], f: &[u64]
             expression::cube_at(f, i),
             expression::part(f, i + 1, n),
         );
-        i += 1;
     }
 }
 

@@ -1,18 +1,17 @@
 -- The answers of `extract_partners::count_partners`.
-use Prim.Native.Nat.{ℕ, ◌%◌, ◌<◌}
-use mathlib.Core.Path.{◌≡◌, ap, ◌∙◌}
+use Prim.Native.Nat.{ℕ, ◌<◌}
+use mathlib.Core.Path.{◌≡◌, refl}
 use native.Mathlib.Omega.{arith}
 use lib.ListN.{length, get_or}
 use Rattle.expression.specs.Words.{cubes_of}
-use Rattle.extract_partners.specs.Table.{first, place_of}
+use Rattle.extract_partners.specs.Table.{place_of}
 use Rattle.extract_partners.proofs.Chains.{Walk, walk_first, walk_end, walk_at, walk-place, walk-below, walk-falls, walk-met, walk-passed}
 use Rattle.extract_partners.proofs.count_partners.Goals as goal
 use Rattle.extract_partners.proofs.count_partners.Goals.{At-loop-at, In-loop-at, then-r-at, else-r-at}
 
 pub loop-at-init : goal.loop-at-init
 loop-at-init c s l =
-    walk_first _ _ _ _ _ _ s l _ _ _ (omega arith)
-    (c.wide-at.ensures ∙ ap (λ x. get_or c.args.r.now (x % first) 0) c.wide.ensures)
+    walk_first _ _ _ _ _ _ s l _ _ _ (omega arith) refl
 
 -- in a turn of the loop the walk stands at a removal
 going : (h : At-loop-at) → Walk (cubes_of h.args.f.now) h.args.ws.now h.args.r.now h.args.e
@@ -34,26 +33,20 @@ within c =
 
 pub loop-at-smaller : goal.loop-at-smaller
 loop-at-smaller c =
-    omega (arith, c.wide-at-in-loop-at.ensures, walk-falls _ _ _ _ _ _ c.requires.0 c.requires.3 (going (goal.at.loop-at-smaller c).At-loop-at) c.loop-at-test.true)
+    omega (arith, walk-falls _ _ _ _ _ _ c.requires.0 c.requires.3 (going (goal.at.loop-at-smaller c).At-loop-at) c.loop-at-test.true)
 
 pub loop-at-preserved : goal.loop-at-preserved
 loop-at-preserved c s l =
     let n = c.loop-at.invariant s l in
     elim c.if-r-at.branch [
       | then-r-at w ↦ rw (w.t-is, w.g-is)
-          (walk-met _ _ _ _ _ _ s l n c.loop-at-test.true (omega (arith, walk-place _ _ _ _ _ _ s l n c.loop-at-test.true)) c.wide-at-in-loop-at.ensures
+          (walk-met _ _ _ _ _ _ s l n c.loop-at-test.true (omega (arith, walk-place _ _ _ _ _ _ s l n c.loop-at-test.true)) refl
           w.count_use.ensures)
-      | else-r-at w ↦ rw (w.t-is, w.g-is) (walk-passed _ _ _ _ _ _ s l n c.loop-at-test.true w.if-r-at.false c.wide-at-in-loop-at.ensures)
+      | else-r-at w ↦ rw (w.t-is, w.g-is) (walk-passed _ _ _ _ _ _ s l n c.loop-at-test.true w.if-r-at.false refl)
     ]
 
 pub returns : goal.returns
 returns c = walk_end _ _ _ _ _ _ c.requires.0 c.requires.3 (going (goal.at.returns c).At-loop-at) c.loop-at-test.false
-
-pub offset_bounds-ws-e : goal.offset_bounds-ws-e
-offset_bounds-ws-e c = omega (arith, c.requires.1, c.requires.2)
-
-pub bounds-ws-e : goal.bounds-ws-e
-bounds-ws-e c = c.requires.1
 
 pub overflow_add-at : goal.overflow_add-at
 overflow_add-at c = omega (arith, place c, within c)
@@ -69,9 +62,6 @@ offset_bounds-ws-at c = omega (arith, place (goal.at.offset_bounds-ws-at c).In-l
 
 pub bounds-ws-at : goal.bounds-ws-at
 bounds-ws-at c = omega (arith, place (goal.at.bounds-ws-at c).In-loop-at, within (goal.at.bounds-ws-at c).In-loop-at)
-
-pub count_use-requires : goal.count_use-requires
-count_use-requires c = c.requires.4
 
 pub offset_bounds-r-at-in-loop-at : goal.offset_bounds-r-at-in-loop-at
 offset_bounds-r-at-in-loop-at c = omega (arith, place (goal.at.offset_bounds-r-at-in-loop-at c).In-loop-at, within (goal.at.offset_bounds-r-at-in-loop-at c).In-loop-at)

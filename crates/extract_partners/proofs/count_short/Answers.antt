@@ -26,7 +26,7 @@ all_listed c =
     record { long = e; few = omega (arith, l.next, removals-many 0 f); all = l.front }
 
 pub loop-e-init : goal.loop-e-init
-loop-e-init c = (entered-none _ _, turns-first (all_listed (goal.at.loop-e-init c).After-list_node-n) _ _, omega arith)
+loop-e-init c = (entered-none _ _, turns-first (all_listed (goal.at.loop-e-init c).After-list_node-n) _ _)
 
 pub count_removal-requires : goal.count_removal-requires
 count_removal-requires c =
@@ -38,7 +38,6 @@ loop-e-preserved c =
     let w = all_listed (goal.at.loop-e-preserved c).After-list_node-n in (
       rw add-one c.count_removal.ensures.1,
       turns_next w c.loop-e.e c.loop-e-test.true c.loop-e.invariant.1 c.count_removal.ensures.0,
-      omega arith,
     )
 
 pub returns : goal.returns

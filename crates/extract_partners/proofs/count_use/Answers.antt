@@ -35,10 +35,6 @@ few c = (
   rw c.count-3.ensures (lits-at-most _),
 )
 
-pub overflow_sub-by : goal.overflow_sub-by
-overflow_sub-by c =
-    omega (arith, c.count-3.ensures, ap length c.part_at-b.ensures, c.requires)
-
 pub returns : goal.returns
 returns c =
     use-met _ _ _ _ _ (sym (alike (goal.at.returns c).After-same) ∙ c.if-not-same.false) (sym (loose (goal.at.returns c).After-is_empty) ∙ c.if-not-is_empty.false)

@@ -1,6 +1,6 @@
 -- `extract_partners::enter` meets its contract. Assumes nothing.
 use Prim.Native.Nat.{◌%◌}
-use mathlib.Core.Path.{sym, ap}
+use mathlib.Core.Path.{refl}
 use native.Mathlib.Omega.{arith}
 use Rattle.extract_partners.specs.Table.{first}
 use Rattle.extract_partners.proofs.{Entering.grown-enters}
@@ -8,5 +8,4 @@ use Rattle.extract_partners.proofs.enter.Goals as goal
 
 pub returns : goal.returns
 returns c =
-    grown-enters c.args.r.now c.args.e (c.wide-h.result % first) c.args.code c.requires.0 c.requires.1 (omega arith)
-    (ap (◌% first) (sym c.wide-h.ensures))
+    grown-enters c.args.r.now c.args.e (c.args.code % first) c.args.code c.requires.0 c.requires.1 (omega arith) refl

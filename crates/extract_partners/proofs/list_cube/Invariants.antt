@@ -9,7 +9,7 @@ use Rattle.extract_partners.proofs.list_cube.Given as goal
 
 abbrev pub invariant-loop-p : goal.invariant-loop-p
 invariant-loop-p l =
-    Listing l.initial.ws l.ws l.at l.n (map (removal_of l.j) (removals (lits l.rest))) (map (removal_of l.j) (removals (lits l.initial.rest)))
+    Listing l.initial.ws l.ws l.at l.n (map (removal_of l.j) (removals (lits l.rest.rest))) (map (removal_of l.j) (removals (lits l.fn.c)))
 
 abbrev pub decreases-loop-p : goal.decreases-loop-p
-decreases-loop-p l = length (lits l.rest)
+decreases-loop-p l = length (lits l.rest.rest)

@@ -1,6 +1,5 @@
 -- `extract_partners::list_node` meets its contract. The loop's invariant: the removals of the cubes from place j on are still to be listed.
 -- Assumes nothing.
-use Prim.Native.Nat.{◌-◌, ◌≤◌}
 use lib.ListN.{drop}
 use Rattle.expression.specs.Words.{cubes_of}
 use Rattle.extract_partners.specs.{Table.removals_from}
@@ -8,7 +7,4 @@ use Rattle.extract_partners.proofs.Listing.{Listing}
 use Rattle.extract_partners.proofs.list_node.Given as goal
 
 abbrev pub invariant-loop-j : goal.invariant-loop-j
-invariant-loop-j l = Listing l.initial.ws l.ws 0 l.n (removals_from l.j (drop l.j (cubes_of l.f))) (removals_from 0 (cubes_of l.f)) × (l.j ≤ l.k)
-
-abbrev pub decreases-loop-j : goal.decreases-loop-j
-decreases-loop-j l = l.k - l.j
+invariant-loop-j l = Listing l.initial.ws l.ws 0 l.n (removals_from l.j (drop l.j (cubes_of l.f))) (removals_from 0 (cubes_of l.f))
