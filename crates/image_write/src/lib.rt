@@ -19,6 +19,8 @@ use network::Network;
 
 // ---- fields
 
+// The place is handed on, as in `letters`: each function returns where the next bit goes.
+
 // What bit b is worth at place r of a byte, the most significant first.
 fn worth(r: usize, b: bool) -> u8
     requires { r < 8 }
