@@ -23,6 +23,8 @@ pub struct Taken {
     pub at: usize,
 }
 
+// The bytes are passed beside the next bit: the bit goes along with the sums, in `Taken` and in `State`, and the bytes stay.
+
 // Bit p of the image as a number: the bits of a byte, the most significant first.
 fn bit_at(bytes: &[u8], p: usize) -> usize
     requires { p < 8 * length bytes.now }

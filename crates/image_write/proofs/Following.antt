@@ -1,19 +1,21 @@
 -- What bits come next: of a field, of the literals of a cube, of the cubes of a node, of nodes. Assumes nothing.
 use Prim.Native.Nat.{ℕ, suc, ◌+◌, ◌-◌, ◌<◌, ◌≤◌}
-use mathlib.Core.Path.{◌≡◌, sym, ap, ap₂, ◌∙◌}
+use mathlib.Core.Path.{◌≡◌, sym, ap, ◌∙◌}
 use mathlib.Core.Bool.{Bool}
 use mathlib.Core.List.{List, [], ◌∷◌, ◌++◌, map, append-nil}
 use native.Mathlib.Omega.{arith}
+use lib.Seq.{get_or-take}
+use Rattle.std.proofs.lemmas.List.{get_or_default}
 use lib.ListN.{length, get_or, take, drop, length-take, length-drop, drop_of_length-le}
 use Rattle.sets.{specs.Masks.bit, proofs.Places.drop-next}
 use Rattle.expression.specs.Words.{cubes_of}
 use Rattle.image_fields.specs.Fields.{bits_of, field_bits}
-use Rattle.network_nodes.{specs.Nodes.cut, proofs.Cutting.cut-node, proofs.Cutting.cut-length}
-use Rattle.network.specs.Handed.{flat}
+use Rattle.network_nodes.{specs.Nodes.cut, proofs.Cutting.cut-node}
+use Rattle.network.specs.{Handed.flat, declared.Network.Network}
 use Rattle.image_laws.specs.Widths.{edition_field, edition1}
 use Rattle.image_laws.specs.Image.{cube_fields, node_fields, head_fields}
 use Rattle.image_laws.proofs.Fielding.{inputs_bits, outputs_bits, divisors_bits, literal_bits, literals_bits, cubes_bits, literal_fields, fields-append}
-use Rattle.image_write.specs.Parts.{nodes_from, bits_from}
+use Rattle.image_write.specs.Parts.{bits_from}
 
 -- ---- a field
 
@@ -51,41 +53,49 @@ literals-none c e = ap spread e
 
 -- ---- a node
 
--- the bits of the cubes' fields from i on
-abbrev pub spread_from : List (List ℕ) → ℕ → List Bool
-spread_from f i = field_bits (flat (map cube_fields (drop i f)))
+-- the bits of the cubes' fields
+abbrev pub spread_cubes : List (List ℕ) → List Bool
+spread_cubes f = field_bits (flat (map cube_fields f))
 
-pub node-bits : (f : List (List ℕ)) (n : ℕ) → n ≡ length f → field_bits (node_fields f) ≡ cubes_bits n ++ spread_from f 0
+pub node-bits : (f : List (List ℕ)) (n : ℕ) → n ≡ length f → field_bits (node_fields f) ≡ cubes_bits n ++ spread_cubes f
 unfolding field_bits node_fields
-node-bits f n e = ap (λ k. cubes_bits k ++ spread_from f 0) (sym e)
+node-bits f n e = ap (λ k. cubes_bits k ++ spread_cubes f) (sym e)
 
-pub cubes-next : (f : List (List ℕ)) (i : ℕ) (c : List ℕ) → i < length f → c ≡ get_or f i [] → spread_from f i ≡ field_bits (cube_fields c) ++ spread_from f (i + 1)
-cubes-next f i c h e =
-    ap (λ l. field_bits (flat (map cube_fields l))) (drop-next f i [] h ∙ ap (◌∷ drop (i + 1) f) (sym e))
-    ∙ fields-append (cube_fields c) (flat (map cube_fields (drop (i + 1) f)))
+pub cubes-next : (f g : List (List ℕ)) (c : List ℕ) → f ≡ c ∷ g → spread_cubes f ≡ field_bits (cube_fields c) ++ spread_cubes g
+cubes-next f g c e = ap spread_cubes e ∙ fields-append (cube_fields c) (flat (map cube_fields g))
 
-pub cubes-none : (f : List (List ℕ)) (i : ℕ) → length f ≤ i → spread_from f i ≡ []
+pub cubes-none : (f : List (List ℕ)) → f ≡ [] → spread_cubes f ≡ []
 unfolding field_bits
-cubes-none f i h = ap (λ l. field_bits (flat (map cube_fields l))) (drop_of_length-le f h)
+cubes-none f e = ap spread_cubes e
 
 -- ---- nodes
 
-module _ (words counts : List ℕ) where
-  abbrev all : List (List (List ℕ))
-  all = cut counts (cubes_of words)
+-- the bits of the nodes' fields
+abbrev pub spread_nodes : List (List (List ℕ)) → List Bool
+spread_nodes fs = field_bits (flat (map node_fields fs))
 
-  pub nodes-next : (i e : ℕ) (f : List (List ℕ)) → i < e → e ≤ length counts → f ≡ get_or all i []
-      → bits_from i e words counts ≡ field_bits (node_fields f) ++ bits_from (i + 1) e words counts
-  nodes-next i e f h k q =
-      let n : e - i ≡ suc (e - (i + 1)) = omega arith in
-      let d = drop-next all i [] (omega (arith, cut-length counts (cubes_of words))) ∙ ap (◌∷ drop (i + 1) all) (sym q) in
-      ap₂ (λ x l. field_bits (flat (map node_fields (take x l)))) n d
-      ∙ fields-append (node_fields f) (flat (map node_fields (nodes_from (i + 1) e words counts)))
+-- from node k on
+pub nodes-next : (fs : List (List (List ℕ))) (k : ℕ) (f : List (List ℕ)) → k < length fs → f ≡ get_or fs k f
+    → spread_nodes (drop k fs) ≡ field_bits (node_fields f) ++ spread_nodes (drop (k + 1) fs)
+nodes-next fs k f h e =
+    ap spread_nodes (drop-next fs k f h ∙ ap (◌∷ drop (k + 1) fs) (sym e)) ∙ fields-append (node_fields f) (flat (map node_fields (drop (k + 1) fs)))
 
-  pub nodes-none : (i e : ℕ) → e ≤ i → bits_from i e words counts ≡ []
-  unfolding field_bits
-  nodes-none i e h = let z : e - i ≡ 0 = omega arith in ap (λ x. field_bits (flat (map node_fields (take x (drop i all))))) z
+pub nodes-none : (fs : List (List (List ℕ))) (k : ℕ) → length fs ≤ k → spread_nodes (drop k fs) ≡ []
+unfolding field_bits
+nodes-none fs k h = ap spread_nodes (drop_of_length-le fs h)
 
-  -- a node has no more cubes than there are
-  pub node-few : (i : ℕ) (f : List (List ℕ)) → f ≡ get_or all i [] → length f ≤ length (cubes_of words)
-  node-few i f e = rw (e, cut-node counts (cubes_of words) i, length-take, length-drop) (omega arith)
+-- all that a network holds
+abbrev pub all_nodes : Network → List (List (List ℕ))
+all_nodes n = take (n.outputs + n.divisors) (cut n.counts (cubes_of n.words))
+
+pub all-bits : (n : Network) → bits_from 0 (n.outputs + n.divisors) n.words n.counts ≡ spread_nodes (all_nodes n)
+all-bits n =
+    let z : n.outputs + n.divisors - 0 ≡ n.outputs + n.divisors = omega arith in
+    ap (λ e. spread_nodes (take e (cut n.counts (cubes_of n.words)))) z
+
+-- each has no more cubes than there are
+pub node-few : (n : Network) (k : ℕ) (f : List (List ℕ)) → k < length (all_nodes n) → f ≡ get_or (all_nodes n) k f → length f ≤ length (cubes_of n.words)
+node-few n k f h e =
+    let all = cut n.counts (cubes_of n.words) in
+    let g = e ∙ get_or_default (all_nodes n) k f [] h ∙ get_or-take (n.outputs + n.divisors) all k [] (omega (arith, length-take (n.outputs + n.divisors) all)) in
+    rw (g, cut-node n.counts (cubes_of n.words) k, length-take, length-drop) (omega arith)

@@ -46,7 +46,7 @@ module _ (r : Network) (m : Net) (h : Holds r m) where
       let z : e - r.outputs ≡ r.divisors = omega arith in
       rw (z, ← drop-take r.outputs r.divisors all, front) (drop_at m.outputs (divisor_cubes m) r.outputs (sym h.outputs))
 
-  pub bits-held : all_bits r.inputs r.outputs r.divisors r.words r.counts ≡ field_bits (net_fields m)
+  pub bits-held : all_bits r ≡ field_bits (net_fields m)
   bits-held = rw (divisors-held, from_zero r.outputs ∙ outputs-held, h.inputs, h.outputs, h.divisors, net-bits m)
 
   -- so many of them
@@ -87,7 +87,7 @@ module _ {n r : Network} (w : Renewed n r) where
     told_over l = rw w.lawful (told-long _ _ _ (omega (arith, image-length)) refl)
 
     module _ (l : bytes_for (head_size + bits) ≤ length o) where
-      pub ready : bits ≤ node_slots * most_held_bits → Writable r.inputs r.outputs r.divisors r.words r.counts o
+      pub ready : bits ≤ node_slots * most_held_bits → Writable r o
       unfolding bytes_from
       ready s =
           let t = ap length (bits-held r new w.holds) ∙ sym (size-held r new w.holds) in
@@ -99,7 +99,7 @@ module _ {n r : Network} (w : Renewed n r) where
           }
 
       -- the image at the front, the rest as it was
-      pub told-written : (o' : List ℕ) (p : ℕ) → LaidBits o o' 0 p (all_bits r.inputs r.outputs r.divisors r.words r.counts)
+      pub told-written : (o' : List ℕ) (p : ℕ) → LaidBits o o' 0 p (all_bits r)
           → Told (refused_by n) (image_of (net_of n)) o o' (wrote.Bytes (bytes_for (head_size + bits)))
       unfolding bytes_from image_of net_bytes
       told-written o' p k =

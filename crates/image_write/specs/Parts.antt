@@ -5,7 +5,7 @@ use Rattle.image_fields.specs.Fields.{bytes_for, bytes_of, field_bits}
 use Rattle.cube.specs.Cube.{width}
 use Rattle.expression.specs.Words.{cubes_of}
 use Rattle.network_nodes.specs.Nodes.{cut}
-use Rattle.network.specs.{Held.most_cubes, Handed.flat, Handed.node_slots}
+use Rattle.network.specs.{Held.most_cubes, Handed.flat, Handed.node_slots, declared.Network.Network}
 use Rattle.image_laws.specs.{Widths.edition1, Image.node_fields, Image.head_fields}
 
 -- the widest field of an image: a cube count
@@ -38,8 +38,10 @@ abbrev pub bits_from : ℕ → ℕ → List ℕ → List ℕ → List Bool
 bits_from a e words counts = field_bits (flat (map node_fields (nodes_from a e words counts)))
 
 -- the head, then each divisor, then each output
-abbrev pub all_bits : ℕ → ℕ → ℕ → List ℕ → List ℕ → List Bool
-all_bits n m k words counts = field_bits (head_fields n m k) ++ (bits_from m (m + k) words counts ++ bits_from 0 m words counts)
+abbrev pub all_bits : Network → List Bool
+all_bits n =
+    field_bits (head_fields n.inputs n.outputs n.divisors)
+    ++ (bits_from n.outputs (n.outputs + n.divisors) n.words n.counts ++ bits_from 0 n.outputs n.words n.counts)
 
 -- the most bits of a node as it is held: each variable both ways in every cube
 abbrev pub most_held_bits : ℕ
@@ -52,8 +54,8 @@ pub record Held (words counts : List ℕ) (e : ℕ) : Type 0 where
   pub few : length (cubes_of words) ≤ most_cubes
 
 -- a network of inputs and outputs, and room for its bits
-pub record Writable (n m k : ℕ) (words counts o : List ℕ) : Type 0 where
-  pub inputs : 1 ≤ n
-  pub outputs : 1 ≤ m
-  pub there : Held words counts (m + k)
-  pub ready : RoomFor o 0 (length (all_bits n m k words counts))
+pub record Writable (n : Network) (o : List ℕ) : Type 0 where
+  pub inputs : 1 ≤ n.inputs
+  pub outputs : 1 ≤ n.outputs
+  pub there : Held n.words n.counts (n.outputs + n.divisors)
+  pub ready : RoomFor o 0 (length (all_bits n))

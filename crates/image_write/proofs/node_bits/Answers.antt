@@ -22,9 +22,6 @@ returns c =
     let t = literals-are c in
     (omega (arith, node-bits-length (cubes_of (words c))), omega (arith, literals-most (words c), c.requires))
 
-pub overflow_mul-cubes : goal.overflow_mul-cubes
-overflow_mul-cubes c = omega (arith, c.number-cubes.ensures, c.requires)
-
 pub overflow_mul-result : goal.overflow_mul-result
 overflow_mul-result c = omega (arith, literals-are c, literals-most (words c), c.requires)
 

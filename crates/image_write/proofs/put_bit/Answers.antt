@@ -2,11 +2,7 @@
 use mathlib.Core.Path.{refl}
 use Rattle.image_write.proofs.Laying.{bit-new, bit-old, bit-fits}
 use Rattle.image_write.proofs.put_bit.Goals as goal
-
-pub returns-then-r-eq0 : goal.returns-then-r-eq0
-returns-then-r-eq0 c =
-    let r = c.requires.room in
-    record { place = refl; adds = λ l old n e. bit-new old l _ n e c.worth-x.ensures r c.if-r-eq0.true }
+use Rattle.image_write.proofs.put_bit.Goals.{then-r-eq0, else-r-eq0}
 
 pub overflow_add-o : goal.overflow_add-o
 overflow_add-o c =
@@ -16,4 +12,10 @@ overflow_add-o c =
 pub returns : goal.returns
 returns c =
     let r = c.requires.room in
-    record { place = refl; adds = λ l old n e. bit-old old l _ n e c.worth-x.ensures r c.if-r-eq0.false }
+    record {
+      place = refl;
+      adds = λ l old n e. elim c.if-r-eq0.branch [
+        | then-r-eq0 w ↦ rw w.o-is (bit-new old l _ n e c.worth-x.ensures r w.if-r-eq0.true)
+        | else-r-eq0 w ↦ rw w.o-is (bit-old old l _ n e c.worth-x.ensures r w.if-r-eq0.false)
+      ];
+    }

@@ -1,48 +1,39 @@
 -- The answers of `image_write::put_node`.
-use mathlib.Core.{Bool.Bool, List.List, List.◌++◌}
-use Prim.Native.Nat.{ℕ, ◌+◌}
+use mathlib.Core.Path.{◌∙◌, sym, ap}
+use mathlib.Core.List.{◌++◌}
 use native.Mathlib.Omega.{arith}
 use Rattle.cube.specs.Cube.{lits}
 use Rattle.expression.specs.Words.{cubes_of}
 use Rattle.image_fields.specs.Fields.{field_bits}
 use Rattle.image_laws.{specs.Image.cube_fields, specs.Image.node_fields, proofs.Fielding.cubes_bits}
 use Rattle.image_write.proofs.Laying.{Going, going-all, going-as, going_next, going-ready, going_done}
-use Rattle.image_write.proofs.Following.{spread_from, node-bits, cubes-next, cubes-none}
+use Rattle.image_write.proofs.Following.{spread_cubes, node-bits, cubes-next, cubes-none}
 use Rattle.image_write.proofs.put_node.Goals as goal
-use Rattle.image_write.proofs.put_node.Goals.{After-cube_at, After-number-n, After-put_field-p, At-loop-i, Start}
+use Rattle.image_write.proofs.put_node.Goals.{After-number, In-Some}
 
-abbrev cubes : At-loop-i → List (List ℕ)
-cubes h = cubes_of h.args.f.now
-
--- what is due of the node's fields
-abbrev Owed : Start → List ℕ → ℕ → List Bool → Type 0
-Owed s o p t = Going s.args.o.now s.args.at (field_bits (node_fields (cubes_of s.args.f.now))) o p t
-
-opened : (c : After-number-n) → (Going c.args.o.now c.args.at (field_bits (node_fields (cubes_of c.args.f.now))) c.args.o.now c.args.at (cubes_bits c.number-n.result ++ spread_from (cubes_of c.args.f.now) 0))
-opened c = going-as (going-all _ c.requires) (node-bits _ _ c.number-n.ensures)
-
-begun : (c : After-put_field-p) → (Going c.args.o.now c.args.at (field_bits (node_fields (cubes_of c.args.f.now))) c.put_field-p.new.o c.put_field-p.result (spread_from (cubes_of c.args.f.now) 0))
-begun c = going_next ((let it : (Going c.args.o.now c.args.at (field_bits (node_fields (cubes_of c.args.f.now))) c.args.o.now c.args.at (cubes_bits c.number-n.result ++ spread_from (cubes_of c.args.f.now) 0)) = going-as (going-all _ c.requires) (node-bits _ _ c.number-n.ensures) in it)) c.put_field-p.ensures c.put_field-p.auto.o
+-- the count, and then the cubes are due
+opened : (c : After-number) → Going c.args.o.now c.args.at (field_bits (node_fields (cubes_of c.args.f.now))) c.args.o.now c.args.at
+    (cubes_bits c.number.result ++ spread_cubes (cubes_of c.args.f.now))
+opened c = going-as (going-all _ c.requires) (node-bits _ _ c.number.ensures)
 
 pub put_field-p-requires : goal.put_field-p-requires
-put_field-p-requires c = (omega arith, going-ready (cubes_bits _) _ (opened (goal.at.put_field-p-requires c).After-number-n))
+put_field-p-requires c = (omega arith, going-ready (cubes_bits _) _ (opened (goal.at.put_field-p-requires c).After-number))
 
-pub loop-i-init : goal.loop-i-init
-loop-i-init c = (omega arith, going-all _ (begun (goal.at.loop-i-init c).After-put_field-p).room)
+pub loop-c-init : goal.loop-c-init
+loop-c-init c =
+    let e = ap (λ s. s.words.now) c.into_iter-c-iterator.ensures.into_iter_gives ∙ c.each-c-items.ensures in
+    going-as (going_next (opened (goal.at.loop-c-init c).After-number) c.put_field-p.ensures c.put_field-p.auto.o) (ap (λ w. spread_cubes (cubes_of w)) (sym e))
 
--- the next cube's fields are due
-ahead : (c : After-cube_at) → Going c.put_field-p.new.o c.put_field-p.result (spread_from ((cubes_of c.args.f.now)) 0) c.loop-i.o c.loop-i.p
-    (field_bits (cube_fields (lits c.cube_at.result)) ++ spread_from ((cubes_of c.args.f.now)) (c.loop-i.i + 1))
-ahead c =
-    going-as c.loop-i.invariant.1 (cubes-next ((cubes_of c.args.f.now)) c.loop-i.i _ (omega (arith, c.number-n.ensures)) c.cube_at.ensures)
+-- the next cube is due
+ahead : (c : In-Some) → Going c.args.o.now c.args.at (field_bits (node_fields (cubes_of c.args.f.now))) c.loop-c.o c.loop-c.p
+    (field_bits (cube_fields (lits c.in-Some.c)) ++ spread_cubes (cubes_of c.next.new.self.words.now))
+ahead c = going-as c.loop-c.invariant (cubes-next _ _ _ c.in-Some.ensures.steps)
 
 pub put_cube-p-requires : goal.put_cube-p-requires
-put_cube-p-requires c = going-ready (field_bits (cube_fields (lits c.cube_at.result))) _ (ahead c)
+put_cube-p-requires c = going-ready (field_bits (cube_fields (lits c.in-Some.c))) _ (ahead (goal.at.put_cube-p-requires c).In-Some)
 
-pub loop-i-preserved : goal.loop-i-preserved
-loop-i-preserved c = (omega arith, going_next (ahead (goal.at.loop-i-preserved c).After-cube_at) c.put_cube-p.ensures c.put_cube-p.auto.o)
+pub loop-c-preserved : goal.loop-c-preserved
+loop-c-preserved c = going_next (ahead (goal.at.loop-c-preserved c).In-Some) c.put_cube-p.ensures c.put_cube-p.auto.o
 
 pub returns : goal.returns
-returns c =
-    let e = cubes-none (cubes (goal.at.returns c).At-loop-i) c.loop-i.i (omega (arith, c.number-n.ensures)) in
-    (begun (goal.at.returns c).After-put_field-p).ends (going_done (going-as c.loop-i.invariant.1 e))
+returns c = going_done (going-as c.loop-c.invariant (cubes-none _ c.in-None.ensures.steps.0))

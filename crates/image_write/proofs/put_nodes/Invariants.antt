@@ -1,11 +1,10 @@
--- `image_write::put_nodes` meets its contract. The loop's invariant: the fields of the nodes from i on are due. Assumes nothing.
-use Prim.Native.Nat.{◌-◌, ◌≤◌}
-use Rattle.image_write.specs.Parts.{bits_from}
+-- `image_write::put_nodes` meets its contract. The loop's invariant: the fields of the nodes left are due. Assumes nothing.
+use lib.ListN.{length, drop}
+use Rattle.image_write.specs.Parts.{nodes_from, bits_from}
 use Rattle.image_write.proofs.Laying.{Going}
+use Rattle.image_write.proofs.Following.{spread_nodes}
 use Rattle.image_write.proofs.put_nodes.Given as goal
 
-abbrev pub invariant-loop-i : goal.invariant-loop-i
-invariant-loop-i l = (l.i ≤ l.e) × Going l.initial.o l.at (bits_from l.a l.e l.words l.counts) l.o l.p (bits_from l.i l.e l.words l.counts)
-
-abbrev pub decreases-loop-i : goal.decreases-loop-i
-decreases-loop-i l = l.e - l.i
+abbrev pub invariant-loop-f : goal.invariant-loop-f
+invariant-loop-f l =
+    Going l.fn.o l.fn.at (bits_from l.a l.e l.n.words l.n.counts) l.o l.p (spread_nodes (drop (length l.yielded) (nodes_from l.a l.e l.n.words l.n.counts)))
