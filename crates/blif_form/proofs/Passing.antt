@@ -1,9 +1,9 @@
 -- One block passed: the names and the rows that are found after `.names` and its space are those of the first block, since a text has one, and what
 -- comes after them are the others; `.end` is no block. Assumes nothing.
-use Rattle.std.specs.Prelude.{Option, Some, None}
+use Rattle.std.specs.Prelude.{Some, None}
 use Prim.Native.Nat.{ℕ, ◌≤◌}
 use mathlib.Core.Path.{◌≡◌, refl, sym, ap, ◌∙◌, subst}
-use mathlib.Core.{Logic.inl, Logic.inr, Bool.Bool}
+use mathlib.Core.{Logic.inl, Logic.inr}
 use mathlib.Core.List.{List, [], ◌∷◌, ◌++◌}
 use native.Mathlib.Omega.{arith}
 use lib.ListN.{length}

@@ -1,5 +1,5 @@
 -- The line of names: a text holds the words of one line only, so that a walk from name to name finds it wherever it is. Assumes nothing.
-use Rattle.std.specs.Prelude.{Option, Some, None}
+use Rattle.std.specs.Prelude.{Some, None}
 use Prim.Native.Nat.{ℕ, ◌+◌, ◌<◌, ◌≤◌, max}
 use mathlib.Core.Path.{◌≡◌, refl, sym, ◌∙◌, ap, ap₂}
 use mathlib.Core.{Logic.inl, Logic.inr, Bool.true, Bool.false}
@@ -17,9 +17,9 @@ use Rattle.sets.proofs.Lists.{◌∈◌, all-out, all_append, ahead, pairwise_ap
 use Rattle.letters.specs.Letters.{name_text}
 use Rattle.blif_laws.specs.Text.{Name, variable, output, name_word, spaced}
 use Rattle.blif_laws.{specs.Reading.Named, specs.Meaning.is_clear, proofs.Naming.name-clear, proofs.Naming.name-one}
-use Rattle.blif_scan.specs.Scanning.{left, Forth, label_of, Small, Starts, by_space, by_line, CalledIs}
+use Rattle.blif_scan.specs.Scanning.{left, label_of, Small, Starts, by_space, by_line, CalledIs}
 use Rattle.blif_scan.proofs.Scanning.{stays}
-use Rattle.blif_lines.specs.{Marking.Raised, declared.Turn.Turn}
+use Rattle.blif_lines.specs.{Marking.Raised}
 use Rattle.blif_lines.specs.Lining.{words_of, variable_in, numbers_in, top_of, Ascends, NamesGot, NamesNot, is_next, turn_of}
 use Rattle.blif_lines.specs.Lining.{Follows, Comes, LineFrom, TurnIs, top_after, LastMarked}
 use Rattle.blif_scan.specs.declared.{Ended.Ended, Label.Label}

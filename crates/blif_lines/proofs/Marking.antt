@@ -1,18 +1,12 @@
 -- Marks: raised by no number, and by one list after another. Assumes nothing.
-use Prim.Native.Nat.{ℕ, ◌+◌, ◌-◌, ◌<◌, ◌≤◌, min}
-use mathlib.Core.Path.{◌≡◌, refl, sym, ◌∙◌, ap}
-use mathlib.Core.Bool.{Bool, true, false, cond}
-use mathlib.Core.List.{List, [], ◌∷◌, ◌++◌}
-use mathlib.Core.Logic.{inl, inr}
+use Prim.Native.Nat.{ℕ, ◌+◌}
+use mathlib.Core.Path.{refl, ◌∙◌}
+use mathlib.Core.Bool.{cond}
+use mathlib.Core.List.{List, [], ◌++◌}
 use native.Mathlib.Omega.{arith}
-use borrow.Author.Tests.{eqb-true, eqb-false, lt-ltb, le-ltb, ltb-true}
-use lib.Dec.{eqb, ltb}
-use lib.ListN.{length, get_or, set, take, drop, length-set, length-take}
-use lib.Seq.{get_or-set_same, get_or-set_other, get_or-take}
-use Rattle.sets.specs.Lists.{all}
-use Rattle.sets.proofs.{Truth.decided, Truth.iff, Lists.total-append}
-use Rattle.sets.proofs.Places.{all-stop, all-on, all_done}
-use Rattle.blif_lines.specs.Marking.{Raised, Cleared}
+use lib.Dec.{eqb}
+use Rattle.sets.proofs.{Lists.total-append}
+use Rattle.blif_lines.specs.Marking.{Raised}
 
 -- ---- raised
 

@@ -1,5 +1,5 @@
 -- What the lines of a block hold: names, and rows of signs.
-use Rattle.std.specs.Prelude.{ℕ, Option, Some, None, zero, suc, ◌+◌, ◌<◌, ◌≤◌, max, ◌≡◌, Bool, true, false, cond, ◌&&◌, eqb, leb, ltb, length}
+use Rattle.std.specs.Prelude.{ℕ, Option, Some, None, zero, suc, ◌+◌, ◌<◌, ◌≤◌, max, ◌≡◌, Bool, true, cond, ◌&&◌, eqb, leb, ltb, length}
 use mathlib.Core.List.{List, [], ◌∷◌, ◌++◌, map, Memᴰ}
 use Rattle.sets.specs.{Lists.all, Sets.asc, Word.largest}
 use Rattle.letters.specs.Letters.{name_text}

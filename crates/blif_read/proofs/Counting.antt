@@ -2,10 +2,8 @@
 use Rattle.std.specs.Prelude.{Some, None}
 use Prim.Native.Nat.{ℕ, ◌≤◌}
 use mathlib.Core.Path.{◌≡◌, refl, sym, ap, ◌∙◌, subst}
-use mathlib.Core.Bool.{true, false}
 use mathlib.Core.List.{List, [], ◌∷◌, ◌++◌, map, append-nil, append_assoc, map-append}
-use Rattle.sets.{specs.Word.largest, proofs.Truth.clash}
-use Rattle.letters_products.specs.Spelled.{spelled}
+use Rattle.sets.{specs.Word.largest}
 use Rattle.network.{specs.Handed.flat, proofs.Handing.flat-last}
 use Rattle.blif_laws.specs.{Text.Block, Reading.named_in}
 use Rattle.blif_scan.specs.Scanning.{left, label_of}

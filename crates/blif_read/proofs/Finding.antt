@@ -8,7 +8,6 @@ use mathlib.Core.{Logic.inl, Logic.inr}
 use mathlib.Core.List.Memᴰ.{head as here}
 use mathlib.Core.List.{List, [], ◌∷◌, ◌++◌}
 use Rattle.sets.{specs.Word.largest, proofs.Lists.◌∈◌}
-use Rattle.letters_products.specs.Spelled.{spelled}
 use Rattle.blif_laws.specs.Text.{Name, Block}
 use Rattle.blif_scan.specs.Scanning.{left, label_of}
 use Rattle.blif_form.specs.Surveying.{BeginsAt, BlockOf, BlocksOf, SmallBlocks}

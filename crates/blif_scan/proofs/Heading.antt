@@ -19,7 +19,6 @@ use Rattle.blif_laws.specs.Text.{spaced, ended, first_names, head_lines}
 use Rattle.blif_scan.specs.Scanning.{left, NextIs, Starts, by_space, by_line, EndedIs}
 use Rattle.blif_scan.specs.Heading.{led, TurnsAre, ListIs, is_plain, Titled, Lined, WordIs, model_line, ModelIs, Headed, HeadIs}
 use Rattle.blif_scan.specs.declared.Ended.{Ended}
-use Rattle.blif_scan.specs.declared.Head.{Head}
 use Rattle.blif_scan.proofs.Scanning.{word-longer}
 
 -- ---- words with a space before each

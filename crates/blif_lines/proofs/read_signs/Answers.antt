@@ -1,5 +1,4 @@
 -- The answers of `blif_lines::read_signs`.
-use native.Mathlib.Omega.{arith}
 use Rattle.blif_lines.proofs.Rowing.{signs-none, signs-next, signs-stop}
 use Rattle.blif_lines.proofs.read_signs.Goals as goal
 
