@@ -1,5 +1,7 @@
 -- Columns of rows: a column has a `0` or `1` exactly where its variable is read, so that all are used exactly where what is read is all that is named;
 -- and so far a window of marks tells. Assumes nothing.
+use Rattle.std.specs.Prelude.{Option, Some, None}
+use Rattle.std.specs.Option.{is_some}
 use Prim.Native.Nat.{ℕ, zero, suc, ◌+◌, ◌<◌, ◌≤◌}
 use mathlib.Core.Path.{◌≡◌, refl, sym, ap, ap₂, ◌∙◌, subst}
 use mathlib.Core.Logic.{inl, inr}
@@ -18,7 +20,7 @@ use Rattle.network_reads.specs.Reading.{variables_of, reads_of}
 use Rattle.network_reads.proofs.Reading.{variable-is, reads-out}
 use Rattle.blif_laws.{specs.Text.sign_of, specs.Reading.cube_in, proofs.Rowing.cube-over, proofs.Rowing.signs-back}
 use Rattle.network_reads.proofs.Reading.{reads-asc}
-use Rattle.blif_lines.specs.Lining.{Signs, signed, signed_in, RowsGot, RowsNot}
+use Rattle.blif_lines.specs.Lining.{Signs, signed, signed_in, RowsGot, RowsNot, RowsIs}
 use Rattle.blif_lines.{specs.Marking.Cleared, specs.declared.Rows.Rows, proofs.Rowing.rows-one}
 use Rattle.blif_form.specs.Surveying.{UsedIs, UsedFrom}
 use Rattle.blif_form.proofs.Blocking.{signs_for}
@@ -137,6 +139,12 @@ window-used {s} {at} {r} {base} {k} {old} {mid} {new} n c g ws more h =
     each : (i : ℕ) → i < k → leb 1 (get_or new i 0) ≡ mem (base + i) (signed_in g.words)
     each i b = met-mark (base + i) (get_or mid i 0) (get_or new i 0) (signed_in g.words) (clear i b)
         (g.marks.each i (omega (arith, c.size)) (omega (arith, clear i b)))
+
+-- where there are rows
+pub window-here : (s : List ℕ) (at r base : ℕ) {k : ℕ} {old mid : List ℕ} (new : List ℕ) (a : Option Rows) → is_some a ≡ true → k ≤ length old → Cleared k old mid
+    → RowsIs s at r base mid new a → UsedFrom s at r base k (all (λ x. leb 1 x) (take k new))
+window-here s at r base new (Some a) t n c g = window-used n c g
+window-here s at r base new None t n c g = absurd (cc)
 
 pub window-none : {s : List ℕ} {at r : ℕ} {old new : List ℕ} (base k : ℕ) → RowsNot s at r old new → UsedFrom s at r base k false
 window-none base k n ws more h = absurd (n.none ws more h)

@@ -1,8 +1,9 @@
 -- One block passed: the names and the rows that are found after `.names` and its space are those of the first block, since a text has one, and what
 -- comes after them are the others; `.end` is no block. Assumes nothing.
+use Rattle.std.specs.Prelude.{Some, None}
 use Prim.Native.Nat.{ℕ, ◌≤◌}
 use mathlib.Core.Path.{◌≡◌, refl, sym, ap, ◌∙◌, subst}
-use mathlib.Core.{Logic.inl, Logic.inr, Bool.Bool}
+use mathlib.Core.{Logic.inl, Logic.inr}
 use mathlib.Core.List.{List, [], ◌∷◌, ◌++◌}
 use native.Mathlib.Omega.{arith}
 use lib.ListN.{length}
@@ -11,8 +12,8 @@ use Rattle.letters_products.specs.Spelled.{spelled}
 use Rattle.network_reads.specs.Reading.{reads_of}
 use Rattle.blif_laws.specs.{Text.Block, Text.ended, Reading.Named, Reading.named_in}
 use Rattle.blif_scan.specs.Scanning.{left, Forth, EndedIs, by_space, label_of}
-use Rattle.blif_lines.specs.Lining.{numbers_in, NamesGot, NamesNot, NamesIs, NamesBy, RowsOf, RowsGot, RowsNot, RowsIs, RowsBy}
-use Rattle.blif_form.specs.Surveying.{BlockOf, BlocksOf, SmallBlocks}
+use Rattle.blif_lines.specs.Lining.{numbers_in, NamesGot, NamesNot, RowsOf, RowsGot, RowsNot}
+use Rattle.blif_form.specs.Surveying.{BeginsAt, BlockOf, BlocksOf, SmallBlocks}
 use Rattle.blif_scan.specs.declared.Ended.{Ended}
 use Rattle.blif_lines.{specs.declared.Names.Names, specs.declared.Rows.Rows, proofs.Lining.names-one, proofs.Rowing.rows-one}
 use Rattle.blif_form.proofs.Ending.{Closes}
@@ -31,29 +32,23 @@ unfolding spelled ended
 end-names t u (inl c) e = let f = sym e ∙ c in let z : ◌≡◌ {A = ℕ} 101 110 = cc in omega arith
 end-names t u (inr c) e = let f = sym (ap (◌++ (10 ∷ [])) e) ∙ c in let z : ◌≡◌ {A = ℕ} 101 110 = cc in omega arith
 
--- no other word begins a block
-pub names-other : (s : List ℕ) (p : ℕ) (e : Ended) → EndedIs s p (spelled ".names") e → ((q : ℕ) → e ≡ Ended.Space q → ⊥) → (u : List ℕ)
-    → left s p ≡ spelled ".names " ++ u → ⊥
+-- a block begins with the word and a space, and no other word begins one
+pub begin-here : (s : List ℕ) (at q : ℕ) → EndedIs s at (spelled ".names") (Some (Ended.Space q)) → BeginsAt s at (Some q)
+begin-here s at q h = (h.0 ∙ names-begin (left s q), h.1)
+
+pub begin-none : (s : List ℕ) (at : ℕ) → EndedIs s at (spelled ".names") None → BeginsAt s at None
+begin-none s at h u e = h (by_space u (e ∙ sym (names-begin u)))
+
+pub begin-other : (s : List ℕ) (at : ℕ) (e : Ended) → EndedIs s at (spelled ".names") (Some e) → ((q : ℕ) → e ≡ Ended.Space q → ⊥) → BeginsAt s at None
 unfolding spelled
-names-other s p (Ended.Space q) h n u e = n q refl
-names-other s p (Ended.Line q) h n u e = let f = sym h.0 ∙ e in let z : ◌≡◌ {A = ℕ} 10 32 = cc in omega arith
-names-other s p Ended.Finish h n u e = omega (arith, ap length (sym h ∙ e))
-names-other s p Ended.No h n u e = h (by_space u e)
+begin-other s at (Ended.Space q) h n u e = n q refl
+begin-other s at (Ended.Line q) h n u e = let f = sym h.0 ∙ e in let z : ◌≡◌ {A = ℕ} 10 32 = cc in omega arith
+begin-other s at Ended.Finish h n u e = omega (arith, ap length (sym h ∙ e))
 
--- where the keyword is not, with its space, no block is left
-pub pass-none : (s : List ℕ) (at : ℕ) (e : Ended) → EndedIs s at (spelled ".names") e → ((q : ℕ) → e ≡ Ended.Space q → ⊥)
-    → (m : ℕ) (bs : List Block) → BlocksOf (left s at) m bs → bs ≡ []
-pass-none s at e h n m [] k = refl
-pass-none s at e h n m (b ∷ bs) k = let u = block-begins (blocks-first b bs k).1 in absurd (names-other s at e h n u.0 u.1)
-
--- ---- what is read, by whether it is there
-
-pub names-by : (x : Bool) (s : List ℕ) (at base : ℕ) (old new : List ℕ) (r : Names) → NamesIs s at base old new r → r.is ≡ x → NamesBy x s at base old new r
-names-by x s at base old new r h e = subst (λ b. NamesBy b s at base old new r) e h
-
-pub rows-by : (x : Bool) (s : List ℕ) (at r base : ℕ) (old new : List ℕ) (a : Rows) → RowsIs s at r base old new a → a.are ≡ x
-    → RowsBy x s at r base old new a
-rows-by x s at r base old new a h e = subst (λ b. RowsBy b s at r base old new a) e h
+-- where it is not, no block is left
+pub pass-none : (s : List ℕ) (at : ℕ) → BeginsAt s at None → (m : ℕ) (bs : List Block) → BlocksOf (left s at) m bs → bs ≡ []
+pass-none s at n m [] k = refl
+pass-none s at n m (b ∷ bs) k = let u = block-begins (blocks-first b bs k).1 in absurd (n u.0 u.1)
 
 -- ---- the names and the rows of the block that stands there
 
@@ -80,13 +75,13 @@ module _ {s : List ℕ} {p base : ℕ} {old new : List ℕ} {r : Names} (g : Nam
 
 -- ---- the first of the blocks that are left
 
-module _ (s : List ℕ) (at p : ℕ) (e : left s at ≡ spelled ".names" ++ (32 ∷ left s p)) where
+module _ (s : List ℕ) (at p : ℕ) (e : left s at ≡ spelled ".names " ++ left s p) where
   block_here : {m : ℕ} {b : Block} {more : List ℕ} → BlockOf (left s at) m b more → Blocked (left s p) b more
-  block_here {m} {b} {more} h = block-blocked (subst (λ t. BlockOf t m b more) (e ∙ names-begin (left s p)) h)
+  block_here {m} {b} {more} h = block-blocked (subst (λ t. BlockOf t m b more) (e) h)
 
   -- there is one
   pub pass-some : {m : ℕ} → BlocksOf (left s at) m [] → ⊥
-  pass-some k = end-names (left s at) (left s p) k.text (e ∙ names-begin (left s p))
+  pass-some k = end-names (left s at) (left s p) k.text (e)
 
   -- it has names
   pub pass-unnamed : {old new : List ℕ} → NamesNot s p old new → (m : ℕ) (bs : List Block) → m ≤ largest → BlocksOf (left s at) m bs → SmallBlocks bs → ⊥

@@ -1,8 +1,10 @@
 -- One pass over a text: `.end` and the blocks before it, as the words that begin them tell, and the whole text with its head. Assumes nothing.
-use Prim.Native.Nat.{ℕ, suc, ◌+◌, ◌≤◌, min, max}
+use Rattle.std.specs.Prelude.{Option, Some, None}
+use Rattle.std.specs.Option.{is_some}
+use Prim.Native.Nat.{ℕ, suc, ◌+◌, min, max}
 use mathlib.Core.Path.{◌≡◌, refl, sym, ap, ap₂, ◌∙◌, subst}
 use mathlib.Core.Logic.{◌⊎◌, inl, inr}
-use mathlib.Core.Bool.{Bool, true, false}
+use mathlib.Core.Bool.{Bool, true, false, not}
 use mathlib.Core.List.Memᴰ
 use mathlib.Core.List.{List, [], ◌∷◌, ◌++◌, map, map-append, append-nil, append_assoc, append_cancel_left, append_cancel_right}
 use native.Mathlib.Omega.{arith}
@@ -12,13 +14,13 @@ use Rattle.letters_products.specs.Spelled.{spelled}
 use Rattle.network.{specs.Held.most_cubes, specs.Handed.flat, proofs.Handing.flat_append}
 use Rattle.blif_laws.specs.{Text.Block, Text.ended, Reading.named_in}
 use Rattle.blif_scan.specs.Scanning.{left, NextIs, by_line, by_end, EndedIs}
-use Rattle.blif_scan.{proofs.Scanning.word-longer, specs.declared.Next.Next, specs.declared.Ended.Ended}
+use Rattle.blif_scan.{proofs.Scanning.word-longer, specs.declared.Ended.Ended}
 use Rattle.blif_lines.{specs.Lining.top_of, proofs.Lining.top-append}
-use Rattle.blif_form.specs.Surveying.{BlockOf, BlockGot, BlockNot, EndingIs, BlocksOf, named_by, SmallBlocks, rows_by, BlocksBy, BlocksNot}
+use Rattle.blif_form.specs.Surveying.{BlockOf, BlockGot, BlockNot, EndingIs, BlocksOf, named_by, SmallBlocks, rows_by, BlocksGot, BlocksNot, BeginsAt}
 use Rattle.blif_form.specs.declared.Found.{Found}
 use Rattle.blif_form.proofs.Ending.{Closes}
 use Rattle.blif_form.proofs.Blocking.{block-begins, block_one, blocks-first, blocks_more, small-first, small-others}
-use Rattle.blif_form.proofs.Passing.{names-begin, end-names, names-other}
+use Rattle.blif_form.proofs.Passing.{end-names}
 
 -- two texts that go on in different ways after the same word
 parted : (w t u : List ℕ) (x y : ℕ) → (x ≡ y → ⊥) → w ++ (x ∷ t) ≡ w ++ (y ∷ u) → ⊥
@@ -39,13 +41,13 @@ end-closes t w (inr e) = inr (ap (◌++ (10 ∷ [])) e ∙ sym (append-nil (w ++
 
 -- what ends the word here, and what comes after it
 module _ (s : List ℕ) (at : ℕ) where
-  pub end-space : (p : ℕ) → EndedIs s at (spelled ".end") (Ended.Space p) → EndingIs s at false
+  pub end-space : (p : ℕ) → EndedIs s at (spelled ".end") (Some (Ended.Space p)) → EndingIs s at false
   end-space p h c = elim (closes-end (left s at) (spelled ".end") c) [
     | inl e ↦ parted (spelled ".end") [] (left s p) 10 32 (λ z. omega arith) (sym e ∙ h.0)
     | inr e ↦ word-longer (spelled ".end") 32 (left s p) (sym e ∙ h.0)
   ]
 
-  pub end-byte : (p b q : ℕ) → EndedIs s at (spelled ".end") (Ended.Line p) → NextIs s p (Next.Byte b q) → EndingIs s at false
+  pub end-byte : (p b q : ℕ) → EndedIs s at (spelled ".end") (Some (Ended.Line p)) → NextIs s p (Some (b, q)) → EndingIs s at false
   end-byte p b q h n c = elim (closes-end (left s at) (spelled ".end") c) [
     | inl e ↦
         let r : 10 ∷ [] ≡ 10 ∷ left s p = append_cancel_left (spelled ".end") (10 ∷ []) (10 ∷ left s p) (sym e ∙ h.0) in
@@ -55,13 +57,20 @@ module _ (s : List ℕ) (at : ℕ) where
     | inr e ↦ word-longer (spelled ".end") 10 (left s p) (sym e ∙ h.0)
   ]
 
-  pub end_line : (p : ℕ) → EndedIs s at (spelled ".end") (Ended.Line p) → NextIs s p Next.End → EndingIs s at true
+  pub end_line : (p : ℕ) → EndedIs s at (spelled ".end") (Some (Ended.Line p)) → NextIs s p None → EndingIs s at true
   end_line p h n = end-closes (left s at) (spelled ".end") (inl (h.0 ∙ ap (λ t. spelled ".end" ++ (10 ∷ t)) n))
 
-  pub end-finish : EndedIs s at (spelled ".end") Ended.Finish → EndingIs s at true
+  pub end-after : (p : ℕ) (n : Option (ℕ × ℕ)) (x : Bool) → is_some n ≡ not x → EndedIs s at (spelled ".end") (Some (Ended.Line p)) → NextIs s p n
+      → EndingIs s at x
+  end-after p (Some (b, q)) true t h n = absurd (cc)
+  end-after p (Some (b, q)) false t h n = end-byte p b q h n
+  end-after p None true t h n = end_line p h n
+  end-after p None false t h n = absurd (cc)
+
+  pub end-finish : EndedIs s at (spelled ".end") (Some Ended.Finish) → EndingIs s at true
   end-finish h = end-closes (left s at) (spelled ".end") (inr h)
 
-  pub end-other : EndedIs s at (spelled ".end") Ended.No → EndingIs s at false
+  pub end-other : EndedIs s at (spelled ".end") None → EndingIs s at false
   end-other h c = elim (closes-end (left s at) (spelled ".end") c) [ inl e ↦ h (by_line [] e) | inr e ↦ h (by_end e) ]
 
 -- ---- the blocks before it
@@ -89,13 +98,13 @@ passed_none s at m = record {
 }
 
 -- a block more
-module _ {s : List ℕ} {at m p r t : ℕ} (a : Passed s at m p r t) (q : ℕ) (e : left s p ≡ spelled ".names" ++ (32 ∷ left s q)) (f : Found)
+module _ {s : List ℕ} {at m p r t : ℕ} (a : Passed s at m p r t) (q : ℕ) (e : left s p ≡ spelled ".names " ++ left s q) (f : Found)
     (g : BlockGot s q m f) where
   abbrev last : List Block
   last = g.block ∷ []
 
   block_here : BlockOf (left s p) m g.block (left s f.next)
-  block_here = subst (λ x. BlockOf x m g.block (left s f.next)) (sym (e ∙ names-begin (left s q))) g.is
+  block_here = subst (λ x. BlockOf x m g.block (left s f.next)) (sym e) g.is
 
   small-more : SmallBlocks (a.blocks ++ last)
   small-more v i = elim (Memᴰ.append_cases (named_by a.blocks) (subst (v ∈◌) (named-append a.blocks last) i)) [
@@ -107,7 +116,7 @@ module _ {s : List ℕ} {at m p r t : ℕ} (a : Passed s at m p r t) (q : ℕ) (
   none_more n = record { none = each }
     where
       each : (bs : List Block) → SmallBlocks bs → BlocksOf (left s p) m bs → ⊥
-      each [] h b = end-names (left s p) (left s q) b.text (e ∙ names-begin (left s q))
+      each [] h b = end-names (left s p) (left s q) b.text e
       each (c ∷ bs) h b =
           let k = blocks-first c bs b in
           let o = block_one block_here k.1 in
@@ -124,33 +133,30 @@ module _ {s : List ℕ} {at m p r t : ℕ} (a : Passed s at m p r t) (q : ℕ) (
     none = λ n. a.none (none_more n);
   }
 
--- the rows that are counted so far
-pub passed-few : {s : List ℕ} {at m p r t : ℕ} → Passed s at m p r t → r ≤ suc most_cubes
-passed-few a = omega (arith, a.rows)
-
 -- what follows the blocks passed is no block: `.end` tells
 module _ {s : List ℕ} {at m p r t : ℕ} (a : Passed s at m p r t) where
-  pub walked : (e : Ended) → EndedIs s p (spelled ".names") e → ((q : ℕ) → e ≡ Ended.Space q → ⊥) → (x : Bool) → EndingIs s p x
-      → BlocksBy x s at m (record { are = x; rows = r; top = t })
-  walked e h n true c = record {
+  pub walked : EndingIs s p true → BlocksGot s at m (record { rows = r; top = t })
+  walked c = record {
     blocks = a.blocks;
     are = subst (BlocksOf (left s at) m) (append-nil a.blocks) (a.whole [] (record { each = λ b i. absurd (Memᴰ.not-nil i); text = c }));
     small = a.small;
     rows = a.rows;
     top = a.top;
   }
-  walked e h n false c = a.none (record { none = each })
+
+  pub walked-endless : BeginsAt s p None → EndingIs s p false → BlocksNot s at m
+  walked-endless n c = a.none (record { none = each })
     where
       each : (bs : List Block) → SmallBlocks bs → BlocksOf (left s p) m bs → ⊥
       each [] k b = c b.text
-      each (d ∷ bs) k b = let u = block-begins (blocks-first d bs b).1 in names-other s p e h n u.0 u.1
+      each (d ∷ bs) k b = let u = block-begins (blocks-first d bs b).1 in n u.0 u.1
 
   -- nor is it one that is not in the form
-  pub walked-not : (q : ℕ) → left s p ≡ spelled ".names" ++ (32 ∷ left s q) → BlockNot s q m → BlocksNot s at m
+  pub walked-not : (q : ℕ) → left s p ≡ spelled ".names " ++ left s q → BlockNot s q m → BlocksNot s at m
   walked-not q e n = a.none (record { none = each })
     where
       each : (bs : List Block) → SmallBlocks bs → BlocksOf (left s p) m bs → ⊥
-      each [] k b = end-names (left s p) (left s q) b.text (e ∙ names-begin (left s q))
+      each [] k b = end-names (left s p) (left s q) b.text e
       each (d ∷ bs) k b =
           let f = blocks-first d bs b in
-          n.none d f.0 (small-first d bs k) (subst (λ x. BlockOf x m d f.0) (e ∙ names-begin (left s q)) f.1)
+          n.none d f.0 (small-first d bs k) (subst (λ x. BlockOf x m d f.0) e f.1)

@@ -97,7 +97,7 @@ module _ (m : ℕ) {s : List ℕ} {at base first : ℕ} {old new l r : List ℕ}
   numbers : numbers_in n.named ≡ named_in block
   numbers = ap numbers_in (sym named) ∙ numbers-named block
 
-  pub block-found : d.top ≤ largest → BlockGot s at m (record { is = true; name = d.name; rows = w.count; top = d.top; next = w.next })
+  pub block-found : d.top ≤ largest → BlockGot s at m (record { name = d.name; rows = w.count; top = d.top; next = w.next })
   block-found k = record {
     block = block;
     is = blocked-block formed lines-here;

@@ -80,7 +80,7 @@ top-first (suc n) = let e = top_from 0 n in omega arith
 -- ---- what is found, and what is not
 
 pub surveyed : {s : List ℕ} {n m p t : ℕ} {b : Blocks} → Headed (left s 0) n m (left s p) → n ≤ length s → m ≤ length s → BlocksGot s p m b
-    → t ≡ max n b.top → SurveyGot s (record { is = true; inputs = n; outputs = m; rows = b.rows; top = t; first = p })
+    → t ≡ max n b.top → SurveyGot s (record { inputs = n; outputs = m; rows = b.rows; top = t; first = p })
 surveyed {s} {n} {m} {p} {t} {b} h i j g e = record {
   model = record { inputs = n; outputs = m; blocks = g.blocks };
   form = head-form h g.are;

@@ -1,5 +1,5 @@
 -- What one pass over a text finds: its blocks, in the form, and sums over them.
-use Rattle.std.specs.Prelude.{ℕ, suc, ◌<◌, ◌≤◌, min, Bool, true, false, length}
+use Rattle.std.specs.Prelude.{ℕ, Option, Some, None, suc, ◌<◌, ◌≤◌, min, Bool, true, false, length}
 use mathlib.Core.{Path.◌≡◌, Logic.◌⊎◌}
 use mathlib.Core.List.{List, [], ◌∷◌, ◌++◌, map, Memᴰ}
 use Rattle.sets.specs.{Lists.all, Lists.total, Lists.from, Sets.mem, Word.largest}
@@ -11,6 +11,11 @@ use Rattle.blif_laws.specs.Meaning.{FormedBlock, InForm}
 use Rattle.blif_scan.specs.Scanning.{left, Forth, label_of}
 use Rattle.blif_lines.specs.Lining.{top_of, RowsOf, signed_in}
 use Rattle.blif_form.specs.declared.{Found.Found, Blocks.Blocks, Survey.Survey}
+
+-- `.names` and a space stand here; or they do not
+abbrev pub BeginsAt : List ℕ → ℕ → Option ℕ → Type 0
+BeginsAt s at (Some p) = (left s at ≡ spelled ".names " ++ left s p) × Forth s at p
+BeginsAt s at None = (t : List ℕ) → left s at ≡ spelled ".names " ++ t → ⊥
 
 -- whether every column of the rows has a `0` or `1`, whatever the rows are
 abbrev pub UsedIs : List ℕ → ℕ → ℕ → Bool → Type 0
@@ -45,12 +50,9 @@ pub record BlockGot (s : List ℕ) (at m : ℕ) (r : Found) : Type 0 where
 pub record BlockNot (s : List ℕ) (at m : ℕ) : Type 0 where
   pub none : (b : Block) (more : List ℕ) → SmallBlock b → BlockOf (spelled ".names " ++ left s at) m b more → ⊥
 
-abbrev pub BlockBy : Bool → List ℕ → ℕ → ℕ → Found → Type 0
-BlockBy true s at m r = BlockGot s at m r
-BlockBy false s at m r = BlockNot s at m
-
-abbrev pub BlockIs : List ℕ → ℕ → ℕ → Found → Type 0
-BlockIs s at m r = BlockBy r.is s at m r
+abbrev pub BlockIs : List ℕ → ℕ → ℕ → Option Found → Type 0
+BlockIs s at m (Some r) = BlockGot s at m r
+BlockIs s at m None = BlockNot s at m
 
 -- ---- all blocks
 
@@ -86,12 +88,9 @@ pub record BlocksGot (s : List ℕ) (at m : ℕ) (r : Blocks) : Type 0 where
 pub record BlocksNot (s : List ℕ) (at m : ℕ) : Type 0 where
   pub none : (bs : List Block) → SmallBlocks bs → BlocksOf (left s at) m bs → ⊥
 
-abbrev pub BlocksBy : Bool → List ℕ → ℕ → ℕ → Blocks → Type 0
-BlocksBy true s at m r = BlocksGot s at m r
-BlocksBy false s at m r = BlocksNot s at m
-
-abbrev pub BlocksIs : List ℕ → ℕ → ℕ → Blocks → Type 0
-BlocksIs s at m r = BlocksBy r.are s at m r
+abbrev pub BlocksIs : List ℕ → ℕ → ℕ → Option Blocks → Type 0
+BlocksIs s at m (Some r) = BlocksGot s at m r
+BlocksIs s at m None = BlocksNot s at m
 
 -- ---- the whole text
 
@@ -110,9 +109,6 @@ pub record SurveyGot (s : List ℕ) (r : Survey) : Type 0 where
 pub record SurveyNot (s : List ℕ) : Type 0 where
   pub none : (d : Model) → InForm (joined s) d → gapless d ≡ false
 
-abbrev pub SurveyBy : Bool → List ℕ → Survey → Type 0
-SurveyBy true s r = SurveyGot s r
-SurveyBy false s r = SurveyNot s
-
-abbrev pub SurveyIs : List ℕ → Survey → Type 0
-SurveyIs s r = SurveyBy r.is s r
+abbrev pub SurveyIs : List ℕ → Option Survey → Type 0
+SurveyIs s (Some r) = SurveyGot s r
+SurveyIs s None = SurveyNot s

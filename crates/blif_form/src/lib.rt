@@ -1,19 +1,17 @@
-// The form of a text: one pass over its blocks.
+// The form of a text: one pass over its blocks. Where another text stands, nothing is answered.
 #![tactic(auto)]
 
-ghost use Rattle.std.specs.Prelude.{◌≡◌, false, suc, ◌+◌, ◌≤◌, min, max, length};
-ghost use Rattle.network.specs.Held.{most_cubes};
+ghost use Rattle.std.specs.Prelude.{◌≡◌, ◌≤◌, length};
 ghost use Rattle.blif_laws.specs.Reading.{among};
 ghost use Rattle.blif_scan.specs.Scanning.{label_of};
 ghost use Rattle.blif_lines.specs.Marking.{Window};
-ghost use Rattle.blif_form.specs.Surveying.{UsedIs, UsedFrom, BlockIs, EndingIs, BlocksIs, SurveyIs};
+ghost use Rattle.blif_form.specs.Surveying.{BeginsAt, UsedIs, UsedFrom, BlockIs, EndingIs, BlocksIs, SurveyIs};
 
-use blif_scan::{Ended, Head, Label, Next};
+use blif_scan::{Ended, Label};
 
 // A block: what it defines, how many rows it has, one more than the largest variable it names, and the place after it.
 #[derive(Clone, Copy)]
 struct Found {
-    is: bool,
     name: Label,
     rows: usize,
     top: usize,
@@ -23,7 +21,6 @@ struct Found {
 // All blocks: their rows, as far as a network may have cubes and one more, and one more than the largest variable.
 #[derive(Clone, Copy)]
 struct Blocks {
-    are: bool,
     rows: usize,
     top: usize,
 }
@@ -31,7 +28,6 @@ struct Blocks {
 // A text of the form: inputs, outputs, rows, one more than the largest variable, and where the blocks begin.
 #[derive(Clone, Copy)]
 pub struct Survey {
-    pub is: bool,
     pub inputs: usize,
     pub outputs: usize,
     pub rows: usize,
@@ -39,34 +35,17 @@ pub struct Survey {
     pub first: usize,
 }
 
-// ---- numbers
-
-// The smaller of two numbers.
-fn smaller(a: usize, b: usize) -> usize
-    ensures { result ≡ min a b }
-{
-    if a < b { a } else { b }
-}
-
-// The larger of two numbers.
-fn larger(a: usize, b: usize) -> usize
-    ensures { result ≡ max a b }
-{
-    if a < b { b } else { a }
-}
-
-// So many rows more, as far as they are counted.
-fn more_rows(a: usize, b: usize) -> usize
-    requires { a ≤ suc most_cubes }
-    ensures { result ≡ min (a + b) (suc most_cubes) }
-{
-    if b > network::MOST_CUBES {
-        return network::MOST_CUBES + 1;
-    }
-    smaller(a + b, network::MOST_CUBES + 1)
-}
-
 // ---- one block
+
+// The place after `.names` and a space here.
+pub fn begin(s: &[u8], at: usize) -> Option<usize>
+    ensures { BeginsAt s.now at result }
+{
+    match blif_scan::keyword(s, at, b".names")? {
+        Ended::Space(p) => Some(p),
+        _ => None,
+    }
+}
 
 // Whether each of k columns from `base` on has a `0` or `1` in some of the rows here.
 fn is_used(s: &[u8], at: usize, r: usize, base: usize, k: usize, marks: &mut [u8]) -> bool
@@ -74,11 +53,7 @@ fn is_used(s: &[u8], at: usize, r: usize, base: usize, k: usize, marks: &mut [u8
     ensures { UsedFrom s.now at r base k result × (length marks.new ≡ length marks.old) }
 {
     blif_lines::clear(marks, k);
-    let rows = blif_lines::read_rows(s, at, r, base, marks);
-    if !rows.are {
-        return false;
-    }
-    blif_lines::all_met(marks, k)
+    blif_lines::read_rows(s, at, r, base, marks).is_some() && blif_lines::all_met(marks, k)
 }
 
 // Whether each of r columns has a `0` or `1` in some of the rows here.
@@ -88,7 +63,7 @@ fn all_used(s: &[u8], at: usize, r: usize, marks: &mut [u8]) -> bool
 {
     let mut base = 0;
     while base < r {
-        let k = smaller(r - base, blif_lines::WINDOW);
+        let k = blif_lines::WINDOW.min(r - base);
         if !is_used(s, at, r, base, k, marks) {
             return false;
         }
@@ -107,47 +82,25 @@ fn is_among(m: usize, name: Label) -> bool
     }
 }
 
-// No block.
-fn no_block(at: usize) -> Found
-    ensures { result.is ≡ false }
-{
-    Found {
-        is: false,
-        name: Label::Variable(0),
-        rows: 0,
-        top: 0,
-        next: at,
-    }
-}
-
 // The block here, after `.names` and its space; an output is one of m.
-fn read_block(s: &[u8], at: usize, m: usize, marks: &mut [u8]) -> Found
+fn read_block(s: &[u8], at: usize, m: usize, marks: &mut [u8]) -> Option<Found>
     requires { Window marks.old }
     ensures { BlockIs s.now at m result × (length marks.new ≡ length marks.old) }
 {
-    let none = 0;
-    let d = blif_lines::read_names(s, at, 0, &mut marks[..none]);
-    if !d.is {
-        return no_block(at);
+    let d = blif_lines::read_names(s, at, 0, &mut [])?;
+    if !is_among(m, d.name) {
+        return None;
     }
-    let name = d.name;
-    if !is_among(m, name) {
-        return no_block(at);
-    }
-    let rows = blif_lines::read_rows(s, d.next, d.reads, 0, &mut marks[..none]);
-    if !rows.are {
-        return no_block(at);
-    }
+    let rows = blif_lines::read_rows(s, d.next, d.reads, 0, &mut [])?;
     if !all_used(s, d.next, d.reads, marks) {
-        return no_block(at);
+        return None;
     }
-    Found {
-        is: true,
-        name,
+    Some(Found {
+        name: d.name,
         rows: rows.count,
         top: d.top,
         next: rows.next,
-    }
+    })
 }
 
 // ---- all blocks
@@ -156,54 +109,37 @@ fn read_block(s: &[u8], at: usize, m: usize, marks: &mut [u8]) -> Found
 fn is_end(s: &[u8], at: usize) -> bool
     ensures { EndingIs s.now at result }
 {
-    let e = blif_scan::keyword(s, at, b".end");
-    match e {
-        Ended::Space(_) => false,
-        Ended::Line(p) => {
-            let n = blif_scan::read_byte(s, p);
-            match n {
-                Next::Byte(_, _) => false,
-                Next::End => true,
-            }
-        }
-        Ended::Finish => true,
-        Ended::No => false,
+    match blif_scan::keyword(s, at, b".end") {
+        Some(Ended::Line(p)) => blif_scan::read_byte(s, p).is_none(),
+        Some(Ended::Finish) => true,
+        Some(Ended::Space(_)) => false,
+        None => false,
     }
 }
 
 // The blocks here, and `.end`, in one pass with the marks that are lent.
-fn walk(s: &[u8], at: usize, m: usize, marks: &mut [u8]) -> Blocks
+fn walk(s: &[u8], at: usize, m: usize, marks: &mut [u8]) -> Option<Blocks>
     requires { Window marks.old }
     ensures { BlocksIs s.now at m result }
 {
     let mut p = at;
-    let mut rows = 0;
-    let mut top = 0;
-    loop {
-        let e = blif_scan::keyword(s, p, b".names");
-        let Ended::Space(q) = e else {
-            return Blocks {
-                are: is_end(s, p),
-                rows,
-                top,
-            };
-        };
-        let b = read_block(s, q, m, marks);
-        if !b.is {
-            return Blocks {
-                are: false,
-                rows: 0,
-                top: 0,
-            };
-        }
-        rows = more_rows(rows, b.rows);
-        top = larger(top, b.top);
+    let mut rows = 0usize;
+    let mut top = 0usize;
+    while let Some(q) = begin(s, p) {
+        let b = read_block(s, q, m, marks)?;
+        rows = rows.saturating_add(b.rows).min(network::MOST_CUBES + 1);
+        top = top.max(b.top);
         p = b.next;
+    }
+    if is_end(s, p) {
+        Some(Blocks { rows, top })
+    } else {
+        None
     }
 }
 
 // The blocks here, and `.end`.
-fn read_blocks(s: &[u8], at: usize, m: usize) -> Blocks
+fn read_blocks(s: &[u8], at: usize, m: usize) -> Option<Blocks>
     ensures { BlocksIs s.now at m result }
 {
     let mut marks = [0u8; blif_lines::WINDOW];
@@ -212,38 +148,17 @@ fn read_blocks(s: &[u8], at: usize, m: usize) -> Blocks
 
 // ---- the whole text
 
-// No text of the form.
-fn no_survey() -> Survey
-    ensures { result.is ≡ false }
-{
-    Survey {
-        is: false,
-        inputs: 0,
-        outputs: 0,
-        rows: 0,
-        top: 0,
-        first: 0,
-    }
-}
-
 // The whole text.
-pub fn take_survey(s: &[u8]) -> Survey
+pub fn take_survey(s: &[u8]) -> Option<Survey>
     ensures { SurveyIs s.now result }
 {
-    let h = blif_scan::read_head(s);
-    let Head::Is(n, m, p) = h else {
-        return no_survey();
-    };
-    let b = read_blocks(s, p, m);
-    if !b.are {
-        return no_survey();
-    }
-    Survey {
-        is: true,
-        inputs: n,
-        outputs: m,
+    let h = blif_scan::read_head(s)?;
+    let b = read_blocks(s, h.first, h.outputs)?;
+    Some(Survey {
+        inputs: h.inputs,
+        outputs: h.outputs,
         rows: b.rows,
-        top: larger(n, b.top),
-        first: p,
-    }
+        top: h.inputs.max(b.top),
+        first: h.first,
+    })
 }

@@ -1,4 +1,5 @@
 -- The line of names: a text holds the words of one line only, so that a walk from name to name finds it wherever it is. Assumes nothing.
+use Rattle.std.specs.Prelude.{Some, None}
 use Prim.Native.Nat.{ℕ, ◌+◌, ◌<◌, ◌≤◌, max}
 use mathlib.Core.Path.{◌≡◌, refl, sym, ◌∙◌, ap, ap₂}
 use mathlib.Core.{Logic.inl, Logic.inr, Bool.true, Bool.false}
@@ -16,12 +17,12 @@ use Rattle.sets.proofs.Lists.{◌∈◌, all-out, all_append, ahead, pairwise_ap
 use Rattle.letters.specs.Letters.{name_text}
 use Rattle.blif_laws.specs.Text.{Name, variable, output, name_word, spaced}
 use Rattle.blif_laws.{specs.Reading.Named, specs.Meaning.is_clear, proofs.Naming.name-clear, proofs.Naming.name-one}
-use Rattle.blif_scan.specs.Scanning.{left, Forth, label_of, Small, Starts, by_space, by_line, CalledIs, CalledBy}
+use Rattle.blif_scan.specs.Scanning.{left, label_of, Small, Starts, by_space, by_line, CalledIs}
 use Rattle.blif_scan.proofs.Scanning.{stays}
-use Rattle.blif_lines.specs.{Marking.Raised, declared.Turn.Turn}
-use Rattle.blif_lines.specs.Lining.{words_of, variable_in, numbers_in, top_of, Ascends, NamesGot, NamesNot, is_next, read_turn, last_turn, turn_by, turn_of}
+use Rattle.blif_lines.specs.{Marking.Raised}
+use Rattle.blif_lines.specs.Lining.{words_of, variable_in, numbers_in, top_of, Ascends, NamesGot, NamesNot, is_next, turn_of}
 use Rattle.blif_lines.specs.Lining.{Follows, Comes, LineFrom, TurnIs, top_after, LastMarked}
-use Rattle.blif_scan.specs.declared.{Ended.Ended, Label.Label, Called.Called}
+use Rattle.blif_scan.specs.declared.{Ended.Ended, Label.Label}
 use Rattle.blif_lines.proofs.Marking.{raised-none, raised-on}
 
 -- ---- words
@@ -156,34 +157,31 @@ module _ (s : List ℕ) (at least : ℕ) where
       let x = both (leb least v) (ltb v largest) h in
       (omega (arith, leb-true least v x.0), omega (arith, ltb-true v largest x.1))
 
-  read_is : (a : Label) (p : ℕ) → left s at ≡ name_word (label_of a) ++ (32 ∷ left s p) → Forth s at p → TurnIs s at least (read_turn least a p)
-  read_is (Label.Variable v) p e f = elim (decided (is_next least v)) [
+  -- a name, and what ends it
+  pub turn_is : (a : Label) (e : Ended) → CalledIs s at (Some (a, e)) → TurnIs s at least (turn_of least a e)
+  turn_is (Label.Variable v) (Ended.Space p) (e, f) = elim (decided (is_next least v)) [
     | inl t ↦ rw t (record { text = e; forth = f; follows = next-from v t })
     | inr t ↦ rw t (λ d r l.
         let x = front-space least (left s at) (variable v) (left s p) e (front_of least (left s at) d r l) in
         let w : x.0 ≡ v = cc in
         clash (ap (is_next least) (sym w) ∙ x.2) t)
   ]
-  read_is (Label.Output j) p e f = λ d r l.
-      let x = front-space least (left s at) (output j) (left s p) e (front_of least (left s at) d r l) in
-      let z : ◌≡◌ {A = ℕ} 0 1 = cc in
-      omega arith
-
-  last-is : (a : Label) (p : ℕ) → left s at ≡ name_word (label_of a) ++ (10 ∷ left s p) → Forth s at p → TurnIs s at least (last_turn least a p)
-  last-is (Label.Variable v) p e f = elim (decided (is_next least v)) [
+  turn_is (Label.Variable v) (Ended.Line p) (e, f) = elim (decided (is_next least v)) [
     | inl t ↦ rw t (record { text = e; forth = f; follows = next-from v t })
     | inr t ↦ rw t (λ d r l. clash (front-line least (left s at) (variable v) (left s p) e (front_of least (left s at) d r l) v refl) t)
   ]
-  last-is (Label.Output j) p e f = record { text = e; forth = f; follows = λ v i. let z : ◌≡◌ {A = ℕ} 0 1 = cc in absurd (omega arith) }
+  turn_is (Label.Output j) (Ended.Space p) (e, f) = λ d r l.
+      let x = front-space least (left s at) (output j) (left s p) e (front_of least (left s at) d r l) in
+      let z : ◌≡◌ {A = ℕ} 0 1 = cc in
+      omega arith
+  turn_is (Label.Output j) (Ended.Line p) (e, f) =
+      record { text = e; forth = f; follows = λ v i. let z : ◌≡◌ {A = ℕ} 0 1 = cc in absurd (omega arith) }
+  turn_is (Label.Variable v) Ended.Finish h = λ d r l. front-end least (left s at) (variable v) h (front_of least (left s at) d r l)
+  turn_is (Label.Output j) Ended.Finish h = λ d r l. front-end least (left s at) (output j) h (front_of least (left s at) d r l)
 
-  by_end_lem : (a : Label) (e : Ended) → CalledBy s at (label_of a) e → TurnIs s at least (turn_by least a e)
-  by_end_lem a (Ended.Space p) h = read_is a p h.0 h.1
-  by_end_lem a (Ended.Line p) h = last-is a p h.0 h.1
-  by_end_lem a Ended.Finish h = λ d r l. front-end least (left s at) (label_of a) h (front_of least (left s at) d r l)
-  by_end_lem a Ended.No h = λ d r l. front-none least (left s at) h (front_of least (left s at) d r l)
-
-  pub turn_is : (c : Called) → CalledIs s at c → TurnIs s at least (turn_of least c)
-  turn_is c h = by_end_lem c.name c.ended h
+  -- no name
+  pub turn-none : CalledIs s at None → TurnIs s at least None
+  turn-none h = λ d r l. front-none least (left s at) h (front_of least (left s at) d r l)
 
 -- ---- names one after the other
 
@@ -273,7 +271,7 @@ module _ {s : List ℕ} {at p least reads base : ℕ} {o m : List ℕ} (x : Pass
   top-last (output j) f = rw append-nil x.top
 
   pub passing-last : (a : Label) (top q : ℕ) {n : List ℕ} → Comes s p least (label_of a) 10 q → LastMarked base least (label_of a) m n top
-      → NamesGot s at base o n (record { is = true; name = a; reads = reads; top = top; next = q })
+      → NamesGot s at base o n (record { name = a; reads = reads; top = top; next = q })
   passing-last a top q y z = record {
     named = named x.got (label_of a);
     ascends = ascends-last (label_of a) y.follows z.small;
@@ -286,7 +284,7 @@ module _ {s : List ℕ} {at p least reads base : ℕ} {o m : List ℕ} (x : Pass
   }
 
   -- and where none comes, there was no line
-  pub passing-no : TurnIs s p least Turn.No → NamesNot s at o m
+  pub passing-no : TurnIs s p least None → NamesNot s at o m
   passing-no f = record {
     size = x.marks.size;
     none = λ d r a e.

@@ -1,5 +1,6 @@
 -- Rows of signs: a text holds one row only of so many signs, so that a walk from sign to sign and from row to row finds them wherever they are.
 -- Assumes nothing.
+use Rattle.std.specs.Prelude.{Option, Some, None}
 use Prim.Native.Nat.{ℕ, zero, suc, ◌+◌, ◌<◌, ◌≤◌}
 use mathlib.Core.Path.{◌≡◌, refl, sym, ◌∙◌, ap, subst}
 use mathlib.Core.{Logic.inl, Logic.inr, Bool.true, Bool.false}
@@ -19,8 +20,8 @@ use Rattle.table_rows.specs.Lines.{is_place}
 use Rattle.network.{proofs.Handing.flat-last}
 use Rattle.blif_laws.specs.{Text.ended, Reading.pointed}
 use Rattle.blif_scan.specs.Scanning.{left, by_line, NextIs, EndedIs}
-use Rattle.blif_scan.{proofs.Heading.ended-apart, specs.declared.Next.Next, specs.declared.Ended.Ended}
-use Rattle.blif_lines.specs.{Marking.Raised, declared.Row.Row}
+use Rattle.blif_scan.{proofs.Heading.ended-apart, specs.declared.Ended.Ended}
+use Rattle.blif_lines.specs.Marking.{Raised}
 use Rattle.blif_lines.specs.Lining.{Signs, row_line, row_end, signed, signed_in, SignIs, SignsGot, SignsNot, space_after, SpaceIs, EndIs}
 use Rattle.blif_lines.specs.Lining.{RowGot, RowNot, RowIs, RowsOf, RowsGot, RowsNot}
 use Rattle.blif_lines.proofs.Marking.{raised-none, raised-on}
@@ -77,7 +78,7 @@ signs-none s at base o = record {
 }
 
 module _ {s : List ℕ} {at i base : ℕ} {o m : List ℕ} {p : ℕ} (x : SignsGot s at i base o m p) where
-  pub signs-next : (b q : ℕ) {n : List ℕ} → SignIs s p (Next.Byte b q) → Raised base (signed i (b ∷ [])) m n → SignsGot s at (i + 1) base o n q
+  pub signs-next : (b q : ℕ) {n : List ℕ} → SignIs s p (Some (b, q)) → Raised base (signed i (b ∷ [])) m n → SignsGot s at (i + 1) base o n q
   signs-next b q {n} y z = record {
     word = x.word ++ (b ∷ []);
     signs = record {
@@ -92,7 +93,7 @@ module _ {s : List ℕ} {at i base : ℕ} {o m : List ℕ} {p : ℕ} (x : SignsG
   }
 
   -- a byte that is no sign leaves no word of more signs
-  pub signs-stop : (r : ℕ) → i < r → SignIs s p Next.End → SignsNot s at r o m
+  pub signs-stop : (r : ℕ) → i < r → SignIs s p None → SignsNot s at r o m
   signs-stop r h f = record {
     size = x.marks.size;
     none = λ w t g e.
@@ -103,37 +104,37 @@ module _ {s : List ℕ} {at i base : ℕ} {o m : List ℕ} {p : ℕ} (x : SignsG
 -- ---- the next byte
 
 module _ (s : List ℕ) (at : ℕ) where
-  pub sign-byte : (b p : ℕ) → NextIs s at (Next.Byte b p) → is_place b ≡ true → SignIs s at (Next.Byte b p)
+  pub sign-byte : (b p : ℕ) → NextIs s at (Some (b, p)) → is_place b ≡ true → SignIs s at (Some (b, p))
   sign-byte b p x h = (x.0, x.1, h)
 
-  pub sign-other : (b p : ℕ) → NextIs s at (Next.Byte b p) → is_place b ≡ false → SignIs s at Next.End
+  pub sign-other : (b p : ℕ) → NextIs s at (Some (b, p)) → is_place b ≡ false → SignIs s at None
   sign-other b p x h d t k e = let a = x.0 in let i : d ≡ b = cc in clash k (ap is_place i ∙ h)
 
-  pub sign-end : NextIs s at Next.End → SignIs s at Next.End
+  pub sign-end : NextIs s at None → SignIs s at None
   sign-end x d t k e = let z : ◌≡◌ {A = ℕ} 0 1 = cc in omega arith
 
-  pub point-byte : (b p : ℕ) → NextIs s at (Next.Byte b p) → eqb b 46 ≡ pointed (left s at)
+  pub point-byte : (b p : ℕ) → NextIs s at (Some (b, p)) → eqb b 46 ≡ pointed (left s at)
   point-byte b p x = sym (ap pointed x.0)
 
-  pub point-end : NextIs s at Next.End → false ≡ pointed (left s at)
+  pub point-end : NextIs s at None → false ≡ pointed (left s at)
   point-end x = sym (ap pointed x)
 
   space-some : (r : ℕ) → (r ≡ 0 → ⊥) → space_after r ≡ 32 ∷ []
   space-some zero h = absurd (h refl)
   space-some (suc r) h = refl
 
-  pub space-none : (r : ℕ) → r ≡ 0 → SpaceIs s at r (Row.At at)
+  pub space-none : (r : ℕ) → r ≡ 0 → SpaceIs s at r (Some at)
   space-none r h = (ap (λ (k : ℕ). space_after k ++ left s at) (sym h), record { on = omega arith; within = λ k. k })
 
   module _ (r : ℕ) (n : r ≡ 0 → ⊥) where
-    pub space-got : (b p : ℕ) → NextIs s at (Next.Byte b p) → b ≡ 32 → SpaceIs s at r (Row.At p)
+    pub space-got : (b p : ℕ) → NextIs s at (Some (b, p)) → b ≡ 32 → SpaceIs s at r (Some p)
     space-got b p x h =
         (x.0 ∙ ap (◌∷ left s p) h ∙ ap (◌++ left s p) (sym (space-some r n)), record { on = omega (arith, x.1.on); within = λ k. x.1.within })
 
-    pub space-other : (b p : ℕ) → NextIs s at (Next.Byte b p) → (b ≡ 32 → ⊥) → SpaceIs s at r Row.No
+    pub space-other : (b p : ℕ) → NextIs s at (Some (b, p)) → (b ≡ 32 → ⊥) → SpaceIs s at r None
     space-other b p x h t e = let a = x.0 in let f : left s at ≡ 32 ∷ t = e ∙ ap (◌++ t) (space-some r n) in h (cc)
 
-    pub space-end : NextIs s at Next.End → SpaceIs s at r Row.No
+    pub space-end : NextIs s at None → SpaceIs s at r None
     space-end x t e = let f : left s at ≡ 32 ∷ t = e ∙ ap (◌++ t) (space-some r n) in let z : ◌≡◌ {A = ℕ} 0 1 = cc in omega arith
 
 -- ---- the end of a row
@@ -156,22 +157,23 @@ module _ (s : List ℕ) (at r : ℕ) where
   end-text : (t : List ℕ) → row_end r ++ (10 ∷ t) ≡ space_after r ++ (49 ∷ 10 ∷ t)
   end-text t = ap (◌++ (10 ∷ t)) (end-as r) ∙ append_assoc (space_after r) (49 ∷ []) (10 ∷ t)
 
-  pub end-spaceless : SpaceIs s at r Row.No → EndIs s at r Row.No
+  pub end-spaceless : SpaceIs s at r None → EndIs s at r None
   end-spaceless f t e = f (49 ∷ 10 ∷ t) (e ∙ end-text t)
 
-  pub end-got : (p q : ℕ) → SpaceIs s at r (Row.At p) → EndedIs s p (49 ∷ []) (Ended.Line q) → EndIs s at r (Row.At q)
+  pub end-got : (p q : ℕ) → SpaceIs s at r (Some p) → EndedIs s p (49 ∷ []) (Some (Ended.Line q)) → EndIs s at r (Some q)
   end-got p q x y = (x.0 ∙ ap (space_after r ++◌) y.0 ∙ sym (end-text (left s q)), record { on = omega (arith, x.1.on, y.1.on); within = y.1.within })
 
   -- after the space `1` and an LF are all that may come
-  not_line : (p : ℕ) (e : Ended) → EndedIs s p (49 ∷ []) e → ((q : ℕ) → e ≡ Ended.Line q → ⊥) → (t : List ℕ) → left s p ≡ 49 ∷ 10 ∷ t → ⊥
-  not_line p (Ended.Space q) h f t e = let a = h.0 in let z : ◌≡◌ {A = ℕ} 32 10 = cc in omega arith
-  not_line p (Ended.Line q) h f t e = f q refl
-  not_line p Ended.Finish h f t e = let z : ◌≡◌ {A = ℕ} 0 1 = cc in omega arith
-  not_line p Ended.No h f t e = h (by_line t e)
+  end-text-one : (p : ℕ) → SpaceIs s at r (Some p) → (t : List ℕ) → left s at ≡ row_end r ++ (10 ∷ t) → left s p ≡ 49 ∷ 10 ∷ t
+  end-text-one p x t i = (one-front (space_after r) (space_after r) (left s p) (49 ∷ 10 ∷ t) refl (sym x.0 ∙ i ∙ end-text t)).1
 
-  pub end-other : (p : ℕ) (e : Ended) → SpaceIs s at r (Row.At p) → EndedIs s p (49 ∷ []) e → ((q : ℕ) → e ≡ Ended.Line q → ⊥) → EndIs s at r Row.No
-  end-other p e x h f t i =
-      not_line p e h f t (one-front (space_after r) (space_after r) (left s p) (49 ∷ 10 ∷ t) refl (sym x.0 ∙ i ∙ end-text t)).1
+  pub end-wordless : (p : ℕ) → SpaceIs s at r (Some p) → EndedIs s p (49 ∷ []) None → EndIs s at r None
+  end-wordless p x h t i = h (by_line t (end-text-one p x t i))
+
+  pub end-other : (p : ℕ) (e : Ended) → SpaceIs s at r (Some p) → EndedIs s p (49 ∷ []) (Some e) → ((q : ℕ) → e ≡ Ended.Line q → ⊥) → EndIs s at r None
+  end-other p (Ended.Space q) x h f t i = let a = end-text-one p x t i in let b = h.0 in let z : ◌≡◌ {A = ℕ} 32 10 = cc in omega arith
+  end-other p (Ended.Line q) x h f t i = f q refl
+  end-other p Ended.Finish x h f t i = let a = end-text-one p x t i in let z : ◌≡◌ {A = ℕ} 0 1 = cc in omega arith
 
 -- ---- a row
 
@@ -179,15 +181,15 @@ pub row-signless : {s : List ℕ} {at r : ℕ} {o n : List ℕ} → SignsNot s a
 row-signless {r = r} x = record { size = x.size; none = λ w t g e. x.none w (row_end r ++ (10 ∷ t)) g (e ∙ row-text r w t g) }
 
 module _ {s : List ℕ} {at r base : ℕ} {o n : List ℕ} {p : ℕ} (x : SignsGot s at r base o n p) where
-  pub row_is : (a : Row) → EndIs s p r a → RowIs s at r base o n a
-  row_is (Row.At q) y = record {
+  pub row_is : (a : Option ℕ) → EndIs s p r a → RowIs s at r base o n a
+  row_is (Some q) y = record {
     word = x.word;
     signs = x.signs;
     text = x.text ∙ ap (x.word ++◌) y.0 ∙ sym (row-text r x.word (left s q) x.signs);
     forth = record { on = omega (arith, x.onward.on, y.1.on); within = y.1.within };
     marks = x.marks;
   }
-  row_is Row.No y = record {
+  row_is None y = record {
     size = x.marks.size;
     none = λ w t g e.
         y t (one-front x.word w (left s p) (row_end r ++ (10 ∷ t)) (x.signs.number ∙ sym g.number) (sym x.text ∙ e ∙ row-text r w t g)).1;
@@ -276,7 +278,7 @@ module _ {s : List ℕ} {at r p count base : ℕ} {o m : List ℕ} (x : Rowing s
     marks = rw (map-append (signed 0) x.words (y.word ∷ []), flat-last (map (signed 0) x.words) (signed 0 y.word)) (raised-on x.marks y.marks);
   }
 
-  pub rowing-got : pointed (left s p) ≡ true → RowsGot s at r base o m (record { are = true; count = count; next = p })
+  pub rowing-got : pointed (left s p) ≡ true → RowsGot s at r base o m (record { count = count; next = p })
   rowing-got c = record {
     words = x.words;
     rows = record { each = x.each; text = x.text ∙ sym (rows_of x.words (left s p)); point = c };

@@ -1,5 +1,5 @@
 -- What the lines of a block hold: names, and rows of signs.
-use Rattle.std.specs.Prelude.{ℕ, zero, suc, ◌+◌, ◌<◌, ◌≤◌, max, ◌≡◌, Bool, true, false, cond, ◌&&◌, eqb, leb, ltb, length}
+use Rattle.std.specs.Prelude.{ℕ, Option, Some, None, zero, suc, ◌+◌, ◌<◌, ◌≤◌, max, ◌≡◌, Bool, true, cond, ◌&&◌, eqb, leb, ltb, length}
 use mathlib.Core.List.{List, [], ◌∷◌, ◌++◌, map, Memᴰ}
 use Rattle.sets.specs.{Lists.all, Sets.asc, Word.largest}
 use Rattle.letters.specs.Letters.{name_text}
@@ -9,8 +9,8 @@ use Rattle.network.specs.Handed.{flat}
 use Rattle.blif_laws.specs.Text.{Name, variable, output, name_word, spaced, ended}
 use Rattle.blif_laws.specs.Reading.{Named, pointed}
 use Rattle.blif_scan.specs.Scanning.{left, Forth, label_of, Small}
-use Rattle.blif_lines.specs.{Marking.Raised, declared.Names.Names, declared.Row.Row, declared.Rows.Rows}
-use Rattle.blif_scan.specs.declared.{Next.Next, Ended.Ended, Label.Label, Called.Called}
+use Rattle.blif_lines.specs.{Marking.Raised, declared.Names.Names, declared.Rows.Rows}
+use Rattle.blif_scan.specs.declared.{Ended.Ended, Label.Label}
 use Rattle.blif_lines.specs.declared.Turn.{Turn}
 
 -- ---- names
@@ -55,34 +55,22 @@ pub record NamesNot (s : List ℕ) (at : ℕ) (old new : List ℕ) : Type 0 wher
   pub size : length new ≡ length old
   pub none : (d : Named) (r : List ℕ) → Ascends d → left s at ≡ spaced (words_of d) ++ (10 ∷ r) → ⊥
 
-abbrev pub NamesBy : Bool → List ℕ → ℕ → ℕ → List ℕ → List ℕ → Names → Type 0
-NamesBy true s at base old new r = NamesGot s at base old new r
-NamesBy false s at base old new r = NamesNot s at old new
-
-abbrev pub NamesIs : List ℕ → ℕ → ℕ → List ℕ → List ℕ → Names → Type 0
-NamesIs s at base old new r = NamesBy r.is s at base old new r
+abbrev pub NamesIs : List ℕ → ℕ → ℕ → List ℕ → List ℕ → Option Names → Type 0
+NamesIs s at base old new (Some r) = NamesGot s at base old new r
+NamesIs s at base old new None = NamesNot s at old new
 
 -- a variable that may be the next: from `least` on, and a machine word holds one more than it
 abbrev pub is_next : ℕ → ℕ → Bool
 is_next least v = leb least v && ltb v largest
 
 -- what a name is that a space ends, and one that an LF ends
-abbrev pub read_turn : ℕ → Label → ℕ → Turn
-read_turn least (Label.Variable v) p = cond (is_next least v) (Turn.Read v p) Turn.No
-read_turn least (Label.Output j) p = Turn.No
-
-abbrev pub last_turn : ℕ → Label → ℕ → Turn
-last_turn least (Label.Variable v) p = cond (is_next least v) (Turn.Last (Label.Variable v) p) Turn.No
-last_turn least (Label.Output j) p = Turn.Last (Label.Output j) p
-
-abbrev pub turn_by : ℕ → Label → Ended → Turn
-turn_by least a (Ended.Space p) = read_turn least a p
-turn_by least a (Ended.Line p) = last_turn least a p
-turn_by least a Ended.Finish = Turn.No
-turn_by least a Ended.No = Turn.No
-
-abbrev pub turn_of : ℕ → Called → Turn
-turn_of least c = turn_by least c.name c.ended
+abbrev pub turn_of : ℕ → Label → Ended → Option Turn
+turn_of least (Label.Variable v) (Ended.Space p) = cond (is_next least v) (Some (Turn.Read v p)) None
+turn_of least (Label.Variable v) (Ended.Line p) = cond (is_next least v) (Some (Turn.Last (Label.Variable v) p)) None
+turn_of least (Label.Variable v) Ended.Finish = None
+turn_of least (Label.Output j) (Ended.Space p) = None
+turn_of least (Label.Output j) (Ended.Line p) = Some (Turn.Last (Label.Output j) p)
+turn_of least (Label.Output j) Ended.Finish = None
 
 -- a name that may come next: a variable from `least` on, one more than which a machine word holds, or any output
 abbrev pub Follows : ℕ → Name → Type 0
@@ -100,10 +88,10 @@ pub record LineFrom (least : ℕ) (t : List ℕ) (d : Named) (r : List ℕ) : Ty
   pub from : (v : ℕ) → Memᴰ v (numbers_in d) → least ≤ v
   pub text : t ≡ spaced (words_of d) ++ (10 ∷ r)
 
-abbrev pub TurnIs : List ℕ → ℕ → ℕ → Turn → Type 0
-TurnIs s at least (Turn.Read v p) = Comes s at least (variable v) 32 p
-TurnIs s at least (Turn.Last a p) = Comes s at least (label_of a) 10 p
-TurnIs s at least Turn.No = (d : Named) (r : List ℕ) → LineFrom least (left s at) d r → ⊥
+abbrev pub TurnIs : List ℕ → ℕ → ℕ → Option Turn → Type 0
+TurnIs s at least (Some (Turn.Read v p)) = Comes s at least (variable v) 32 p
+TurnIs s at least (Some (Turn.Last a p)) = Comes s at least (label_of a) 10 p
+TurnIs s at least None = (d : Named) (r : List ℕ) → LineFrom least (left s at) d r → ⊥
 
 -- one more than the largest variable, where those before are below `least`
 abbrev pub top_after : ℕ → Name → ℕ
@@ -139,9 +127,9 @@ row_end zero = spelled "1"
 row_end (suc r) = spelled " 1"
 
 -- the next byte is a sign; or none stands here
-abbrev pub SignIs : List ℕ → ℕ → Next → Type 0
-SignIs s at (Next.Byte b p) = (left s at ≡ b ∷ left s p) × Forth s at p × (is_place b ≡ true)
-SignIs s at Next.End = (b : ℕ) (t : List ℕ) → is_place b ≡ true → left s at ≡ b ∷ t → ⊥
+abbrev pub SignIs : List ℕ → ℕ → Option (ℕ × ℕ) → Type 0
+SignIs s at (Some (b, p)) = (left s at ≡ b ∷ left s p) × Forth s at p × (is_place b ≡ true)
+SignIs s at None = (b : ℕ) (t : List ℕ) → is_place b ≡ true → left s at ≡ b ∷ t → ⊥
 
 -- a place that is no earlier, and in the text where the other is
 pub record Onward (s : List ℕ) (at p : ℕ) : Type 0 where
@@ -159,22 +147,22 @@ pub record SignsNot (s : List ℕ) (at r : ℕ) (old new : List ℕ) : Type 0 wh
   pub size : length new ≡ length old
   pub none : (w t : List ℕ) → Signs r w → left s at ≡ w ++ t → ⊥
 
-abbrev pub SignsIs : List ℕ → ℕ → ℕ → ℕ → List ℕ → List ℕ → Row → Type 0
-SignsIs s at r base old new (Row.At p) = SignsGot s at r base old new p
-SignsIs s at r base old new Row.No = SignsNot s at r old new
+abbrev pub SignsIs : List ℕ → ℕ → ℕ → ℕ → List ℕ → List ℕ → Option ℕ → Type 0
+SignsIs s at r base old new (Some p) = SignsGot s at r base old new p
+SignsIs s at r base old new None = SignsNot s at r old new
 
 -- a space after signs, nothing where there are none
 abbrev pub space_after : ℕ → List ℕ
 space_after zero = []
 space_after (suc r) = 32 ∷ []
 
-abbrev pub SpaceIs : List ℕ → ℕ → ℕ → Row → Type 0
-SpaceIs s at r (Row.At p) = (left s at ≡ space_after r ++ left s p) × Onward s at p
-SpaceIs s at r Row.No = (t : List ℕ) → left s at ≡ space_after r ++ t → ⊥
+abbrev pub SpaceIs : List ℕ → ℕ → ℕ → Option ℕ → Type 0
+SpaceIs s at r (Some p) = (left s at ≡ space_after r ++ left s p) × Onward s at p
+SpaceIs s at r None = (t : List ℕ) → left s at ≡ space_after r ++ t → ⊥
 
-abbrev pub EndIs : List ℕ → ℕ → ℕ → Row → Type 0
-EndIs s at r (Row.At p) = (left s at ≡ row_end r ++ (10 ∷ left s p)) × Forth s at p
-EndIs s at r Row.No = (t : List ℕ) → left s at ≡ row_end r ++ (10 ∷ t) → ⊥
+abbrev pub EndIs : List ℕ → ℕ → ℕ → Option ℕ → Type 0
+EndIs s at r (Some p) = (left s at ≡ row_end r ++ (10 ∷ left s p)) × Forth s at p
+EndIs s at r None = (t : List ℕ) → left s at ≡ row_end r ++ (10 ∷ t) → ⊥
 
 pub record RowGot (s : List ℕ) (at r base : ℕ) (old new : List ℕ) (p : ℕ) : Type 0 where
   pub word : List ℕ
@@ -187,9 +175,9 @@ pub record RowNot (s : List ℕ) (at r : ℕ) (old new : List ℕ) : Type 0 wher
   pub size : length new ≡ length old
   pub none : (w t : List ℕ) → Signs r w → left s at ≡ row_line w ++ (10 ∷ t) → ⊥
 
-abbrev pub RowIs : List ℕ → ℕ → ℕ → ℕ → List ℕ → List ℕ → Row → Type 0
-RowIs s at r base old new (Row.At p) = RowGot s at r base old new p
-RowIs s at r base old new Row.No = RowNot s at r old new
+abbrev pub RowIs : List ℕ → ℕ → ℕ → ℕ → List ℕ → List ℕ → Option ℕ → Type 0
+RowIs s at r base old new (Some p) = RowGot s at r base old new p
+RowIs s at r base old new None = RowNot s at r old new
 
 -- rows of r signs, and then what begins with a point
 pub record RowsOf (t : List ℕ) (r : ℕ) (ws : List (List ℕ)) (more : List ℕ) : Type 0 where
@@ -213,9 +201,6 @@ pub record RowsNot (s : List ℕ) (at r : ℕ) (old new : List ℕ) : Type 0 whe
   pub size : length new ≡ length old
   pub none : (ws : List (List ℕ)) (t : List ℕ) → RowsOf (left s at) r ws t → ⊥
 
-abbrev pub RowsBy : Bool → List ℕ → ℕ → ℕ → ℕ → List ℕ → List ℕ → Rows → Type 0
-RowsBy true s at r base old new a = RowsGot s at r base old new a
-RowsBy false s at r base old new a = RowsNot s at r old new
-
-abbrev pub RowsIs : List ℕ → ℕ → ℕ → ℕ → List ℕ → List ℕ → Rows → Type 0
-RowsIs s at r base old new a = RowsBy a.are s at r base old new a
+abbrev pub RowsIs : List ℕ → ℕ → ℕ → ℕ → List ℕ → List ℕ → Option Rows → Type 0
+RowsIs s at r base old new (Some a) = RowsGot s at r base old new a
+RowsIs s at r base old new None = RowsNot s at r old new

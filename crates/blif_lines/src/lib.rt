@@ -1,16 +1,17 @@
-// The lines of a block: names, and rows. Numbers are counted in a window: mark i counts the number base + i, up to 2.
+// The lines of a block: names, and rows. Numbers are counted in a window: mark i counts the number base + i, up to 2. Where another line
+// stands, nothing is answered.
 #![tactic(auto)]
 
-ghost use Rattle.std.specs.Prelude.{◌≡◌, [], ◌∷◌, min, leb, eqb, take};
+ghost use Rattle.std.specs.Prelude.{◌≡◌, [], ◌∷◌, leb, eqb, take};
 ghost use Rattle.sets.specs.Lists.{all};
 ghost use Rattle.blif_lines.specs.Marking.{Raised, Cleared};
 ghost use Rattle.table_rows.specs.Lines.{is_place};
 ghost use Rattle.blif_laws.specs.Reading.{pointed};
 ghost use Rattle.blif_scan.specs.Scanning.{left, label_of};
-ghost use Rattle.blif_lines.specs.Lining.{NamesIs, RowIs, RowsIs, is_next, read_turn, last_turn, turn_of, TurnIs, Follows, LastMarked, signed};
+ghost use Rattle.blif_lines.specs.Lining.{NamesIs, RowIs, RowsIs, is_next, turn_of, TurnIs, Follows, LastMarked, signed};
 ghost use Rattle.blif_lines.specs.Lining.{SignIs, SignsIs, SpaceIs, EndIs};
 
-use blif_scan::{Called, Ended, Label, Next};
+use blif_scan::{Ended, Label};
 
 // How many numbers a window has.
 pub const WINDOW: usize = 65536;
@@ -19,156 +20,86 @@ pub const WINDOW: usize = 65536;
 pub fn mark(marks: &mut [u8], base: usize, v: usize)
     ensures { Raised base (v ∷ []) marks.old marks.new }
 {
-    if v < base {
+    let Some(i) = v.checked_sub(base) else {
         return;
+    };
+    if i < marks.len() && marks[i] < 2 {
+        marks[i] += 1;
     }
-    let i = v - base;
-    if marks.len() <= i {
-        return;
-    }
-    let n = marks[i];
-    if n < 2 {
-        marks[i] = n + 1;
-    }
-}
-
-fn least(a: usize, b: usize) -> usize
-    ensures { result ≡ min a b }
-{
-    if a <= b { a } else { b }
 }
 
 // The first k marks count nothing.
 pub fn clear(marks: &mut [u8], k: usize)
     ensures { Cleared k marks.old marks.new }
 {
-    let n = least(k, marks.len());
-    let mut i = 0;
-    while i < n {
-        marks[i] = 0;
-        i += 1;
-    }
+    let n = k.min(marks.len());
+    marks[..n].fill(0);
 }
 
 // Whether each of the first k marks, of those that there are, counts one or more.
 pub fn all_met(marks: &[u8], k: usize) -> bool
     ensures { result ≡ all (λ x. leb 1 x) (take k marks.now) }
 {
-    let n = least(k, marks.len());
-    let mut i = 0;
-    while i < n {
-        if marks[i] < 1 {
-            return false;
-        }
-        i += 1;
-    }
-    true
+    marks.iter().take(k).all(|n| *n >= 1)
 }
 
 // Whether each of the first k marks, of those that there are, counts exactly one.
 pub fn all_once(marks: &[u8], k: usize) -> bool
     ensures { result ≡ all (λ x. eqb x 1) (take k marks.now) }
 {
-    let n = least(k, marks.len());
-    let mut i = 0;
-    while i < n {
-        if marks[i] != 1 {
-            return false;
-        }
-        i += 1;
-    }
-    true
+    marks.iter().take(k).all(|n| *n == 1)
 }
 
 // The names of a block's line: what it defines, how many variables it reads, one more than the largest variable, and the place after its LF.
 #[derive(Clone, Copy)]
 pub struct Names {
-    pub is: bool,
     pub name: Label,
     pub reads: usize,
     pub top: usize,
     pub next: usize,
 }
 
-// The place after a row's LF; or it is no row.
-#[derive(Clone, Copy)]
-pub enum Row {
-    At(usize),
-    No,
-}
-
 // How many rows there are, and the place of the line that begins with a point after them.
 #[derive(Clone, Copy)]
 pub struct Rows {
-    pub are: bool,
     pub count: usize,
     pub next: usize,
 }
 
 // ---- names
 
-// The next name of a line: a variable that is read, and the place after its space; the name that is defined, and the place after its LF; or none.
+// The next name of a line: a variable that is read, and the place after its space; or the name that is defined, and the place after its LF.
 #[derive(Clone, Copy)]
 enum Turn {
     Read(usize, usize),
     Last(Label, usize),
-    No,
 }
 
 // Whether v may be the next variable: from `least` on, and a number that has a next.
 fn is_next(v: usize, least: usize) -> bool
     ensures { result ≡ is_next least v }
 {
-    if v < least {
-        return false;
-    }
-    v < usize::MAX
+    least <= v && v < usize::MAX
 }
 
-// A name that a space ends.
-fn read_turn(a: Label, p: usize, least: usize) -> Turn
-    ensures { result ≡ read_turn least a p }
+// The turn that a name and what ends it make.
+fn turn_of(a: Label, e: Ended, least: usize) -> Option<Turn>
+    ensures { result ≡ turn_of least a e }
 {
-    let Label::Variable(v) = a else {
-        return Turn::No;
-    };
-    if is_next(v, least) {
-        return Turn::Read(v, p);
-    }
-    Turn::No
-}
-
-// A name that an LF ends.
-fn last_turn(a: Label, p: usize, least: usize) -> Turn
-    ensures { result ≡ last_turn least a p }
-{
-    let Label::Variable(v) = a else {
-        return Turn::Last(a, p);
-    };
-    if is_next(v, least) {
-        return Turn::Last(a, p);
-    }
-    Turn::No
-}
-
-fn turn_of(c: Called, least: usize) -> Turn
-    ensures { result ≡ turn_of least c }
-{
-    let a = c.name;
-    let e = c.ended;
-    match e {
-        Ended::Space(p) => read_turn(a, p, least),
-        Ended::Line(p) => last_turn(a, p, least),
-        Ended::Finish => Turn::No,
-        Ended::No => Turn::No,
+    match (a, e) {
+        (Label::Variable(v), Ended::Space(p)) if is_next(v, least) => Some(Turn::Read(v, p)),
+        (Label::Variable(v), Ended::Line(p)) if is_next(v, least) => Some(Turn::Last(a, p)),
+        (Label::Output(_), Ended::Line(p)) => Some(Turn::Last(a, p)),
+        _ => None,
     }
 }
 
 // The next name here, a variable of it from `least` on.
-fn next_name(s: &[u8], at: usize, least: usize) -> Turn
+fn next_name(s: &[u8], at: usize, least: usize) -> Option<Turn>
     ensures { TurnIs s.now at least result }
 {
-    turn_of(blif_scan::name(s, at), least)
+    let (a, e) = blif_scan::name(s, at)?;
+    turn_of(a, e, least)
 }
 
 // The name that is defined is marked, where it is a variable; one more than the largest variable is returned.
@@ -181,44 +112,33 @@ fn mark_last(marks: &mut [u8], base: usize, a: Label, least: usize) -> usize
             mark(marks, base, v);
             v + 1
         }
-        Label::Output(j) => least,
+        Label::Output(_) => least,
     }
 }
 
 // The names here, after `.names` and its space; each variable of the line is marked.
-pub fn read_names(s: &[u8], at: usize, base: usize, marks: &mut [u8]) -> Names
+pub fn read_names(s: &[u8], at: usize, base: usize, marks: &mut [u8]) -> Option<Names>
     ensures { NamesIs s.now at base marks.old marks.new result }
 {
     let mut p = at;
-    let mut least: usize = 0;
-    let mut reads: usize = 0;
+    let mut least = 0;
+    let mut reads = 0;
     loop {
-        let t = next_name(s, p, least);
-        match t {
+        match next_name(s, p, least)? {
             Turn::Read(v, q) => {
                 mark(marks, base, v);
                 least = v + 1;
                 reads += 1;
                 p = q;
             }
-            Turn::Last(a, q) => {
-                let top = mark_last(marks, base, a, least);
-                return Names {
-                    is: true,
-                    name: a,
+            Turn::Last(name, next) => {
+                let top = mark_last(marks, base, name, least);
+                return Some(Names {
+                    name,
                     reads,
                     top,
-                    next: q,
-                };
-            }
-            Turn::No => {
-                return Names {
-                    is: false,
-                    name: Label::Variable(0),
-                    reads: 0,
-                    top: 0,
-                    next: at,
-                };
+                    next,
+                });
             }
         }
     }
@@ -230,97 +150,66 @@ pub fn read_names(s: &[u8], at: usize, base: usize, marks: &mut [u8]) -> Names
 fn is_sign(b: u8) -> bool
     ensures { result ≡ is_place b }
 {
-    if b == b'0' {
-        return true;
-    }
-    if b == b'1' {
-        return true;
-    }
-    b == b'-'
+    matches!(b, b'0' | b'1' | b'-')
 }
 
-// The sign here; or none.
-fn sign_at(s: &[u8], at: usize) -> Next
+// The sign here, and the place after it.
+fn sign_at(s: &[u8], at: usize) -> Option<(u8, usize)>
     ensures { SignIs s.now at result }
 {
-    let n = blif_scan::read_byte(s, at);
-    let Next::Byte(b, p) = n else {
-        return Next::End;
-    };
-    if is_sign(b) {
-        return Next::Byte(b, p);
-    }
-    Next::End
+    let (b, p) = blif_scan::read_byte(s, at)?;
+    if is_sign(b) { Some((b, p)) } else { None }
 }
 
 // The place i of a sign is marked, where the sign is not `-`.
 fn mark_sign(marks: &mut [u8], base: usize, i: usize, b: u8)
     ensures { Raised base (signed i (b ∷ [])) marks.old marks.new }
 {
-    if b == b'-' {
-        return;
+    if b != b'-' {
+        mark(marks, base, i);
     }
-    mark(marks, base, i);
 }
 
 // The place after r signs; each place of `0` or `1` is marked.
-fn read_signs(s: &[u8], at: usize, r: usize, base: usize, marks: &mut [u8]) -> Row
+fn read_signs(s: &[u8], at: usize, r: usize, base: usize, marks: &mut [u8]) -> Option<usize>
     ensures { SignsIs s.now at r base marks.old marks.new result }
 {
     let mut p = at;
-    let mut i = 0;
-    while i < r {
-        let n = sign_at(s, p);
-        let Next::Byte(b, q) = n else {
-            return Row::No;
-        };
+    for i in 0..r {
+        let (b, q) = sign_at(s, p)?;
         mark_sign(marks, base, i, b);
         p = q;
-        i += 1;
     }
-    Row::At(p)
+    Some(p)
 }
 
 // The place after the space that follows signs.
-fn after_signs(s: &[u8], at: usize, r: usize) -> Row
+fn after_signs(s: &[u8], at: usize, r: usize) -> Option<usize>
     ensures { SpaceIs s.now at r result }
 {
     if r == 0 {
-        return Row::At(at);
+        return Some(at);
     }
-    let n = blif_scan::read_byte(s, at);
-    let Next::Byte(b, p) = n else {
-        return Row::No;
-    };
-    if b == b' ' {
-        return Row::At(p);
-    }
-    Row::No
+    let (b, p) = blif_scan::read_byte(s, at)?;
+    if b == b' ' { Some(p) } else { None }
 }
 
 // The place after what ends a row of r signs.
-fn end_row(s: &[u8], at: usize, r: usize) -> Row
+fn end_row(s: &[u8], at: usize, r: usize) -> Option<usize>
     ensures { EndIs s.now at r result }
 {
-    let a = after_signs(s, at, r);
-    let Row::At(p) = a else {
-        return Row::No;
-    };
-    let e = blif_scan::keyword(s, p, b"1");
-    let Ended::Line(q) = e else {
-        return Row::No;
-    };
-    Row::At(q)
+    let p = after_signs(s, at, r)?;
+    match blif_scan::keyword(s, p, b"1")? {
+        Ended::Line(q) => Some(q),
+        _ => None,
+    }
 }
 
-// The row here of r signs; each place of `0` or `1` is marked.
-pub fn read_row(s: &[u8], at: usize, r: usize, base: usize, marks: &mut [u8]) -> Row
+// The place after the row here of r signs; each place of `0` or `1` is marked.
+pub fn read_row(s: &[u8], at: usize, r: usize, base: usize, marks: &mut [u8]) -> Option<usize>
     ensures { RowIs s.now at r base marks.old marks.new result }
 {
-    let a = read_signs(s, at, r, base, marks);
-    let Row::At(p) = a else {
-        return Row::No;
-    };
+    let p = read_signs(s, at, r, base, marks)?;
     end_row(s, p, r)
 }
 
@@ -328,34 +217,18 @@ pub fn read_row(s: &[u8], at: usize, r: usize, base: usize, marks: &mut [u8]) ->
 fn is_point(s: &[u8], at: usize) -> bool
     ensures { result ≡ pointed (left s.now at) }
 {
-    let n = blif_scan::read_byte(s, at);
-    let Next::Byte(b, p) = n else {
-        return false;
-    };
-    b == b'.'
+    blif_scan::read_byte(s, at).is_some_and(|(b, _)| b == b'.')
 }
 
 // The rows here, up to a line that begins with a point.
-pub fn read_rows(s: &[u8], at: usize, r: usize, base: usize, marks: &mut [u8]) -> Rows
+pub fn read_rows(s: &[u8], at: usize, r: usize, base: usize, marks: &mut [u8]) -> Option<Rows>
     ensures { RowsIs s.now at r base marks.old marks.new result }
 {
     let mut p = at;
-    let mut count: usize = 0;
+    let mut count = 0;
     while !is_point(s, p) {
-        let a = read_row(s, p, r, base, marks);
-        let Row::At(q) = a else {
-            return Rows {
-                are: false,
-                count: 0,
-                next: at,
-            };
-        };
-        p = q;
+        p = read_row(s, p, r, base, marks)?;
         count += 1;
     }
-    Rows {
-        are: true,
-        count,
-        next: p,
-    }
+    Some(Rows { count, next: p })
 }

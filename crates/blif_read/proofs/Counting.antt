@@ -1,51 +1,39 @@
 -- Blocks passed one by one: what one pass answers, and that those before a place are counted, those from there on left. Assumes nothing.
+use Rattle.std.specs.Prelude.{Some, None}
 use Prim.Native.Nat.{ℕ, ◌≤◌}
 use mathlib.Core.Path.{◌≡◌, refl, sym, ap, ◌∙◌, subst}
-use mathlib.Core.Bool.{true, false}
 use mathlib.Core.List.{List, [], ◌∷◌, ◌++◌, map, append-nil, append_assoc, map-append}
-use Rattle.sets.{specs.Word.largest, proofs.Truth.clash}
-use Rattle.letters_products.specs.Spelled.{spelled}
+use Rattle.sets.{specs.Word.largest}
 use Rattle.network.{specs.Handed.flat, proofs.Handing.flat-last}
 use Rattle.blif_laws.specs.{Text.Block, Reading.named_in}
-use Rattle.blif_scan.specs.Scanning.{left, EndedIs, label_of}
+use Rattle.blif_scan.specs.Scanning.{left, label_of}
 use Rattle.blif_lines.{specs.Marking.Raised, specs.declared.Names.Names, specs.declared.Rows.Rows, proofs.Marking.raised-none, proofs.Marking.raised-on}
-use Rattle.blif_form.{specs.Surveying.BlocksOf, specs.Surveying.SmallBlocks, proofs.Blocking.small-others}
-use Rattle.blif_read.specs.Defining.{FirstIs, PassedGot, PassedNot, PassedIs}
+use Rattle.blif_form.{specs.Surveying.BeginsAt, specs.Surveying.BlocksOf, specs.Surveying.SmallBlocks, proofs.Blocking.small-others}
+use Rattle.blif_read.specs.Defining.{FirstIs, PassedGot, PassedNot}
 use Rattle.blif_lines.specs.Lining.{NamesGot, NamesNot, RowsGot, RowsNot}
-use Rattle.blif_scan.specs.declared.{Label.Label, Ended.Ended}
 use Rattle.blif_read.specs.declared.defining.Passed.{Passed}
 use Rattle.blif_form.proofs.Passing.{pass-none, pass-some, pass-unnamed, pass-rowless, pass-forth, pass-name, pass-numbers, pass-rest}
 
 -- ---- one pass
 
--- no block is passed, and none is left
-abbrev nothing : Label → ℕ → Passed
-nothing a p = record { is = false; name = a; next = p }
+module _ (s : List ℕ) (at base : ℕ) (old : List ℕ) where
+  -- no block is left
+  pub passed-end : BeginsAt s at None → PassedNot s at old old
+  passed-end h = record { size = refl; none = λ m bs l k f. (pass-none s at h m bs k, refl) }
 
-not-passed : {s : List ℕ} {at base : ℕ} {old new : List ℕ} (a : Label) (p : ℕ) → PassedNot s at old new → PassedIs s at base old new (nothing a p)
-not-passed a p h = record { one = λ e. clash e refl; none = λ e. h }
-
-module _ (s : List ℕ) (at base : ℕ) (old : List ℕ) (a : Label) (q : ℕ) where
-  pub passed-end : (e : Ended) → EndedIs s at (spelled ".names") e → ((p : ℕ) → e ≡ Ended.Space p → ⊥) → PassedIs s at base old old (nothing a q)
-  passed-end e h n = not-passed a q (record { size = refl; none = λ m bs l k f. (pass-none s at e h n m bs k, refl) })
-
-  module _ (p : ℕ) (h : EndedIs s at (spelled ".names") (Ended.Space p)) where
-    pub passed-unnamed : {new : List ℕ} → NamesNot s p old new → PassedIs s at base old new (nothing a q)
-    passed-unnamed n = not-passed a q (record { size = n.size; none = λ m bs l k f. absurd (pass-unnamed s at p h.0 n m bs l k f) })
+  module _ (p : ℕ) (h : BeginsAt s at (Some p)) where
+    pub passed-unnamed : {new : List ℕ} → NamesNot s p old new → PassedNot s at old new
+    passed-unnamed n = record { size = n.size; none = λ m bs l k f. absurd (pass-unnamed s at p h.0 n m bs l k f) }
 
     module _ {new : List ℕ} {r : Names} (g : NamesGot s p base old new r) {o w : List ℕ} where
-      pub passed-rowless : RowsNot s r.next r.reads o w → PassedIs s at base old new (nothing a q)
-      passed-rowless n = not-passed a q (record { size = g.marks.size; none = λ m bs l k f. absurd (pass-rowless s at p h.0 g n m bs k) })
+      pub passed-rowless : RowsNot s r.next r.reads o w → PassedNot s at old new
+      passed-rowless n = record { size = g.marks.size; none = λ m bs l k f. absurd (pass-rowless s at p h.0 g n m bs k) }
 
-      pub passed-one : {x : Rows} → RowsGot s r.next r.reads 0 o w x
-          → PassedIs s at base old new (record { is = true; name = r.name; next = x.next })
-      passed-one {x} y = record {
-        one = λ e. record { forth = pass-forth s at p h.0 g y h.1; size = g.marks.size; first = each };
-        none = λ e. clash refl e;
-      }
+      pub passed-one : {x : Rows} → RowsGot s r.next r.reads 0 o w x → PassedGot s at base old new (record { name = r.name; next = x.next })
+      passed-one {x} y = record { forth = pass-forth s at p h.0 g y h.1; size = g.marks.size; first = each }
         where
           each : (m : ℕ) (bs : List Block) → m ≤ largest → BlocksOf (left s at) m bs → SmallBlocks bs
-              → FirstIs s base old new (record { is = true; name = r.name; next = x.next }) m bs
+              → FirstIs s base old new (record { name = r.name; next = x.next }) m bs
           each m [] l k f = pass-some s at p h.0 k
           each m (b ∷ bs) l k f = record {
             name = pass-name s at p h.0 g y b bs k;

@@ -186,21 +186,19 @@ module _ {s : List ℕ} {at : ℕ} {vs c : List ℕ} {i : ℕ} {w t : List ℕ} 
 
 -- ---- rows read one by one
 
--- of the rows ws, some are left, and the cubes of those before stand in the words
+-- of the rows ws, some are left, and the cubes of those before stand in the words, up to place i
 pub record RowsTo (s : List ℕ) (p : ℕ) (vs old new : List ℕ) (at i : ℕ) (ws : List (List ℕ)) (more : List ℕ) : Type 0 where
   pub rest : List (List ℕ)
   pub rows : RowsOf (left s p) (length vs) rest more
-  pub going : Going old new at (at + i) (map (cube_in vs) rest) (map (cube_in vs) ws)
+  pub going : Going old new at i (map (cube_in vs) rest) (map (cube_in vs) ws)
 
 pub rows-first : {s : List ℕ} {p : ℕ} (vs : List ℕ) {old : List ℕ} (at : ℕ) {ws : List (List ℕ)} {more : List ℕ} → RowsOf (left s p) (length vs) ws more
-    → at + length ws ≤ length (cubes_of old) → RowsTo s p vs old old at 0 ws more
-rows-first vs {old} at {ws} h l =
-    let z : at ≡ at + 0 = omega arith in record {
-      rest = ws;
-      rows = h;
-      going = subst (λ n. Going old old at n (map (cube_in vs) ws) (map (cube_in vs) ws)) z
-          (going-first old at (map (cube_in vs) ws) (omega (arith, length-map ws (cube_in vs))));
-    }
+    → at + length ws ≤ length (cubes_of old) → RowsTo s p vs old old at at ws more
+rows-first vs {old} at {ws} h l = record {
+  rest = ws;
+  rows = h;
+  going = going-first old at (map (cube_in vs) ws) (omega (arith, length-map ws (cube_in vs)));
+}
 
 module _ {s : List ℕ} {p : ℕ} {vs old new : List ℕ} {at i : ℕ} {ws : List (List ℕ)} {more : List ℕ} (k : RowsTo s p vs old new at i ws more) where
   -- the first of the rows left
@@ -210,12 +208,12 @@ module _ {s : List ℕ} {p : ℕ} {vs old new : List ℕ} {at i : ℕ} {ws : Lis
   row-signs : (w : List ℕ) (ls : List (List ℕ)) → k.rest ≡ w ∷ ls → Signs (length vs) w
   row-signs w ls e = k.rows.each w (subst (w ∈◌) (sym e) (here refl))
 
-  pub rows_next : {base : ℕ} {o n next c : List ℕ} {q : ℕ} → Columns vs → RowGot s p (length vs) base o n q → SignsAre s p vs c → Put new next (at + i) c
+  pub rows_next : {base : ℕ} {o n next c : List ℕ} {q : ℕ} → Columns vs → RowGot s p (length vs) base o n q → SignsAre s p vs c → Put new next i c
       → RowsTo s q vs old next at (i + 1) ws more
   unfolding ended
   rows_next {next = next} {c} {q} g r f u = go k.rest refl k.going
     where
-      go : (ls : List (List ℕ)) → k.rest ≡ ls → Going old new at (at + i) (map (cube_in vs) ls) (map (cube_in vs) ws) → RowsTo s q vs old next at (i + 1) ws more
+      go : (ls : List (List ℕ)) → k.rest ≡ ls → Going old new at i (map (cube_in vs) ls) (map (cube_in vs) ws) → RowsTo s q vs old next at (i + 1) ws more
       go [] e d = absurd (unpointed (length vs) r.word (10 ∷ left s q) r.signs
           (ap pointed (sym r.text ∙ k.rows.text ∙ ap (λ x. ended (map row_line x) ++ more) e) ∙ k.rows.point))
       go (w ∷ ls) e d =
@@ -223,11 +221,10 @@ module _ {s : List ℕ} {p : ℕ} {vs old new : List ℕ} {at i : ℕ} {ws : Lis
           let l = one-row (length vs) w r.word (ended (map row_line ls) ++ more) (left s q) x r.signs (sym (row-text w ls e) ∙ r.text) in
           let start = row-text w ls e ∙ ap (◌++ (10 ∷ (ended (map row_line ls) ++ more))) (row_as w) ∙ append_assoc w (row_end (length w)) _ in
           let y : c ≡ cube_in vs w = f w _ g x.number start in
-          let z : (at + i) + 1 ≡ at + (i + 1) = omega arith in
           record {
             rest = ls;
             rows = record { each = λ v j. k.rows.each v (subst (v ∈◌) (sym e) (there j)); text = sym l.1; point = k.rows.point };
-            going = subst (λ n. Going old next at n (map (cube_in vs) ls) (map (cube_in vs) ws)) z (going_next d (subst (Put new next (at + i)) y u));
+            going = going_next d (subst (Put new next i) y u);
           }
 
   -- none is left where no row stands, or where there is no room
@@ -238,12 +235,12 @@ module _ {s : List ℕ} {p : ℕ} {vs old new : List ℕ} {at i : ℕ} {ws : Lis
       go [] e = refl
       go (w ∷ ls) e = absurd (r.none w _ (row-signs w ls e) (row-text w ls e))
 
-  pub rows-full : length (cubes_of old) ≤ at + i → length k.rest ≡ 0
+  pub rows-full : length (cubes_of old) ≤ i → length k.rest ≡ 0
   rows-full h = omega (arith, going-inside k.going, length-map k.rest (cube_in vs))
 
-  pub rows_all : length k.rest ≡ 0 → (i ≡ length ws) × Placed old new at (map (cube_in vs) ws)
+  pub rows_all : length k.rest ≡ 0 → (i - at ≡ length ws) × Placed old new at (map (cube_in vs) ws)
   rows_all h =
-      let a = going_end (subst (λ x. Going old new at (at + i) (map (cube_in vs) x) (map (cube_in vs) ws)) (nil-of k.rest h) k.going) in
+      let a = going_end (subst (λ x. Going old new at i (map (cube_in vs) x) (map (cube_in vs) ws)) (nil-of k.rest h) k.going) in
       (omega (arith, a.next, length-map ws (cube_in vs)), a.placed)
 
 -- ---- a block

@@ -1,4 +1,6 @@
 -- What is told of a text: 14 for the form and a gap, then 15, then 10, by what the passes over it found. Assumes nothing.
+use Rattle.std.specs.Prelude.{Option as Maybe, Some, None}
+use Rattle.std.specs.Option.{is_some}
 use Prim.Native.Nat.{ℕ, suc, ◌+◌, ◌-◌, ◌≤◌, min}
 use mathlib.Core.Path.{◌≡◌, refl, sym, ap, ap₂, ◌∙◌, subst}
 use mathlib.Core.{Logic.inl, Logic.inr, List.List, List.map}
@@ -24,7 +26,7 @@ use Rattle.blif_laws.proofs.{Beginning.blif-iff, Forming.model-iff}
 use Rattle.letters_products.specs.Spelled.{spelled}
 use Rattle.blif_scan.specs.Scanning.{left, EndedIs, by_space, by_line, by_end}
 use Rattle.blif_scan.specs.declared.Ended.{Ended}
-use Rattle.blif_form.specs.Surveying.{SurveyGot, SurveyNot, SurveyBy, SurveyIs}
+use Rattle.blif_form.specs.Surveying.{SurveyGot, SurveyNot}
 use Rattle.blif_read.specs.Defining.{model_by, GaplessIs, OnceIs}
 use Rattle.blif_read.specs.{Building.Buildable, Reading.few, Reading.FinishedIs}
 use Rattle.blif_form.specs.declared.Survey.{Survey}
@@ -40,14 +42,6 @@ regroup {a' = a'} {b'} {c'} {e'} p q r t z = rw (p, q, r, t) (go a' b' c' e')
     go true false c e = refl
     go true true false e = refl
     go true true true e = refl
-
--- ---- what the survey found
-
-pub survey-got : (s : List ℕ) (v : Survey) → SurveyIs s v → v.is ≡ true → SurveyGot s v
-survey-got s v w e = subst (λ (b : Bool). SurveyBy b s v) e w
-
-pub survey-not : (s : List ℕ) (v : Survey) → SurveyIs s v → v.is ≡ false → SurveyNot s
-survey-not s v w e = subst (λ (b : Bool). SurveyBy b s v) e w
 
 -- ---- the text is not in the form
 
@@ -200,15 +194,8 @@ module _ (d : Model) {p : Network} (w : Shaped p) (h : Holds p (net_in d)) where
 
 -- ---- the first word
 
--- what the answer says of it
-abbrev pub begun : Ended → Bool
-begun (Ended.Space p) = true
-begun (Ended.Line p) = true
-begun Ended.Finish = true
-begun Ended.No = false
-
-pub begun-told : (s : List ℕ) (e : Ended) → EndedIs s 0 (spelled ".model") e → begun e ≡ is_blif s
-begun-told s (Ended.Space p) h = sym ((blif-iff s).1 (by_space (left s p) h.0))
-begun-told s (Ended.Line p) h = sym ((blif-iff s).1 (by_line (left s p) h.0))
-begun-told s Ended.Finish h = sym ((blif-iff s).1 (by_end h))
-begun-told s Ended.No h = sym (refuted (λ t. h ((blif-iff s).0 t)))
+pub begun-told : (s : List ℕ) (e : Maybe Ended) → EndedIs s 0 (spelled ".model") e → is_some e ≡ is_blif s
+begun-told s (Some (Ended.Space p)) h = sym ((blif-iff s).1 (by_space (left s p) h.0))
+begun-told s (Some (Ended.Line p)) h = sym ((blif-iff s).1 (by_line (left s p) h.0))
+begun-told s (Some Ended.Finish) h = sym ((blif-iff s).1 (by_end h))
+begun-told s None h = sym (refuted (λ t. h ((blif-iff s).0 t)))

@@ -1,5 +1,5 @@
 -- The network of a text, whatever its blocks are, where every name is defined once and the limits are kept.
-use Rattle.std.specs.Prelude.{ℕ, ◌+◌, ◌-◌, ◌<◌, ◌≤◌, min, max, leb, ltb, length, get_or}
+use Rattle.std.specs.Prelude.{ℕ, Option, Some, None, ◌+◌, ◌-◌, ◌<◌, ◌≤◌, min, max, leb, ltb, length, get_or}
 use mathlib.Core.{Path.◌≡◌, Bool.true, Bool.cond}
 use mathlib.Core.List.{List, ◌++◌, map, Memᴰ}
 use Rattle.sets.specs.Lists.{all, keep, total, from}
@@ -11,18 +11,13 @@ use Rattle.network.specs.Held.{number_at, most_inputs, most_outputs, most_variab
 use Rattle.network.specs.{Handed.Holds, declared.Network.Network}
 use Rattle.blif_laws.specs.Text.{Name, variable, output, Block}
 use Rattle.blif_laws.specs.Reading.{cube_in, blocks_for, cubes_for, defined_once, divisors_in, net_in}
-use Rattle.blif_scan.specs.Scanning.{left, Forth, label_of}
+use Rattle.blif_scan.specs.Scanning.{left, label_of}
 use Rattle.blif_lines.specs.Lining.{RowsOf}
 use Rattle.blif_form.specs.Surveying.{BlockOf, BlocksOf, SmallBlock, SmallBlocks}
-use Rattle.blif_read.specs.{Defining.model_by, declared.build.Place.Place}
+use Rattle.blif_read.specs.Defining.{model_by}
 use Rattle.blif_scan.specs.declared.Label.{Label}
 
 -- ---- finding a block
-
--- `.names` and a space stand here; or they do not
-abbrev pub BeginsAt : List ℕ → ℕ → Place → Type 0
-BeginsAt s at (Place.At p) = (left s at ≡ spelled ".names " ++ left s p) × Forth s at p
-BeginsAt s at Place.No = (t : List ℕ) → left s at ≡ spelled ".names " ++ t → ⊥
 
 -- one of the blocks stands at a place, after `.names` and its space, and defines the name
 pub record StandsAt (s : List ℕ) (m : ℕ) (bs : List Block) (a : Name) (p : ℕ) : Type 0 where
@@ -32,9 +27,9 @@ pub record StandsAt (s : List ℕ) (m : ℕ) (bs : List Block) (a : Name) (p : �
   pub more : List ℕ
   pub is : BlockOf (spelled ".names " ++ left s p) m block more
 
-abbrev pub FoundIs : List ℕ → ℕ → Label → Place → Type 0
-FoundIs s first a (Place.At p) = (m : ℕ) (bs : List Block) → m ≤ largest → BlocksOf (left s first) m bs → SmallBlocks bs → StandsAt s m bs (label_of a) p
-FoundIs s first a Place.No = (m : ℕ) (bs : List Block) → m ≤ largest → BlocksOf (left s first) m bs → SmallBlocks bs
+abbrev pub FoundIs : List ℕ → ℕ → Label → Option ℕ → Type 0
+FoundIs s first a (Some p) = (m : ℕ) (bs : List Block) → m ≤ largest → BlocksOf (left s first) m bs → SmallBlocks bs → StandsAt s m bs (label_of a) p
+FoundIs s first a None = (m : ℕ) (bs : List Block) → m ≤ largest → BlocksOf (left s first) m bs → SmallBlocks bs
     → (b : Block) → Memᴰ b bs → label_of a ≡ b.name → ⊥
 
 -- ---- putting its cubes

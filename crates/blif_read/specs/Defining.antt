@@ -1,5 +1,5 @@
 -- Which numbers the blocks of a text name and define, whatever the blocks are.
-use Rattle.std.specs.Prelude.{ℕ, ◌+◌, ◌≤◌, ◌≡◌, Bool, true, false, cond, ◌&&◌, List, [], ◌∷◌, map, eqb, ltb, length}
+use Rattle.std.specs.Prelude.{ℕ, Option, Some, None, ◌+◌, ◌≤◌, ◌≡◌, Bool, true, false, cond, ◌&&◌, List, [], ◌∷◌, map, eqb, ltb, length}
 use Rattle.sets.specs.{Lists.all, Lists.from, Sets.mem, Word.largest}
 use Rattle.network.specs.Handed.{flat}
 use Rattle.blif_laws.specs.Text.{Name, variable, output, Block, Model}
@@ -32,9 +32,9 @@ pub record PassedNot (s : List ℕ) (at : ℕ) (old new : List ℕ) : Type 0 whe
   pub size : length new ≡ length old
   pub none : (m : ℕ) (bs : List Block) → m ≤ largest → BlocksOf (left s at) m bs → SmallBlocks bs → (bs ≡ []) × (new ≡ old)
 
-pub record PassedIs (s : List ℕ) (at base : ℕ) (old new : List ℕ) (r : Passed) : Type 0 where
-  pub one : r.is ≡ true → PassedGot s at base old new r
-  pub none : r.is ≡ false → PassedNot s at old new
+abbrev pub PassedIs : List ℕ → ℕ → ℕ → List ℕ → List ℕ → Option Passed → Type 0
+PassedIs s at base old new (Some r) = PassedGot s at base old new r
+PassedIs s at base old new None = PassedNot s at old new
 
 -- ---- all blocks
 

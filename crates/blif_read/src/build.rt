@@ -3,75 +3,28 @@ ghost use Rattle.std.specs.Prelude.{◌≡◌, ◌<◌};
 ghost use Rattle.cube.specs.Cube.{width, lits};
 ghost use Rattle.network.specs.Answers.{padded};
 ghost use Rattle.table_rows.specs.Parts.{placed};
-ghost use Rattle.blif_laws.specs.Reading.{same_name};
 ghost use Rattle.blif_scan.specs.Scanning.{label_of};
-ghost use Rattle.blif_read.specs.Building.{BeginsAt, FoundIs, marked_in, SignsAre, RowsPut, NodeIs, Within, name_at, NamedIs, Buildable, BuiltIs};
+ghost use Rattle.blif_read.specs.Building.{FoundIs, marked_in, SignsAre, RowsPut, NodeIs, Within, name_at, NamedIs, Buildable, BuiltIs};
 
 use crate::defining;
-use blif_lines::Row;
-use blif_scan::{Ended, Label, Next};
+use blif_scan::Label;
 use cube::{Cube, Variable};
 use network::Network;
 
-// The place after `.names` and its space of a block; or there is no such block.
-#[derive(Clone, Copy)]
-pub enum Place {
-    At(usize),
-    No,
-}
-
 // ---- finding a block
 
-// Whether two names are the same.
-fn same(a: Label, b: Label) -> bool
-    ensures { result ≡ same_name (label_of a) (label_of b) }
-{
-    match a {
-        Label::Variable(v) => {
-            match b {
-                Label::Variable(u) => v == u,
-                Label::Output(_) => false,
-            }
-        }
-        Label::Output(i) => {
-            match b {
-                Label::Variable(_) => false,
-                Label::Output(j) => i == j,
-            }
-        }
-    }
-}
-
-// The place after `.names` and a space here.
-fn begin(s: &[u8], at: usize) -> Place
-    ensures { BeginsAt s.now at result }
-{
-    let key = blif_scan::keyword(s, at, b".names");
-    match key {
-        Ended::Space(p) => Place::At(p),
-        Ended::Line(_) => Place::No,
-        Ended::Finish => Place::No,
-        Ended::No => Place::No,
-    }
-}
-
-// The block here that defines the name.
-pub fn find(s: &[u8], first: usize, name: Label) -> Place
+// The place after `.names` and its space of the block here that defines the name.
+pub fn find(s: &[u8], first: usize, name: Label) -> Option<usize>
     ensures { FoundIs s.now first name result }
 {
-    let mut spare = [0u8; 1];
     let mut at = first;
-    loop {
-        let b = defining::pass(s, at, 0, &mut spare);
-        if !b.is {
-            return Place::No;
-        }
-        let other = b.name;
-        if same(name, other) {
-            return begin(s, at);
+    while let Some(b) = defining::pass(s, at, 0, &mut []) {
+        if b.name == name {
+            return blif_form::begin(s, at);
         }
         at = b.next;
     }
+    None
 }
 
 // ---- putting its cubes
@@ -82,13 +35,11 @@ fn marked(marks: &[u8; network::MOST_VARIABLES]) -> [u32; network::MOST_VARIABLE
 {
     let mut vars = [0u32; network::MOST_VARIABLES];
     let mut n = 0;
-    let mut v = 0;
-    while v < network::MOST_VARIABLES {
+    for v in 0..network::MOST_VARIABLES {
         if marks[v] > 0 {
             vars[n] = v as u32;
             n += 1;
         }
-        v += 1;
     }
     vars
 }
@@ -97,13 +48,11 @@ fn marked(marks: &[u8; network::MOST_VARIABLES]) -> [u32; network::MOST_VARIABLE
 fn with_sign(c: Cube, v: u32, b: u8) -> Cube
     ensures { v < width → lits result ≡ placed v b (lits c) }
 {
-    if b == b'1' {
-        return cube::with(c, cube::plain(Variable(v)));
+    match b {
+        b'1' => cube::with(c, cube::plain(Variable(v))),
+        b'0' => cube::with(c, cube::negated(Variable(v))),
+        _ => c,
     }
-    if b == b'0' {
-        return cube::with(c, cube::negated(Variable(v)));
-    }
-    c
 }
 
 // The literals of the signs here, one for each variable.
@@ -112,15 +61,12 @@ fn read_signs(s: &[u8], from: usize, vars: &[u32]) -> Cube
 {
     let mut c = cube::empty();
     let mut at = from;
-    let mut i = 0;
-    while i < vars.len() {
-        let next = blif_scan::read_byte(s, at);
-        let Next::Byte(b, p) = next else {
+    for v in vars {
+        let Some((b, p)) = blif_scan::read_byte(s, at) else {
             return c;
         };
-        c = with_sign(c, vars[i], b);
+        c = with_sign(c, *v, b);
         at = p;
-        i += 1;
     }
     c
 }
@@ -129,20 +75,16 @@ fn read_signs(s: &[u8], from: usize, vars: &[u32]) -> Cube
 fn put_rows(s: &[u8], from: usize, vars: &[u32], words: &mut [u64], at: usize) -> usize
     ensures { RowsPut s.now from vars.now words.old words.new at result }
 {
-    let mut marks = [0u8; 1];
-    let none = 0;
+    let room = expression::number(words);
     let mut p = from;
-    let mut i = 0;
-    while at + i < expression::number(words) {
-        let row = blif_lines::read_row(s, p, vars.len(), 0, &mut marks[..none]);
-        let Row::At(next) = row else {
-            return i;
+    for i in at..room {
+        let Some(next) = blif_lines::read_row(s, p, vars.len(), 0, &mut []) else {
+            return i - at;
         };
-        expression::put_cube(words, at + i, read_signs(s, p, vars));
+        expression::put_cube(words, i, read_signs(s, p, vars));
         p = next;
-        i += 1;
     }
-    i
+    room.saturating_sub(at)
 }
 
 // The cubes of the block here, put in cube order from place `at` of the words on; how many.
@@ -150,10 +92,9 @@ pub fn put_node(s: &[u8], from: usize, words: &mut [u64], at: usize) -> usize
     ensures { NodeIs s.now from words.old words.new at result × Within words.old at result }
 {
     let mut marks = [0u8; network::MOST_VARIABLES];
-    let names = blif_lines::read_names(s, from, 0, &mut marks);
-    if !names.is {
+    let Some(names) = blif_lines::read_names(s, from, 0, &mut marks) else {
         return 0;
-    }
+    };
     let r = names.reads;
     if r > network::MOST_VARIABLES {
         return 0;
@@ -170,11 +111,10 @@ pub fn put_node(s: &[u8], from: usize, words: &mut [u64], at: usize) -> usize
 fn put_named(s: &[u8], first: usize, name: Label, words: &mut [u64], at: usize) -> usize
     ensures { NamedIs s.now first (label_of name) words.old words.new at result × Within words.old at result }
 {
-    let place = find(s, first, name);
-    let Place::At(p) = place else {
-        return 0;
-    };
-    put_node(s, p, words, at)
+    match find(s, first, name) {
+        Some(p) => put_node(s, p, words, at),
+        None => 0,
+    }
 }
 
 // The name of the node at a place: outputs first, then divisors.
@@ -182,9 +122,10 @@ fn name_at(n: usize, m: usize, i: usize) -> Label
     ensures { label_of result ≡ name_at n m i }
 {
     if i < m {
-        return Label::Output(i);
+        Label::Output(i)
+    } else {
+        Label::Variable(network::number_of(n, i - m))
     }
-    Label::Variable(network::number_of(n, i - m))
 }
 
 // The network of n inputs, m outputs and k divisors.
@@ -195,12 +136,10 @@ pub fn build(s: &[u8], first: usize, n: usize, m: usize, k: usize) -> Network
     let mut sizes = [0usize; network::NODE_SLOTS];
     let mut out = [0u64; network::WORD_SLOTS];
     let mut at = 0;
-    let mut i = 0;
-    while i < m + k {
+    for i in 0..m + k {
         let size = put_named(s, first, name_at(n, m, i), &mut out, at);
         sizes[i] = size;
         at += size;
-        i += 1;
     }
     Network {
         inputs: n,

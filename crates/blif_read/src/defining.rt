@@ -4,44 +4,26 @@ ghost use Rattle.sets.specs.Lists.{from};
 ghost use Rattle.blif_lines.specs.Marking.{Raised, window};
 ghost use Rattle.blif_read.specs.Defining.{PassedIs, NumberIs, StandIs, DefinedIs, WindowStands, WindowOnce, AllOnce, GaplessIs, OnceIs};
 
-use blif_scan::{Ended, Label};
+use blif_scan::Label;
 
-// A block that is passed: what it defines, and the place after it; or there is none.
+// A block that is passed: what it defines, and the place after it.
 #[derive(Clone, Copy)]
 pub struct Passed {
-    pub is: bool,
     pub name: Label,
     pub next: usize,
 }
 
-// The block here is passed, and each variable that it names is marked.
-pub fn pass(s: &[u8], at: usize, base: usize, marks: &mut [u8]) -> Passed
+// The block here is passed, and each variable that it names is marked; or none is left.
+pub fn pass(s: &[u8], at: usize, base: usize, marks: &mut [u8]) -> Option<Passed>
     ensures { PassedIs s.now at base marks.old marks.new result }
 {
-    let none = Passed {
-        is: false,
-        name: Label::Variable(0),
-        next: at,
-    };
-    let k = blif_scan::keyword(s, at, b".names");
-    let Ended::Space(p) = k else {
-        return none;
-    };
-    let d = blif_lines::read_names(s, p, base, marks);
-    if !d.is {
-        return none;
-    }
-    let mut spare = [0u8; 1];
-    let rows = blif_lines::read_rows(s, d.next, d.reads, 0, &mut spare);
-    if !rows.are {
-        return none;
-    }
-    let name = d.name;
-    Passed {
-        is: true,
-        name: name,
+    let p = blif_form::begin(s, at)?;
+    let d = blif_lines::read_names(s, p, base, marks)?;
+    let rows = blif_lines::read_rows(s, d.next, d.reads, 0, &mut [])?;
+    Some(Passed {
+        name: d.name,
         next: rows.next,
-    }
+    })
 }
 
 // Each variable that the blocks here name is marked.
@@ -49,11 +31,7 @@ pub fn stand(s: &[u8], first: usize, base: usize, marks: &mut [u8])
     ensures { StandIs s.now first base marks.old marks.new }
 {
     let mut at = first;
-    loop {
-        let b = pass(s, at, base, marks);
-        if !b.is {
-            return;
-        }
+    while let Some(b) = pass(s, at, base, marks) {
         at = b.next;
     }
 }
@@ -63,16 +41,9 @@ fn mark_name(name: Label, outputs: bool, base: usize, marks: &mut [u8])
     ensures { NumberIs name outputs base marks.old marks.new }
 {
     match name {
-        Label::Variable(v) => {
-            if !outputs {
-                blif_lines::mark(marks, base, v);
-            }
-        }
-        Label::Output(j) => {
-            if outputs {
-                blif_lines::mark(marks, base, j);
-            }
-        }
+        Label::Variable(v) if !outputs => blif_lines::mark(marks, base, v),
+        Label::Output(j) if outputs => blif_lines::mark(marks, base, j),
+        _ => {}
     }
 }
 
@@ -80,15 +51,9 @@ fn mark_name(name: Label, outputs: bool, base: usize, marks: &mut [u8])
 pub fn define(s: &[u8], first: usize, outputs: bool, base: usize, marks: &mut [u8])
     ensures { DefinedIs s.now first outputs base marks.old marks.new }
 {
-    let mut spare = [0u8; 1];
     let mut at = first;
-    loop {
-        let b = pass(s, at, 0, &mut spare);
-        if !b.is {
-            return;
-        }
-        let name = b.name;
-        mark_name(name, outputs, base, marks);
+    while let Some(b) = pass(s, at, 0, &mut []) {
+        mark_name(b.name, outputs, base, marks);
         at = b.next;
     }
 }
@@ -97,15 +62,7 @@ pub fn define(s: &[u8], first: usize, outputs: bool, base: usize, marks: &mut [u
 fn span(base: usize, top: usize) -> usize
     ensures { result ≡ min (top - base) window }
 {
-    if top <= base {
-        return 0;
-    }
-    let k = top - base;
-    if k <= blif_lines::WINDOW {
-        k
-    } else {
-        blif_lines::WINDOW
-    }
+    top.saturating_sub(base).min(blif_lines::WINDOW)
 }
 
 // Whether each of k numbers from base on stands in the blocks here.
@@ -137,11 +94,8 @@ pub fn is_gapless(s: &[u8], first: usize, n: usize, top: usize) -> bool
 fn mark_inputs(n: usize, base: usize, marks: &mut [u8])
     ensures { Raised base (from base (min (n - base) window)) marks.old marks.new }
 {
-    let k = span(base, n);
-    let mut i = 0;
-    while i < k {
+    for i in 0..span(base, n) {
         blif_lines::mark(marks, base, base + i);
-        i += 1;
     }
 }
 
@@ -175,8 +129,5 @@ fn are_defined(s: &[u8], first: usize, outputs: bool, n: usize, top: usize) -> b
 pub fn is_once(s: &[u8], first: usize, n: usize, m: usize, top: usize) -> bool
     ensures { OnceIs s.now first n m top result }
 {
-    if !are_defined(s, first, false, n, top) {
-        return false;
-    }
-    are_defined(s, first, true, 0, m)
+    are_defined(s, first, false, n, top) && are_defined(s, first, true, 0, m)
 }

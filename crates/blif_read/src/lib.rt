@@ -10,7 +10,6 @@ ghost use Rattle.blif_laws.specs.Reading.{read_blif, is_blif};
 ghost use Rattle.blif_read.specs.Building.{Buildable};
 ghost use Rattle.blif_read.specs.Reading.{few, FinishedIs};
 
-use blif_scan::Ended;
 use expression::Verdict;
 use network::Handed;
 
@@ -18,22 +17,10 @@ use network::Handed;
 fn is_few(n: usize, m: usize, top: usize, rows: usize) -> bool
     ensures { result ≡ few n m top rows }
 {
-    if n < 1 {
-        return false;
-    }
-    if n > network::MOST_INPUTS {
-        return false;
-    }
-    if m < 1 {
-        return false;
-    }
-    if m > network::MOST_OUTPUTS {
-        return false;
-    }
-    if top > network::MOST_VARIABLES {
-        return false;
-    }
-    rows <= network::MOST_CUBES
+    (1..=network::MOST_INPUTS).contains(&n)
+        && (1..=network::MOST_OUTPUTS).contains(&m)
+        && top <= network::MOST_VARIABLES
+        && rows <= network::MOST_CUBES
 }
 
 // The network of n inputs, m outputs and k divisors, where it keeps the rules.
@@ -53,32 +40,24 @@ fn finish(s: &[u8], first: usize, n: usize, m: usize, k: usize) -> Handed
 pub fn read(text: &[u8]) -> Handed
     ensures { Told (read_blif text.now) result }
 {
-    let v = blif_form::take_survey(text);
-    if !v.is {
+    let Some(v) = blif_form::take_survey(text) else {
+        return network::refuse(14);
+    };
+    if !defining::is_gapless(text, v.first, v.inputs, v.top) {
         return network::refuse(14);
     }
-    let first = v.first;
-    if !defining::is_gapless(text, first, v.inputs, v.top) {
-        return network::refuse(14);
-    }
-    if !defining::is_once(text, first, v.inputs, v.outputs, v.top) {
+    if !defining::is_once(text, v.first, v.inputs, v.outputs, v.top) {
         return network::refuse(15);
     }
     if !is_few(v.inputs, v.outputs, v.top, v.rows) {
         return network::refuse(10);
     }
-    finish(text, first, v.inputs, v.outputs, v.top - v.inputs)
+    finish(text, v.first, v.inputs, v.outputs, v.top - v.inputs)
 }
 
 // Whether the first word of the text is `.model`, as that of every text that is accepted.
 pub fn is_blif(text: &[u8]) -> bool
     ensures { result ≡ is_blif text.now }
 {
-    let e = blif_scan::keyword(text, 0, b".model");
-    match e {
-        Ended::Space(_) => true,
-        Ended::Line(_) => true,
-        Ended::Finish => true,
-        Ended::No => false,
-    }
+    blif_scan::keyword(text, 0, b".model").is_some()
 }

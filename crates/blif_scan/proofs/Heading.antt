@@ -1,4 +1,5 @@
 -- The lines before the blocks: names in turn, the name of a model, and three lines one after the other. Assumes nothing.
+use Rattle.std.specs.Prelude.{Option, Some, None}
 use Prim.Native.Nat.{ℕ, zero, suc, ◌+◌, ◌<◌, ◌≤◌}
 use mathlib.Core.Path.{◌≡◌, refl, sym, ◌∙◌, ap}
 use mathlib.Core.Bool.{Bool, true, false, not, ◌&&◌}
@@ -17,8 +18,7 @@ use Rattle.network.{specs.Handed.flat, proofs.Handing.flat-last}
 use Rattle.blif_laws.specs.Text.{spaced, ended, first_names, head_lines}
 use Rattle.blif_scan.specs.Scanning.{left, NextIs, Starts, by_space, by_line, EndedIs}
 use Rattle.blif_scan.specs.Heading.{led, TurnsAre, ListIs, is_plain, Titled, Lined, WordIs, model_line, ModelIs, Headed, HeadIs}
-use Rattle.blif_scan.specs.declared.{Next.Next, Ended.Ended, Count.Count, Place.Place}
-use Rattle.blif_scan.specs.declared.Head.{Head}
+use Rattle.blif_scan.specs.declared.Ended.{Ended}
 use Rattle.blif_scan.proofs.Scanning.{word-longer}
 
 -- ---- words with a space before each
@@ -73,7 +73,7 @@ module _ (b : ℕ) (s : List ℕ) (at k p : ℕ) (turned : Turned b s at k p) wh
       ∙ sym (append_assoc (led (first_names b k)) (32 ∷ name_text b k) (c ∷ left s q))
       ∙ ap (◌++ (c ∷ left s q)) (sym (led-last (first_names b k) (name_text b k)) ∙ ap led (sym (map-from (name_text b) k)))
 
-  pub turn-next : (q : ℕ) → EndedIs s p (name_text b k) (Ended.Space q) → Turned b s at (k + 1) q
+  pub turn-next : (q : ℕ) → EndedIs s p (name_text b k) (Some (Ended.Space q)) → Turned b s at (k + 1) q
   turn-next q h = record {
     on = omega (arith, turned.on, h.1.on);
     few = omega (arith, turned.few, h.1.on);
@@ -83,19 +83,19 @@ module _ (b : ℕ) (s : List ℕ) (at k p : ℕ) (turned : Turned b s at k p) wh
         (f.0, append_cancel_left (name_text b k) (32 ∷ left s q) (led (map (name_text b) (from (k + 1) f.0)) ++ (10 ∷ r)) (sym h.0 ∙ f.1));
   }
 
-  pub turn_last : (q : ℕ) → EndedIs s p (name_text b k) (Ended.Line q) → TurnsAre b s at (Count.Names (k + 1) q)
+  pub turn_last : (q : ℕ) → EndedIs s p (name_text b k) (Some (Ended.Line q)) → TurnsAre b s at (Some (k + 1, q))
   turn_last q h = (
     more 10 q h.0,
     record { on = omega (arith, turned.on, h.1.on); within = h.1.within },
     omega (arith, turned.few, h.1.on, h.1.within),
   )
 
-  pub turn-cut : EndedIs s p (name_text b k) Ended.Finish → TurnsAre b s at Count.No
+  pub turn-cut : EndedIs s p (name_text b k) (Some Ended.Finish) → TurnsAre b s at None
   turn-cut h = λ j r e.
       let f = here j r e in
       line-more (name_text b k) (map (name_text b) (from (k + 1) f.0)) r (sym h ∙ f.1)
 
-  pub turn-other : EndedIs s p (name_text b k) Ended.No → TurnsAre b s at Count.No
+  pub turn-other : EndedIs s p (name_text b k) None → TurnsAre b s at None
   turn-other h = λ j r e. let f = here j r e in h (line-starts (left s p) (name_text b k) (map (name_text b) (from (k + 1) f.0)) r f.1)
 
 -- ---- a keyword and names
@@ -106,23 +106,23 @@ unfolding spaced
 apart w ws t = append_assoc w (led ws) t
 
 module _ (w : List ℕ) (b : ℕ) (s : List ℕ) (at : ℕ) where
-  pub list-names : (p : ℕ) (r : Count) → EndedIs s at w (Ended.Space p) → TurnsAre b s p r → ListIs w b s at r
-  list-names p (Count.Names k q) h g = (
+  pub list-names : (p : ℕ) (r : Option (ℕ × ℕ)) → EndedIs s at w (Some (Ended.Space p)) → TurnsAre b s p r → ListIs w b s at r
+  list-names p (Some (k, q)) h g = (
     h.0 ∙ ap (w ++◌) g.0 ∙ sym (apart w (first_names b k) (10 ∷ left s q)),
     record { on = omega (arith, h.1.on, g.1.on); within = g.1.within },
     g.2,
   )
-  list-names p Count.No h g = λ k r e.
+  list-names p None h g = λ k r e.
       g k r (append_cancel_left w (32 ∷ left s p) (led (first_names b k) ++ (10 ∷ r)) (sym h.0 ∙ e ∙ apart w (first_names b k) (10 ∷ r)))
 
-  pub list-none : (p : ℕ) → EndedIs s at w (Ended.Line p) → ListIs w b s at (Count.Names 0 p)
+  pub list-none : (p : ℕ) → EndedIs s at w (Some (Ended.Line p)) → ListIs w b s at (Some (0, p))
   unfolding from
   list-none p h = (h.0 ∙ sym (apart w [] (10 ∷ left s p)), h.1, omega arith)
 
-  pub list-cut : EndedIs s at w Ended.Finish → ListIs w b s at Count.No
+  pub list-cut : EndedIs s at w (Some Ended.Finish) → ListIs w b s at None
   list-cut h = λ k r e. line-more w (first_names b k) r (sym h ∙ e ∙ apart w (first_names b k) (10 ∷ r))
 
-  pub list-other : EndedIs s at w Ended.No → ListIs w b s at Count.No
+  pub list-other : EndedIs s at w None → ListIs w b s at None
   list-other h = λ k r e. h (line-starts (left s at) w (first_names b k) r (e ∙ apart w (first_names b k) (10 ∷ r)))
 
 -- ---- lines
@@ -210,11 +210,11 @@ module _ (s : List ℕ) (at p : ℕ) (passed : Passed s at p) where
         λ e f. titled-some l.titled (m.1 ∙ ap (◌++ m.0) e ∙ f),
       )
 
-  pub word-ends : left s p ≡ [] → WordIs s at Place.No
+  pub word-ends : left s p ≡ [] → WordIs s at None
   word-ends e = λ r l. let m = rest r l in omega (arith, ap length (sym e ∙ m.2), length-append m.0 (10 ∷ r))
 
-  module _ (b q : ℕ) (next : NextIs s p (Next.Byte b q)) where
-    pub word-is : b ≡ 10 → at < p → WordIs s at (Place.At q)
+  module _ (b q : ℕ) (next : NextIs s p (Some (b, q))) where
+    pub word-is : b ≡ 10 → at < p → WordIs s at (Some q)
     word-is e l = (
       record {
         name = passed.word;
@@ -224,7 +224,7 @@ module _ (s : List ℕ) (at p : ℕ) (passed : Passed s at p) where
       record { on = omega (arith, next.1.on); within = next.1.within },
     )
 
-    pub word-empty : b ≡ 10 → p ≤ at → WordIs s at Place.No
+    pub word-empty : b ≡ 10 → p ≤ at → WordIs s at None
     word-empty e l = λ r k. let m = rest r k in go m.0 r m.1 (sym next.0 ∙ m.2) (m.3 (passed.none l))
       where
         go : (v r : List ℕ) → all is_plain v ≡ true → b ∷ left s q ≡ v ++ (10 ∷ r) → (v ≡ [] → ⊥) → ⊥
@@ -233,7 +233,7 @@ module _ (s : List ℕ) (at p : ℕ) (passed : Passed s at p) where
             let z : c ≡ 10 = cc in
             no_line c (both (not (eqb c 32)) (not (eqb c 10)) (plain_out c (both (is_plain c) (all is_plain v) h).0).1).1 z
 
-    pub word-odd : (b ≡ 10 → ⊥) → is_plain b ≡ false → WordIs s at Place.No
+    pub word-odd : (b ≡ 10 → ⊥) → is_plain b ≡ false → WordIs s at None
     word-odd n o = λ r k. let m = rest r k in go m.0 r m.1 (sym next.0 ∙ m.2)
       where
         go : (v r : List ℕ) → all is_plain v ≡ true → b ∷ left s q ≡ v ++ (10 ∷ r) → ⊥
@@ -261,8 +261,8 @@ model-apart : (w t : List ℕ) → model_line w ++ t ≡ keyword ++ (32 ∷ (w +
 model-apart w t = apart keyword (w ∷ []) t ∙ ap (λ (x : List ℕ). keyword ++ (32 ∷ (x ++ t))) (append-nil w)
 
 module _ (s : List ℕ) where
-  pub model-named : (p : ℕ) (r : Place) → EndedIs s 0 keyword (Ended.Space p) → WordIs s p r → ModelIs s r
-  model-named p (Place.At q) h g = (
+  pub model-named : (p : ℕ) (r : Option ℕ) → EndedIs s 0 keyword (Some (Ended.Space p)) → WordIs s p r → ModelIs s r
+  model-named p (Some q) h g = (
     record {
       name = g.0.name;
       titled = g.0.titled;
@@ -270,20 +270,20 @@ module _ (s : List ℕ) where
     },
     record { on = omega (arith, g.1.on); within = g.1.within },
   )
-  model-named p Place.No h g = λ r l.
+  model-named p None h g = λ r l.
       let e = append_cancel_left keyword (32 ∷ left s p) (32 ∷ (l.name ++ (10 ∷ r))) (sym h.0 ∙ l.text ∙ model-apart l.name (10 ∷ r)) in
       g r (record { name = l.name; titled = l.titled; text = cc })
 
-  pub model-line : (p : ℕ) → EndedIs s 0 keyword (Ended.Line p) → ModelIs s Place.No
+  pub model-line : (p : ℕ) → EndedIs s 0 keyword (Some (Ended.Line p)) → ModelIs s None
   model-line p h = λ r l.
       let e = append_cancel_left keyword (10 ∷ left s p) (32 ∷ (l.name ++ (10 ∷ r))) (sym h.0 ∙ l.text ∙ model-apart l.name (10 ∷ r)) in
       let z : ◌≡◌ {A = ℕ} 10 32 = cc in
       omega arith
 
-  pub model-cut : EndedIs s 0 keyword Ended.Finish → ModelIs s Place.No
+  pub model-cut : EndedIs s 0 keyword (Some Ended.Finish) → ModelIs s None
   model-cut h = λ r l. line-more keyword (l.name ∷ []) r (sym h ∙ l.text ∙ apart keyword (l.name ∷ []) (10 ∷ r))
 
-  pub model-other : EndedIs s 0 keyword Ended.No → ModelIs s Place.No
+  pub model-other : EndedIs s 0 keyword None → ModelIs s None
   model-other h = λ r l. h (by_space (l.name ++ (10 ∷ r)) (l.text ∙ model-apart l.name (10 ∷ r)))
 
 -- ---- the three lines
@@ -324,28 +324,28 @@ unfolding spelled
 model-whole w h = clear-line (spelled ".model" ∷ w ∷ []) (together (is_clear w) true h.clear refl)
 
 module _ (s : List ℕ) where
-  pub head-model : ModelIs s Place.No → HeadIs s Head.No
+  pub head-model : ModelIs s None → HeadIs s None
   head-model h = λ n m r g.
       h (inputs_line n ++ (10 ∷ (outputs_line m ++ (10 ∷ r))))
       (record { name = g.name; titled = g.titled; text = g.text ∙ head_apart g.name n m r })
 
-  module _ (p : ℕ) (model : ModelIs s (Place.At p)) where
+  module _ (p : ℕ) (model : ModelIs s (Some p)) where
     after-model : (n m : ℕ) (r : List ℕ) → Headed (left s 0) n m r → left s p ≡ inputs_line n ++ (10 ∷ (outputs_line m ++ (10 ∷ r)))
     after-model n m r g =
         (line-one (model_line model.0.name) (model_line g.name) (left s p) (inputs_line n ++ (10 ∷ (outputs_line m ++ (10 ∷ r))))
         (model-whole model.0.name model.0.titled) (model-whole g.name g.titled)
         (sym model.0.text ∙ g.text ∙ head_apart g.name n m r)).1
 
-    pub head-inputs : ListIs (spelled ".inputs") 120 s p Count.No → HeadIs s Head.No
+    pub head-inputs : ListIs (spelled ".inputs") 120 s p None → HeadIs s None
     head-inputs h = λ n m r g. h n (outputs_line m ++ (10 ∷ r)) (after-model n m r g)
 
-    module _ (i q : ℕ) (inputs : ListIs (spelled ".inputs") 120 s p (Count.Names i q)) where
-      pub head-outputs : ListIs (spelled ".outputs") 121 s q Count.No → HeadIs s Head.No
+    module _ (i q : ℕ) (inputs : ListIs (spelled ".inputs") 120 s p (Some (i, q))) where
+      pub head-outputs : ListIs (spelled ".outputs") 121 s q None → HeadIs s None
       head-outputs h = λ n m r g.
           h m r (line-one (inputs_line i) (inputs_line n) (left s q) (outputs_line m ++ (10 ∷ r)) (inputs-whole i) (inputs-whole n)
           (sym inputs.0 ∙ after-model n m r g)).1
 
-      pub head-is : (o r : ℕ) → ListIs (spelled ".outputs") 121 s q (Count.Names o r) → HeadIs s (Head.Is i o r)
+      pub head-is : (o r : ℕ) → ListIs (spelled ".outputs") 121 s q (Some (o, r)) → HeadIs s (Some (record { inputs = i; outputs = o; first = r }))
       head-is o r outputs = (
         record {
           name = model.0.name;

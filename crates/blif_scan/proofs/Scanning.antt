@@ -1,4 +1,5 @@
 -- The joined text from a place on, byte by byte; and the words that it begins with. Assumes nothing.
+use Rattle.std.specs.Prelude.{Option, Some, None}
 use Prim.Native.Nat.{ℕ, ◌+◌, ◌<◌, ◌≤◌}
 use mathlib.Core.Path.{◌≡◌, refl, sym, ◌∙◌, ap, subst}
 use mathlib.Core.Bool.{Bool, true, false, not, ◌&&◌}
@@ -11,7 +12,7 @@ use borrow.Author.Tests.{eqb-true, eq-eqb, ltb-true, ltb-false, not-true}
 use Rattle.sets.proofs.{Truth.both, Truth.together, Truth.decided, Truth.clash, Places.drop-next, Rows.take_next}
 use Rattle.blif_laws.{specs.Meaning.is_clear, proofs.Breaking.joined-break, proofs.Breaking.joined-byte}
 use Rattle.blif_scan.specs.Scanning.{left, is_joint, NextIs, Starts, by_space, by_line, by_end, EndedIs}
-use Rattle.blif_scan.specs.declared.{Next.Next, Ended.Ended}
+use Rattle.blif_scan.specs.declared.Ended.{Ended}
 
 -- ---- bytes
 
@@ -91,21 +92,21 @@ starts-past (b ∷ u) {w = c ∷ w} h k =
 
 module _ (s w : List ℕ) (at p : ℕ) (text : left s at ≡ w ++ left s p) where
   -- after the word
-  pub ended-past : at ≤ p → (r : Ended) → EndedIs s p [] r → EndedIs s at w r
-  ended-past l (Ended.Space q) (t, f) = (text ∙ ap (w ++◌) t, record { on = omega (arith, f.on); within = f.within })
-  ended-past l (Ended.Line q) (t, f) = (text ∙ ap (w ++◌) t, record { on = omega (arith, f.on); within = f.within })
-  ended-past l Ended.Finish t = text ∙ ap (w ++◌) t ∙ append-nil w
-  ended-past l Ended.No h = λ k. h (starts-cancel w (starts-as text (sym (append-nil w)) k))
+  pub ended-past : at ≤ p → (r : Option Ended) → EndedIs s p [] r → EndedIs s at w r
+  ended-past l (Some (Ended.Space q)) (t, f) = (text ∙ ap (w ++◌) t, record { on = omega (arith, f.on); within = f.within })
+  ended-past l (Some (Ended.Line q)) (t, f) = (text ∙ ap (w ++◌) t, record { on = omega (arith, f.on); within = f.within })
+  ended-past l (Some Ended.Finish) t = text ∙ ap (w ++◌) t ∙ append-nil w
+  ended-past l None h = λ k. h (starts-cancel w (starts-as text (sym (append-nil w)) k))
 
 -- by the next byte
-module _ (s : List ℕ) (at b p : ℕ) (next : NextIs s at (Next.Byte b p)) where
-  pub ended-space : b ≡ 32 → EndedIs s at [] (Ended.Space p)
+module _ (s : List ℕ) (at b p : ℕ) (next : NextIs s at (Some (b, p))) where
+  pub ended-space : b ≡ 32 → EndedIs s at [] (Some (Ended.Space p))
   ended-space e = (next.0 ∙ ap (◌∷ left s p) e, next.1)
 
-  pub ended-line : b ≡ 10 → EndedIs s at [] (Ended.Line p)
+  pub ended-line : b ≡ 10 → EndedIs s at [] (Some (Ended.Line p))
   ended-line e = (next.0 ∙ ap (◌∷ left s p) e, next.1)
 
-  pub ended-not : (b ≡ 32 → ⊥) → (b ≡ 10 → ⊥) → EndedIs s at [] Ended.No
+  pub ended-not : (b ≡ 32 → ⊥) → (b ≡ 10 → ⊥) → EndedIs s at [] None
   ended-not h k = λ w. starts-empty (starts-as next.0 refl w) h k
 
 -- ---- a word byte by byte
@@ -122,15 +123,15 @@ module _ (s w : List ℕ) (at p i : ℕ) (within : i < length w) (text : left s 
   left-starts k = starts-cancel (take i w) (starts-as text whole k)
 
   -- the text ends inside it
-  pub word_cut : NextIs s p Next.End → EndedIs s at w Ended.No
+  pub word_cut : NextIs s p None → EndedIs s at w None
   word_cut e = λ k. starts_none (starts-as e refl (left-starts k))
 
   -- another byte stands there
-  pub word-other : (b q : ℕ) → NextIs s p (Next.Byte b q) → (b ≡ get_or w i 0 → ⊥) → EndedIs s at w Ended.No
+  pub word-other : (b q : ℕ) → NextIs s p (Some (b, q)) → (b ≡ get_or w i 0 → ⊥) → EndedIs s at w None
   word-other b q n h = λ k. h (starts-tail (starts-as n.0 refl (left-starts k))).0
 
   -- its byte stands there
-  pub word_next : (b q : ℕ) → NextIs s p (Next.Byte b q) → b ≡ get_or w i 0 → left s at ≡ take (i + 1) w ++ left s q
+  pub word_next : (b q : ℕ) → NextIs s p (Some (b, q)) → b ≡ get_or w i 0 → left s at ≡ take (i + 1) w ++ left s q
   word_next b q n h =
       text ∙ ap (take i w ++◌) (n.0 ∙ ap (◌∷ left s q) h)
       ∙ sym (ap (◌++ left s q) (take_next w i 0 within) ∙ append_assoc (take i w) (get_or w i 0 ∷ []) (left s q))

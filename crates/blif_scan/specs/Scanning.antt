@@ -1,13 +1,13 @@
 -- What the joined text holds from a place on, byte by byte and word by word.
 use Rattle.std.specs.Prelude.{ℕ, ◌+◌, ◌<◌, ◌≤◌, List, [], ◌∷◌, ◌++◌, eqb, length, get_or, drop}
+use Rattle.std.specs.Prelude.{Option, Some, None}
 use mathlib.Core.{Path.◌≡◌, Bool.Bool, Bool.◌&&◌}
 use Rattle.sets.specs.Word.{largest}
 use Rattle.letters.specs.Letters.{decimal}
 use Rattle.blif_laws.specs.Text.{Name, variable, output, name_word}
 use Rattle.blif_laws.specs.Reading.{joined}
 pub use Rattle.blif_laws.specs.Meaning.{Starts, by_space, by_line, by_end}
-use Rattle.blif_scan.specs.declared.{Next.Next, Ended.Ended, Label.Label}
-use Rattle.blif_scan.specs.declared.{Called.Called, Digit.Digit, Numeral.Numeral}
+use Rattle.blif_scan.specs.declared.{Ended.Ended, Label.Label}
 
 -- what is left of the joined text from a place on
 abbrev pub left : List ℕ → ℕ → List ℕ
@@ -22,32 +22,27 @@ pub record Forth (s : List ℕ) (at p : ℕ) : Type 0 where
 abbrev pub is_joint : List ℕ → ℕ → Bool
 is_joint s p = eqb (get_or s p 0) 92 && eqb (get_or s (p + 1) 0) 10
 
--- the next byte, and the place after it
-abbrev pub NextIs : List ℕ → ℕ → Next → Type 0
-NextIs s at (Next.Byte b p) = (left s at ≡ b ∷ left s p) × Forth s at p
-NextIs s at Next.End = left s at ≡ []
+-- the next byte, and the place after it; or none is left
+abbrev pub NextIs : List ℕ → ℕ → Option (ℕ × ℕ) → Type 0
+NextIs s at (Some (b, p)) = (left s at ≡ b ∷ left s p) × Forth s at p
+NextIs s at None = left s at ≡ []
 
 -- the word w stands at a place, and what ends it; or it does not
-abbrev pub EndedIs : List ℕ → ℕ → List ℕ → Ended → Type 0
-EndedIs s at w (Ended.Space p) = (left s at ≡ w ++ (32 ∷ left s p)) × Forth s at p
-EndedIs s at w (Ended.Line p) = (left s at ≡ w ++ (10 ∷ left s p)) × Forth s at p
-EndedIs s at w Ended.Finish = left s at ≡ w
-EndedIs s at w Ended.No = Starts (left s at) w → ⊥
+abbrev pub EndedIs : List ℕ → ℕ → List ℕ → Option Ended → Type 0
+EndedIs s at w (Some (Ended.Space p)) = (left s at ≡ w ++ (32 ∷ left s p)) × Forth s at p
+EndedIs s at w (Some (Ended.Line p)) = (left s at ≡ w ++ (10 ∷ left s p)) × Forth s at p
+EndedIs s at w (Some Ended.Finish) = left s at ≡ w
+EndedIs s at w None = Starts (left s at) w → ⊥
 
 -- the digit at a place; or none stands there
-abbrev pub DigitIs : List ℕ → ℕ → Digit → Type 0
-DigitIs s at (Digit.Is d p) = (left s at ≡ (48 + d) ∷ left s p) × Forth s at p × (d < 10)
-DigitIs s at Digit.No = (d : ℕ) (t : List ℕ) → d < 10 → left s at ≡ (48 + d) ∷ t → ⊥
+abbrev pub DigitIs : List ℕ → ℕ → Option (ℕ × ℕ) → Type 0
+DigitIs s at (Some (d, p)) = (left s at ≡ (48 + d) ∷ left s p) × Forth s at p × (d < 10)
+DigitIs s at None = (d : ℕ) (t : List ℕ) → d < 10 → left s at ≡ (48 + d) ∷ t → ⊥
 
 -- the number stands at a place, and what ends it; or none that a machine word holds does
-abbrev pub NumeralBy : List ℕ → ℕ → ℕ → Ended → Type 0
-NumeralBy s at n (Ended.Space p) = EndedIs s at (decimal n) (Ended.Space p)
-NumeralBy s at n (Ended.Line p) = EndedIs s at (decimal n) (Ended.Line p)
-NumeralBy s at n Ended.Finish = EndedIs s at (decimal n) Ended.Finish
-NumeralBy s at n Ended.No = (m : ℕ) → m ≤ largest → Starts (left s at) (decimal m) → ⊥
-
-abbrev pub NumeralIs : List ℕ → ℕ → Numeral → Type 0
-NumeralIs s at r = NumeralBy s at r.value r.ended
+abbrev pub NumeralIs : List ℕ → ℕ → Option (ℕ × Ended) → Type 0
+NumeralIs s at (Some (n, e)) = EndedIs s at (decimal n) (Some e)
+NumeralIs s at None = (m : ℕ) → m ≤ largest → Starts (left s at) (decimal m) → ⊥
 
 abbrev pub label_of : Label → Name
 label_of (Label.Variable v) = variable v
@@ -59,11 +54,6 @@ Small (variable v) = v ≤ largest
 Small (output j) = j ≤ largest
 
 -- the name stands at a place, and what ends it; or no small name does
-abbrev pub CalledBy : List ℕ → ℕ → Name → Ended → Type 0
-CalledBy s at a (Ended.Space p) = EndedIs s at (name_word a) (Ended.Space p)
-CalledBy s at a (Ended.Line p) = EndedIs s at (name_word a) (Ended.Line p)
-CalledBy s at a Ended.Finish = EndedIs s at (name_word a) Ended.Finish
-CalledBy s at a Ended.No = (b : Name) → Small b → Starts (left s at) (name_word b) → ⊥
-
-abbrev pub CalledIs : List ℕ → ℕ → Called → Type 0
-CalledIs s at r = CalledBy s at (label_of r.name) r.ended
+abbrev pub CalledIs : List ℕ → ℕ → Option (Label × Ended) → Type 0
+CalledIs s at (Some (a, e)) = EndedIs s at (name_word (label_of a)) (Some e)
+CalledIs s at None = (b : Name) → Small b → Starts (left s at) (name_word b) → ⊥

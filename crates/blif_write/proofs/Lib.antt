@@ -2,3 +2,4 @@ pub mod Walking
 pub mod Texts
 pub mod Renewing
 pub mod Again
+pub mod Numbered

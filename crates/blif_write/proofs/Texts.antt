@@ -52,10 +52,10 @@ row-start c d p = rw (plain-nil c (plains_of c) p) (go (plains_of c))
     go (v ∷ vs) = ended-first (spaced (row_words (v ∷ vs) d)) [] ∙ append_assoc (map (sign_of d) (v ∷ vs)) (32 ∷ 49 ∷ []) (10 ∷ [])
 
 module _ (vs : List ℕ) (f : List (List ℕ)) (i : ℕ) where
-  pub rows_next : (c : List ℕ) → i < length f → c ≡ get_or f i []
+  pub rows_next : (c : List ℕ) → i < length f → c ≡ get_or f i c
       → rows_text vs (drop i f) ≡ ended (spaced (row_words vs c) ∷ []) ++ rows_text vs (drop (i + 1) f)
   rows_next c h e =
-      ap (rows_text vs) (drop-next f i [] h ∙ ap (◌∷ drop (i + 1) f) (sym e))
+      ap (rows_text vs) (drop-next f i c h ∙ ap (◌∷ drop (i + 1) f) (sym e))
       ∙ ended-append (spaced (row_words vs c) ∷ []) (map (λ d. spaced (row_words vs d)) (drop (i + 1) f))
 
   pub rows_none : length f ≤ i → rows_text vs (drop i f) ≡ []

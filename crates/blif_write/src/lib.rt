@@ -37,10 +37,8 @@ fn put_names(o: &mut [u8], at: usize, b: u8, n: usize) -> usize
     ensures { Laid o.old o.new at result (led (first_names b n)) }
 {
     let mut p = at;
-    let mut i = 0;
-    while i < n {
+    for i in 0..n {
         p = put_word(o, p, b, i as u64);
-        i += 1;
     }
     p
 }
@@ -61,9 +59,10 @@ fn put_read(o: &mut [u8], at: usize, set: Cube, v: u32) -> usize
     ensures { Laid o.old o.new at result (cond (mem (plain_of v) (lits set)) (32 ∷ name_text 120 v) []) }
 {
     if has(set, v) {
-        return put_word(o, at, b'x', v as u64);
+        put_word(o, at, b'x', u64::from(v))
+    } else {
+        at
     }
-    at
 }
 
 // The names of the set's variables.
@@ -71,10 +70,8 @@ fn put_reads(o: &mut [u8], at: usize, set: Cube) -> usize
     ensures { Laid o.old o.new at result (led (map (name_text 120) (plains_of (lits set)))) }
 {
     let mut p = at;
-    let mut v = 0;
-    while v < cube::VARIABLES {
+    for v in 0..cube::VARIABLES {
         p = put_read(o, p, set, v);
-        v += 1;
     }
     p
 }
@@ -87,12 +84,12 @@ fn sign(c: Cube, v: u32) -> u8
     ensures { result ≡ sign_of (lits c) v }
 {
     if cube::has(c, cube::plain(Variable(v))) {
-        return b'1';
+        b'1'
+    } else if cube::has(c, cube::negated(Variable(v))) {
+        b'0'
+    } else {
+        b'-'
     }
-    if cube::has(c, cube::negated(Variable(v))) {
-        return b'0';
-    }
-    b'-'
 }
 
 // The sign of v, where the set has it.
@@ -101,9 +98,10 @@ fn put_sign(o: &mut [u8], at: usize, set: Cube, c: Cube, v: u32) -> usize
     ensures { Laid o.old o.new at result (cond (mem (plain_of v) (lits set)) (sign_of (lits c) v ∷ []) []) }
 {
     if has(set, v) {
-        return letters::put(o, at, sign(c, v));
+        letters::put(o, at, sign(c, v))
+    } else {
+        at
     }
-    at
 }
 
 // The signs of the set's variables.
@@ -111,10 +109,8 @@ fn put_signs(o: &mut [u8], at: usize, set: Cube, c: Cube) -> usize
     ensures { Laid o.old o.new at result (map (sign_of (lits c)) (plains_of (lits set))) }
 {
     let mut p = at;
-    let mut v = 0;
-    while v < cube::VARIABLES {
+    for v in 0..cube::VARIABLES {
         p = put_sign(o, p, set, c, v);
-        v += 1;
     }
     p
 }
@@ -124,9 +120,10 @@ fn put_gap(o: &mut [u8], at: usize, set: Cube) -> usize
     ensures { Laid o.old o.new at result (cond (is_nil (lits set)) [] (32 ∷ [])) }
 {
     if cube_sets::is_empty(set) {
-        return at;
+        at
+    } else {
+        letters::put(o, at, b' ')
     }
-    letters::put(o, at, b' ')
 }
 
 // The row of a cube.
@@ -144,12 +141,9 @@ fn put_rows(o: &mut [u8], at: usize, set: Cube, f: &[u64]) -> usize
     requires { AllPlain (lits set) }
     ensures { Laid o.old o.new at result (rows_text (plains_of (lits set)) (cubes_of f.now)) }
 {
-    let n = expression::number(f);
     let mut p = at;
-    let mut i = 0;
-    while i < n {
-        p = put_row(o, p, set, expression::cube_at(f, i));
-        i += 1;
+    for c in expression::each(f) {
+        p = put_row(o, p, set, c);
     }
     p
 }
@@ -169,25 +163,14 @@ fn put_block(o: &mut [u8], at: usize, f: &[u64], b: u8, v: u64) -> usize
 }
 
 // The blocks of n nodes from place a on, with numbers from v on.
-fn put_blocks(
-    o: &mut [u8],
-    at: usize,
-    words: &[u64],
-    counts: &[usize],
-    a: usize,
-    n: usize,
-    b: u8,
-    v: usize,
-) -> usize
-    requires { Nameable counts.now a n v }
-    ensures { Laid o.old o.new at result (blocks_text b v (nodes_at a n words.now counts.now)) }
+fn put_blocks(o: &mut [u8], at: usize, net: &Network, a: usize, n: usize, b: u8, v: usize) -> usize
+    requires { Nameable net.now.counts a n v }
+    ensures { Laid o.old o.new at result (blocks_text b v (nodes_at a n net.now.words net.now.counts)) }
 {
     let mut p = at;
-    let mut i = 0;
-    while i < n {
-        let f = network_nodes::node(words, counts, a + i);
+    let nodes = network_nodes::each(&net.words, &net.counts);
+    for (i, f) in nodes.skip(a).take(n).enumerate() {
         p = put_block(o, p, f, b, (v + i) as u64);
-        i += 1;
     }
     p
 }
@@ -206,15 +189,13 @@ fn put_head(o: &mut [u8], n: usize, m: usize) -> usize
 }
 
 // The text of a network as it stands, as far as there is room, and its length.
-fn put_model(o: &mut [u8], n: Network) -> usize
-    requires { Limited n }
-    ensures { Laid o.old o.new 0 result (model_text (spelled "net") (model_of (net_of n))) }
+fn put_model(o: &mut [u8], n: &Network) -> usize
+    requires { Limited n.now }
+    ensures { Laid o.old o.new 0 result (model_text (spelled "net") (model_of (net_of n.now))) }
 {
-    let words = n.words;
-    let counts = n.counts;
     let p = put_head(o, n.inputs, n.outputs);
-    let q = put_blocks(o, p, &words, &counts, n.outputs, n.divisors, b'x', n.inputs);
-    let r = put_blocks(o, q, &words, &counts, 0, n.outputs, b'y', 0);
+    let q = put_blocks(o, p, n, n.outputs, n.divisors, b'x', n.inputs);
+    let r = put_blocks(o, q, n, 0, n.outputs, b'y', 0);
     letters::put_bytes(o, r, b".end\n")
 }
 
@@ -228,11 +209,10 @@ pub fn write(n: Network, room: &mut [u8]) -> Wrote
         return Wrote::Refused(10);
     };
     let net = r.network;
-    let none = 0;
-    let length = put_model(&mut room[..none], net);
+    let length = put_model(&mut [], &net);
     if room.len() < length {
         return Wrote::Refused(9);
     }
-    put_model(room, net);
+    put_model(room, &net);
     Wrote::Bytes(length)
 }

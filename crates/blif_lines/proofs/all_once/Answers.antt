@@ -1,23 +1,10 @@
--- The answers of `blif_lines::all_once`.
-use mathlib.Core.Path.{refl}
-use native.Mathlib.Omega.{arith}
-use borrow.Author.Tests.{eq-eqb, ne_eqb}
-use lib.Dec.{eqb}
-use Rattle.blif_lines.proofs.Marking.{test-stop, test_on, test-done}
+-- `blif_lines::all_once` meets its contract. Assumes nothing.
+use Rattle.std.proofs.Common.{rules, tests, eqb}
+use Rattle.std.proofs.lemmas.Iterator.{YieldsList-from_slice, YieldsList-from_take}
+use Rattle.sets.proofs.Chains.{all-chain}
 use Rattle.blif_lines.proofs.all_once.Goals as goal
-
-pub returns-then-marks-i-ne1 : goal.returns-then-marks-i-ne1
-returns-then-marks-i-ne1 c =
-    test-stop (λ x. eqb x 1) c.args.marks.now c.args.k c.least-n.ensures c.loop-i.invariant (omega arith)
-    (ne_eqb _ 1 (omega arith))
-
-pub loop-i-preserved : goal.loop-i-preserved
-loop-i-preserved c =
-    test_on (λ x. eqb x 1) c.args.marks.now c.args.k c.least-n.ensures c.loop-i.invariant (omega arith) (eq-eqb _ 1 (omega arith))
 
 pub returns : goal.returns
 returns c =
-    test-done (λ x. eqb x 1) c.args.marks.now c.args.k c.least-n.ensures c.loop-i.invariant c.loop-i-test.false
-
-pub loop-i-init : goal.loop-i-init
-loop-i-init c = refl
+    all-chain (λ x. eqb x 1) _ _ _ c.all.ensures.ran (YieldsList-from_take c.args.k (YieldsList-from_slice c.args.marks.now cc) c.take.ensures.count)
+    (λ x b q k. search (rules, tests))

@@ -1,20 +1,17 @@
 -- `blif_lines::end_row` meets its contract. Assumes nothing.
-use Rattle.blif_lines.proofs.Rowing.{end-spaceless, end-got, end-other}
+use Rattle.blif_lines.proofs.Rowing.{end-spaceless, end-wordless, end-got, end-other}
 use Rattle.blif_lines.proofs.end_row.Goals as goal
+
+pub returns-in_err-p : goal.returns-in_err-p
+returns-in_err-p c = rw c.from_residual.ensures (end-spaceless c.args.s.now c.args.at c.args.r c.in_err-p.ensures)
+
+pub returns-in_err-q : goal.returns-in_err-q
+returns-in_err-q c =
+    rw c.from_residual-in_err-q.ensures (end-wordless c.args.s.now c.args.at c.args.r c.in_ok-p.p c.in_ok-p.ensures c.in_err-q.ensures)
+
+pub returns-in-Line : goal.returns-in-Line
+returns-in-Line c = end-got c.args.s.now c.args.at c.args.r c.in_ok-p.p c.in-Line.q c.in_ok-p.ensures (rw c.in-Line.is at c.in_ok-q.ensures)
 
 pub returns-in_default : goal.returns-in_default
 returns-in_default c =
-    let a = c.args in
-    end-spaceless a.s.now a.at a.r (rw c.in_default.is at c.after_signs-a.ensures)
-
-pub returns-in_default-e : goal.returns-in_default-e
-returns-in_default-e c =
-    let a = c.args in
-    end-other a.s.now a.at a.r c.in-At.p c.keyword-e.result (rw c.in-At.is at c.after_signs-a.ensures) c.keyword-e.ensures
-    c.in_default-e.not-Line
-
-pub returns : goal.returns
-returns c =
-    let a = c.args in
-    end-got a.s.now a.at a.r c.in-At.p c.in-Line.q (rw c.in-At.is at c.after_signs-a.ensures)
-    (rw c.in-Line.is at c.keyword-e.ensures)
+    end-other c.args.s.now c.args.at c.args.r c.in_ok-p.p _ c.in_ok-p.ensures c.in_ok-q.ensures c.in_default.not-Line

@@ -1,36 +1,60 @@
 -- The answers of `blif_write::put_blocks`.
-use mathlib.Core.Path.{◌≡◌, refl, sym, ◌∙◌}
+use Prim.Native.Nat.{ℕ, ◌+◌, ◌<◌}
+use mathlib.Core.Path.{◌≡◌, refl, ap, ◌∙◌}
+use mathlib.Core.List.{[]}
 use native.Mathlib.Omega.{arith}
-use lib.ListN.{length}
-use Rattle.letters.proofs.Laying.{due_all, due-as, due-next, due-done}
-use Rattle.blif_write.specs.Parts.{nodes_at}
-use Rattle.blif_write.proofs.Texts.{blocks-all, blocks-next, blocks-none, nodes-length, node_at}
+use borrow.Author.Rules.{rules}
+use lib.ListN.{length, get_or, length-append}
+use Rattle.std.proofs.lemmas.Iterator.Consumers.{YieldsList-at, YieldsList-turn, YieldsList-end}
+use Rattle.std.proofs.lemmas.List.FromFn.{length-enumerate_from}
+use Rattle.letters.specs.Letters.{name_text}
+use Rattle.letters.proofs.Laying.{due_all, due-as, due-next, due-done, laid_as}
+use Rattle.expression.specs.Words.{cubes_of}
+use Rattle.blif_write.specs.Parts.{nodes_at, block_text}
+use Rattle.blif_write.proofs.Numbered.{numbered-list, numbered-turn}
+use Rattle.blif_write.proofs.Texts.{blocks-all, blocks-next, blocks-none, nodes-length}
 use Rattle.blif_write.proofs.put_blocks.Goals as goal
-use Rattle.blif_write.proofs.put_blocks.Goals.{Start}
+use Rattle.blif_write.proofs.put_blocks.Goals.{In-Some}
+
+-- the node of a turn
+turn : (c : In-Some) → let n = c.args.net.now in let fs = nodes_at c.args.a c.args.n n.words n.counts in let k = length c.loop-i.yielded in
+    (k < length fs) × (c.in-Some.i ≡ k) × (cubes_of c.in-Some.f.now ≡ get_or fs k [])
+turn c = numbered-turn _ _ _ _ (YieldsList-turn
+    (YieldsList-at c.into_iter-i-iterator.ensures.into_iter_gives
+    (numbered-list c.args.a c.args.n c.enumerate-i-items.ensures.source c.enumerate-i-items.ensures.count c.take.ensures.source c.take.ensures.count
+    c.skip.ensures.source c.skip.ensures.count c.each-nodes.ensures))
+    c.loop-i.yielded _ c.loop-i.yielded_by _ c.next.new.self (c.in-Some.i, c.in-Some.f) c.in-Some.is c.next.ensures.steps)
 
 pub loop-i-init : goal.loop-i-init
-loop-i-init c = (omega arith, due_all _ _ (omega arith) (omega arith) (blocks-all _ _ _), refl)
-
--- there are so many nodes
-many : (s : Start) → length (nodes_at s.args.a s.args.n s.args.words.now s.args.counts.now) ≡ s.args.n
-many s = nodes-length s.args.words.now s.args.counts.now s.args.a s.args.n s.requires.inside
-
-pub overflow_add-a : goal.overflow_add-a
-overflow_add-a c = omega (arith, c.requires.inside)
+loop-i-init c =
+    record { goes_on = search rules; ends = search rules; due = due_all _ _ (omega arith) (omega arith) (blocks-all _ _ _); size = refl }
 
 pub overflow_add-v : goal.overflow_add-v
-overflow_add-v c = omega (arith, c.loop-i-test.true, c.requires.small)
+overflow_add-v c =
+    let n = c.args.net.now in
+    let t = turn (goal.at.overflow_add-v c).In-Some in
+    omega (arith, t.0, t.1, nodes-length n.words n.counts c.args.a c.args.n c.requires.inside, c.requires.small)
 
 pub loop-i-preserved : goal.loop-i-preserved
 loop-i-preserved c =
-    let k = c.loop-i.i in
-    let is = c.node-f.ensures.0 ∙ sym (node_at c.args.words.now c.args.counts.now c.args.a c.args.n k c.loop-i-test.true) in
-    let next = due-as c.loop-i.invariant.1 (blocks-next _ c.args.v _ k _ (omega (arith, many (goal.at.loop-i-preserved c).Start, c.loop-i-test.true)) is) in
-    (omega arith, due-next next c.put_block-p.ensures, c.put_block-p.auto.o ∙ c.loop-i.invariant.2)
-
-pub shape_of-o : goal.shape_of-o
-shape_of-o c = c.loop-i.invariant.2
+    let t = turn (goal.at.loop-i-preserved c).In-Some in
+    let f = cubes_of c.in-Some.f.now in
+    record {
+      goes_on = search rules;
+      ends = search rules;
+      due = rw (length-append c.loop-i.yielded _)
+          (due-next (due-as c.loop-i.invariant.due (blocks-next c.args.b c.args.v _ (length c.loop-i.yielded) f t.0 t.2))
+          (laid_as c.put_block-p.ensures (ap (λ (k : ℕ). block_text (name_text c.args.b (c.args.v + k)) f) t.1)));
+      size = c.put_block-p.auto.o ∙ c.loop-i.invariant.size;
+    }
 
 pub returns : goal.returns
 returns c =
-    due-done (due-as c.loop-i.invariant.1 (blocks-none _ c.args.v _ c.loop-i.i (omega (arith, many (goal.at.returns c).Start, c.loop-i-test.false))))
+    let n = c.args.net.now in
+    let q = YieldsList-end
+    (YieldsList-at c.into_iter-i-iterator.ensures.into_iter_gives
+    (numbered-list c.args.a c.args.n c.enumerate-i-items.ensures.source c.enumerate-i-items.ensures.count c.take.ensures.source c.take.ensures.count
+    c.skip.ensures.source c.skip.ensures.count c.each-nodes.ensures))
+    c.loop-i.yielded _ c.loop-i.yielded_by _ c.next.new.self c.in-None.is c.next.ensures.steps in
+    due-done (due-as c.loop-i.invariant.due
+    (blocks-none c.args.b c.args.v _ (length c.loop-i.yielded) (omega (arith, q.1, length-enumerate_from 0 (nodes_at c.args.a c.args.n n.words n.counts)))))

@@ -6,16 +6,12 @@ use Rattle.blif_write.proofs.Walking.{names-all, names-next, names-none}
 use Rattle.blif_write.proofs.put_names.Goals as goal
 
 pub loop-i-init : goal.loop-i-init
-loop-i-init c = (omega arith, due_all _ _ (omega arith) (omega arith) (names-all _ _), refl)
+loop-i-init c = (due_all _ _ (omega arith) (omega arith) (names-all _ _), refl)
 
 pub loop-i-preserved : goal.loop-i-preserved
 loop-i-preserved c =
-    let next = due-as c.loop-i.invariant.1 (names-next _ _ c.loop-i.i c.loop-i-test.true) in
-    (omega arith, due-next next c.put_word-p.ensures, c.put_word-p.auto.o ∙ c.loop-i.invariant.2)
-
-pub shape_of-o : goal.shape_of-o
-shape_of-o c = c.loop-i.invariant.2
+    let next = due-as c.loop-i.invariant.0 (names-next _ _ c.loop-i.i c.loop-i-test.true) in
+    (due-next next c.put_word-p.ensures, c.put_word-p.auto.o ∙ c.loop-i.invariant.1)
 
 pub returns : goal.returns
-returns c =
-    due-done (due-as c.loop-i.invariant.1 (names-none _ _ c.loop-i.i (omega arith)))
+returns c = due-done (due-as c.loop-i.invariant.0 (names-none _ _ c.loop-i.i (omega arith)))

@@ -14,15 +14,12 @@ abbrev named : List ℕ → List ℕ
 named l = led (map (name_text 120) l)
 
 pub loop-v-init : goal.loop-v-init
-loop-v-init c = (omega arith, due_all _ _ (omega arith) (omega arith) (ap named (plains_all _)), refl)
+loop-v-init c = (due_all _ _ (omega arith) (omega arith) (ap named (plains_all _)), refl)
 
 pub loop-v-preserved : goal.loop-v-preserved
 loop-v-preserved c =
-    let next = due-as c.loop-v.invariant.1 (read_next _ c.loop-v.v c.loop-v-test.true) in
-    (omega arith, due-next next c.put_read-p.ensures, c.put_read-p.auto.o ∙ c.loop-v.invariant.2)
-
-pub shape_of-o : goal.shape_of-o
-shape_of-o c = c.loop-v.invariant.2
+    let next = due-as c.loop-v.invariant.0 (read_next _ c.loop-v.v c.loop-v-test.true) in
+    (due-next next c.put_read-p.ensures, c.put_read-p.auto.o ∙ c.loop-v.invariant.1)
 
 pub returns : goal.returns
-returns c = due-done (due-as c.loop-v.invariant.1 (ap named (plains-none _ c.loop-v.v (omega arith))))
+returns c = due-done (due-as c.loop-v.invariant.0 (ap named (plains-none _ c.loop-v.v (omega arith))))

@@ -1,5 +1,5 @@
 -- The answers of `blif_read::build::build`.
-use Prim.Native.Nat.{ℕ, ◌+◌, ◌≤◌}
+use Prim.Native.Nat.{ℕ}
 use native.Mathlib.Omega.{arith}
 use borrow.Author.Rules.{rules}
 use lib.ListN.{length-replicate}
@@ -8,21 +8,19 @@ use Rattle.network.specs.{Handed.cube_slots, Handed.word_slots}
 use Rattle.network.proofs.Laying.{laid_none}
 use Rattle.blif_read.proofs.Building.{Whole, built-next, built-all}
 use Rattle.blif_read.proofs.build.build.Goals as goal
-use Rattle.blif_read.proofs.build.build.Goals.{After-put_named-size}
 
 pub loop-i-init : goal.loop-i-init
-loop-i-init c = (omega arith, length-replicate {A = ℕ} word_slots 0, omega arith, λ bs w. laid_none)
+loop-i-init c = (length-replicate {A = ℕ} word_slots 0, omega arith, λ bs w. laid_none)
 
-room : (c : After-put_named-size) → c.loop-i.at + c.put_named-size.result ≤ cube_slots
-room c = omega (arith, c.put_named-size.ensures.1, room-cubes c.loop-i.out cube_slots c.loop-i.invariant.1)
+pub overflow_add-at : goal.overflow_add-at
+overflow_add-at c = omega (arith, c.put_named-size.ensures.1, room-cubes c.loop-i.out cube_slots c.loop-i.invariant.0)
 
 pub loop-i-preserved : goal.loop-i-preserved
 loop-i-preserved c = (
-  omega arith,
   search rules,
-  room (goal.at.loop-i-preserved c).After-put_named-size,
-  λ bs w. built-next c.requires w (omega arith) c.name_at.ensures (room-cubes c.loop-i.out cube_slots c.loop-i.invariant.1)
-      (c.loop-i.invariant.3 bs w) c.put_named-size.ensures.0,
+  omega (arith, c.put_named-size.ensures.1, room-cubes c.loop-i.out cube_slots c.loop-i.invariant.0),
+  λ bs w. built-next c.requires w (omega arith) c.name_at.ensures (room-cubes c.loop-i.out cube_slots c.loop-i.invariant.0)
+      (c.loop-i.invariant.2 bs w) c.put_named-size.ensures.0,
 )
 
 pub returns : goal.returns
@@ -31,19 +29,4 @@ returns c =
     λ bs blocks small once many known few defined.
     let w : Whole a.s.now a.first a.n a.m a.k bs =
     record { blocks = blocks; small = small; once = once; many = many; known = known; few = few; defined = defined } in
-    built-all c.requires w {i = c.loop-i.i} (omega arith) (c.loop-i.invariant.3 bs w)
-
-pub overflow_add-m : goal.overflow_add-m
-overflow_add-m c = omega (arith, c.requires.outputs, c.requires.variables)
-
-pub offset_bounds-sizes-i : goal.offset_bounds-sizes-i
-offset_bounds-sizes-i c = omega (arith, c.requires.outputs, c.requires.variables)
-
-pub bounds-sizes-i : goal.bounds-sizes-i
-bounds-sizes-i c = omega (arith, c.requires.outputs, c.requires.variables)
-
-pub overflow_add-at : goal.overflow_add-at
-overflow_add-at c = omega (arith, room (goal.at.overflow_add-at c).After-put_named-size)
-
-pub overflow_add-i : goal.overflow_add-i
-overflow_add-i c = omega (arith, c.requires.outputs, c.requires.variables)
+    built-all c.requires w {i = c.loop-i.i} (omega arith) (c.loop-i.invariant.2 bs w)

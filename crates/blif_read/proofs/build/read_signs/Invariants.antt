@@ -1,6 +1,5 @@
 -- `blif_read::build::read_signs` meets its contract. The loop's invariant: whatever the signs are, those passed have their literals in the cube, and
 -- the others are left. Assumes nothing.
-use Prim.Native.Nat.{◌-◌, ◌≤◌}
 use mathlib.Core.{Path.◌≡◌, List.List, List.◌++◌}
 use lib.ListN.{length}
 use Rattle.cube.specs.Cube.{lits}
@@ -9,9 +8,6 @@ use Rattle.blif_read.specs.Building.{Columns}
 use Rattle.blif_read.proofs.Putting.{SignsTo}
 use Rattle.blif_read.proofs.build.read_signs.Given as goal
 
-abbrev pub invariant-loop-i : goal.invariant-loop-i
-invariant-loop-i l =
-    (l.i ≤ length l.vars) × ((w t : List _) → Columns l.vars → length w ≡ length l.vars → left l.s l.from ≡ w ++ t → SignsTo l.s l.at l.vars (lits l.c) l.i w t)
-
-abbrev pub decreases-loop-i : goal.decreases-loop-i
-decreases-loop-i l = length l.vars - l.i
+abbrev pub invariant-loop-v : goal.invariant-loop-v
+invariant-loop-v l =
+    (w t : List _) → Columns l.vars → length w ≡ length l.vars → left l.s l.from ≡ w ++ t → SignsTo l.s l.at l.vars (lits l.c) l.v-index w t

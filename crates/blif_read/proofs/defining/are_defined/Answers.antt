@@ -1,7 +1,7 @@
 -- The answers of `blif_read::defining::are_defined`.
 use mathlib.Core.Path.{refl, sym, ◌∙◌}
 use native.Mathlib.Omega.{arith}
-use Rattle.sets.specs.{Lists.from}
+use Rattle.sets.specs.Lists.{from}
 use Rattle.blif_lines.proofs.Windows.{windows-on, windows-stop, windows-done}
 use Rattle.blif_read.proofs.defining.are_defined.Goals as goal
 
@@ -9,19 +9,10 @@ pub loop-base-init : goal.loop-base-init
 unfolding from
 loop-base-init c = λ m bs f b k. refl
 
-pub is_defined-requires : goal.is_defined-requires
-is_defined-requires c = omega (arith, c.span-k.ensures)
-
 pub returns-then-not-is_defined : goal.returns-then-not-is_defined
 returns-then-not-is_defined c = λ m bs f b k.
     sym (windows-stop _ c.loop-base.base c.span-k.result _ (omega (arith, c.span-k.ensures))
     (sym (c.is_defined.ensures m bs f b k) ∙ c.if-not-is_defined.true))
-
-pub overflow_add-base : goal.overflow_add-base
-overflow_add-base c = omega (arith, c.span-k.ensures)
-
-pub loop-base-smaller : goal.loop-base-smaller
-loop-base-smaller c = omega (arith, c.span-k.ensures)
 
 pub loop-base-preserved : goal.loop-base-preserved
 loop-base-preserved c = λ m bs f b k.

@@ -11,10 +11,10 @@ use Rattle.blif_form.specs.Surveying.{BlocksOf, SmallBlocks}
 use Rattle.blif_read.proofs.Counting.{Tallied}
 use Rattle.blif_read.proofs.defining.define.Given as goal
 
-abbrev pub invariant-loop-spare : goal.invariant-loop-spare
-invariant-loop-spare l = (length l.marks ≡ length l.initial.marks) × (length l.spare ≡ 1)
+abbrev pub invariant-loop-b : goal.invariant-loop-b
+invariant-loop-b l = (length l.marks ≡ length l.initial.marks)
     × ((m : ℕ) (bs : List Block) → m ≤ largest → BlocksOf (left l.s l.first) m bs → SmallBlocks bs
     → Tallied l.s l.at m l.base (λ (b : Block). number_if l.outputs b.name) bs l.initial.marks l.marks)
 
-abbrev pub decreases-loop-spare : goal.decreases-loop-spare
-decreases-loop-spare l = length l.s - l.at
+abbrev pub decreases-loop-b : goal.decreases-loop-b
+decreases-loop-b l = length l.s - l.at

@@ -1,11 +1,7 @@
 -- `blif_read::mark_inputs` meets its contract. The loop's invariant: the numbers passed are marked. Assumes nothing.
-use Prim.Native.Nat.{◌-◌, ◌≤◌}
-use Rattle.sets.{specs.Lists.from}
-use Rattle.blif_lines.{specs.Marking.Raised}
+use Rattle.sets.specs.Lists.{from}
+use Rattle.blif_lines.specs.Marking.{Raised}
 use Rattle.blif_read.proofs.defining.mark_inputs.Given as goal
 
 abbrev pub invariant-loop-i : goal.invariant-loop-i
-invariant-loop-i l = (l.i ≤ l.k) × Raised l.base (from l.base l.i) l.initial.marks l.marks
-
-abbrev pub decreases-loop-i : goal.decreases-loop-i
-decreases-loop-i l = l.k - l.i
+invariant-loop-i l = Raised l.base (from l.base l.i) l.initial.marks l.marks
