@@ -11,7 +11,7 @@ ghost use Rattle.cokernel.specs.Cokernels.{beyond, cokernels};
 ghost use Rattle.cokernel.specs.Answers.{refused_by, Told};
 ghost use Rattle.cokernel.specs.Parts.{only, Shared, Branched, Walks, Walked};
 
-use cube::{Cube, Found, Literal};
+use cube::{Cube, Literal};
 use expression::Verdict;
 
 // The fewest cubes that contain a co-kernel.
@@ -71,8 +71,8 @@ fn agrees(m: Cube, c: Cube, j: u32) -> bool
 {
     let x = cube_order::first_from(cube_sets::without(m, c), Literal(0));
     match x {
-        Found::At(l) => j <= l.0,
-        Found::Nothing => true,
+        Some(l) => j <= l.0,
+        None => true,
     }
 }
 

@@ -5,13 +5,13 @@ use Rattle.cube.{proofs.Lits.lits-asc, specs.Cube.answer}
 use Rattle.cokernel.proofs.{Steps.none-low, Steps.first-low}
 use Rattle.cokernel.proofs.agrees.Goals as goal
 
-pub returns-in-At : goal.returns-in-At
-returns-in-At c =
+pub returns-in-Some : goal.returns-in-Some
+returns-in-Some c =
     let a = c.args in
     first-low a.j _ _ (without-asc _ _ (lits-asc a.m))
-    (ap answer (sym c.in-At.is) ∙ c.first_from-x.ensures
+    (ap answer (sym c.in-Some.is) ∙ c.first_from-x.ensures
     ∙ ap (first_from 0) c.without.ensures)
 
-pub returns-in-Nothing : goal.returns-in-Nothing
-returns-in-Nothing c = none-low _ _ (ap answer (sym c.in-Nothing.is) ∙ c.first_from-x.ensures
+pub returns-in-None : goal.returns-in-None
+returns-in-None c = none-low _ _ (ap answer (sym c.in-None.is) ∙ c.first_from-x.ensures
     ∙ ap (first_from 0) c.without.ensures)
