@@ -1,7 +1,7 @@
 // Every co-kernel of a lent expression, in cube order.
 #![tactic(auto)]
 
-ghost use Rattle.std.specs.Prelude.{◌≡◌, cond, ◌&&◌, ◌+◌, ◌-◌, ◌*◌, ◌<◌, ◌≤◌, leb, eqb};
+ghost use Rattle.std.specs.Prelude.{◌≡◌, MatchOption, ◌&&◌, ◌+◌, ◌-◌, ◌*◌, ◌<◌, ◌≤◌, leb};
 ghost use Rattle.sets.specs.Word.{largest};
 ghost use Rattle.sets.specs.Lists.{all};
 ghost use Rattle.sets.specs.Sets.{without, meet, same};
@@ -39,14 +39,11 @@ struct Branch {
     closed: bool,
 }
 
-// What d has in common with cubes that have m in common; with none where their number is 0.
-fn narrowed(number: usize, m: Cube, d: Cube) -> Cube
-    ensures { lits result ≡ cond (eqb number 0) (lits d) (meet (lits d) (lits m)) }
+// What d has in common with cubes whose common part is m, if there are any.
+fn narrowed(m: Option<Cube>, d: Cube) -> Cube
+    ensures { MatchOption m (lits result ≡ lits d) (λ x. lits result ≡ meet (lits d) (lits x)) }
 {
-    if number == 0 {
-        return d;
-    }
-    cube_sets::common(d, m)
+    m.map_or(d, |x| cube_sets::common(d, x))
 }
 
 // Closes c in one pass, from the last cube to the first.
@@ -54,26 +51,25 @@ fn close(f: &[u64], c: Cube) -> Closure
     ensures { Shared (cubes_of f.now) (lits c) result.number (lits result.common) }
 {
     let mut number = 0;
-    let mut m = cube::empty();
+    let mut m = None;
     for i in (0..expression::number(f)).rev() {
         let d = expression::cube_at(f, i);
         if cube_sets::contains(d, c) {
-            m = narrowed(number, m, d);
+            m = Some(narrowed(m, d));
             number += 1;
         }
     }
-    Closure { number, common: m }
+    Closure {
+        number,
+        common: m.unwrap_or(cube::empty()),
+    }
 }
 
 // Whether m has no literal below j that c lacks.
 fn agrees(m: Cube, c: Cube, j: u32) -> bool
     ensures { result ≡ all (leb j) (without (lits m) (lits c)) }
 {
-    let x = cube_order::first_from(cube_sets::without(m, c), Literal(0));
-    match x {
-        Some(l) => j <= l.0,
-        None => true,
-    }
+    cube_order::each(cube_sets::without(m, c)).all(|l| j <= l.0)
 }
 
 // Whether c, which s closes, is a co-kernel.
