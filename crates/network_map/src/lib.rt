@@ -3,11 +3,11 @@
 
 ghost use Rattle.cube.specs.Cube.{lits};
 ghost use Rattle.network_map.specs.Cells.{row_of, Crossed};
-ghost use Rattle.network_map.specs.Parts.{HasRow, RowSet};
 ghost use Rattle.network_reads.specs.Reading.{Marks};
 
 use cube::Cube;
 use network::{MOST_OUTPUTS, MOST_VARIABLES, Network};
+use std::array;
 
 // A row of cells for each output, a cell in it for each variable.
 pub const CELL_SLOTS: usize = MOST_OUTPUTS * MOST_VARIABLES;
@@ -23,23 +23,14 @@ fn row(n: &Network, j: usize) -> Cube
     }
 }
 
-// Row j of the cells becomes the set.
-fn set_row(cells: &mut [bool; CELL_SLOTS], j: usize, set: Cube)
-    requires { HasRow cells.old j }
-    ensures { RowSet cells.old cells.new j (lits set) }
-{
-    for v in 0..MOST_VARIABLES {
-        cells[j * MOST_VARIABLES + v] = network_known::has_plain(set, v);
-    }
-}
-
 // Cell v of row j says whether output j hangs on the divisor of number v, directly or through others; no input is one.
 pub fn cells(n: Network) -> [bool; CELL_SLOTS]
     ensures { Crossed n result }
 {
-    let mut all = [false; CELL_SLOTS];
-    for j in 0..MOST_OUTPUTS {
-        set_row(&mut all, j, row(&n, j));
-    }
-    all
+    let rows: [Cube; MOST_OUTPUTS] = array::from_fn(
+        |j|
+            ensures { Marks (lits result) (row_of n j) }
+        { row(&n, j) },
+    );
+    array::from_fn(|i| network_known::has_plain(rows[i / MOST_VARIABLES], i % MOST_VARIABLES))
 }

@@ -1,32 +1,35 @@
--- The answers of `network_map::cells`.
-use Prim.Native.Nat.{ℕ, ◌+◌, ◌*◌}
-use mathlib.Core.{Path.◌≡◌, Path.◌∙◌, Bool.Bool, Bool.false, List.List}
+-- `network_map::cells` meets its contract: a cube for each row, and of it a cell for each variable. Assumes nothing.
+use Prim.Native.Nat.{ℕ, ◌+◌, ◌*◌, ◌/◌, ◌%◌, ◌<◌}
+use mathlib.Core.Path.{◌≡◌, ◌∙◌, ap₂}
+use mathlib.Core.{Bool.false}
 use native.Mathlib.Omega.{arith}
-use lib.ListN.{get_or}
-use Rattle.sets.specs.Sets.{mem}
-use Rattle.sets.proofs.Truth.{Stand, below, equal, beyond, compared}
-use Rattle.network.specs.{Held.most_variables, declared.Network.Network}
-use Rattle.network_reads.{specs.Reading.Marks, proofs.Marking.marks-plain}
-use Rattle.network_map.specs.{Cells.row_of, Parts.RowSet}
 use borrow.Author.Rules.{rules}
-use Rattle.network_map.proofs.cells.Invariants.{Rows}
+use borrow.Author.Tests.{tests}
+use lib.ListN.{get_or}
+use Rattle.sets.specs.{Literal.plain_of, Sets.mem}
+use Rattle.cube.specs.{Cube.lits, declared.Cube.Cube}
+use Rattle.network.specs.Held.{most_outputs, most_variables}
+use Rattle.network_reads.{specs.Reading.Marks, proofs.Marking.marks-plain}
+use Rattle.network_map.specs.Cells.{row_of}
+use Rattle.network_map.proofs.Made.{made-at}
 use Rattle.network_map.proofs.cells.Goals as goal
 
--- a row more
-next : (n : Network) (l m : List Bool) (j : ℕ) (set : List ℕ) → Marks set (row_of n j) → RowSet l m j set → Rows n l j → Rows n m (j + 1)
-next n l m j set p r old k v h b = go (compared k j)
-  where
-    go : Stand k j → get_or m (k * most_variables + v) false ≡ mem v (row_of n k)
-    go (below i _ _) = r.before (k * most_variables + v) (omega arith) ∙ old k v i b
-    go (equal i _ _) = rw i (r.row v b ∙ marks-plain p v)
-    go (beyond i _ _) = absurd (omega arith)
-
-pub loop-j-init : goal.loop-j-init
-loop-j-init c = (search rules, λ k v h b. absurd (omega arith))
-
-pub loop-j-preserved : goal.loop-j-preserved
-loop-j-preserved c =
-    (c.set_row.ensures.size ∙ c.loop-j.invariant.0, next _ _ _ _ _ c.row.ensures c.set_row.ensures c.loop-j.invariant.1)
+abbrev none : Cube
+none = record { plain = 0; negated = 0 }
 
 pub returns : goal.returns
-returns c = record { each = λ j v h b. c.loop-j.invariant.1 j v (omega arith) b }
+returns c =
+    let n = c.args.n in
+    let rows = c.from_fn-rows.result in
+    let row : (j : ℕ) → j < most_outputs → Marks (lits (get_or rows j none)) (row_of n j) =
+    made-at (λ j r. Marks (lits r) (row_of n j)) _ most_outputs (λ i y q h k. (search rules, search rules)) none rows c.from_fn-rows.ensures.items in
+    let cell : (i : ℕ) → i < most_outputs * most_variables → get_or c.from_fn.result i false ≡ mem (plain_of (i % most_variables)) (lits (get_or rows (i / most_variables) none)) =
+    made-at (λ i y. y ≡ mem (plain_of (i % most_variables)) (lits (get_or rows (i / most_variables) none))) _ (most_outputs * most_variables)
+    (λ i y q h k. (search rules, search (rules, tests))) false c.from_fn.result c.from_fn.ensures.items in
+    record {
+      each = λ j v a b.
+          let d : (j * most_variables + v) / most_variables ≡ j = omega arith in
+          let m : (j * most_variables + v) % most_variables ≡ v = omega arith in
+          cell (j * most_variables + v) (omega arith)
+          ∙ ap₂ (λ (x y : ℕ). mem (plain_of x) (lits (get_or rows y none))) m d ∙ marks-plain (row j a) v;
+    }
