@@ -15,9 +15,10 @@ use Rattle.table_rows.specs.Lines.{most_places, CubeLine, cube_line_of, cube_of,
 use Rattle.table_rows.specs.Answers.{Entry, parsed_of, entry_of, parsing}
 use Rattle.table_rows.specs.declared.{Parsed.Parsed, Parsed.TheVariants.Line, Parsed.TheVariants.Nothing}
 use Rattle.cube.specs.{Cube.lits, declared.Cube.Cube}
+use Rattle.std.specs.Prelude.{Some}
 use Rattle.table.specs.Table as table
-use Rattle.table.specs.{Meaning.Bounded, Parts.marked, Parts.Stands, declared.State.State}
-use Rattle.table.proofs.Standing.{wide-stored, tall-stored}
+use Rattle.table.specs.{Meaning.Bounded, Parts.held, Parts.marked, Parts.Stands, declared.State.State}
+use Rattle.table.proofs.Standing.{inputs-few, outputs-few}
 
 -- ---- one more cube line
 
@@ -92,35 +93,25 @@ module _ {t : table.State} {s : State} {words marks : List ℕ} (g : Bounded t) 
   abbrev result : table.Turn
   result = table.cube_line t.wide t.tall c t
 
-  pub cube-early : s.inputs ≡ 0 → result ≡ table.refuse 2
-  cube-early e = ap (λ (o : Option ℕ). table.cube_line o t.tall c t) ((wide-stored g h).absent e)
+  module _ {n m : ℕ} (i : s.inputs ≡ Some n) (o : s.outputs ≡ Some m) where
+    cube-there : result ≡ table.add_line (cube_line_of n m c) t
+    cube-there = ap₂ (λ (a b : Option ℕ). table.cube_line a b c t) (sym h.wide ∙ ap held i) (sym h.tall ∙ ap held o)
 
-  pub cube-early-too : s.outputs ≡ 0 → result ≡ table.refuse 2
-  cube-early-too e = ap (λ (o : Option ℕ). table.cube_line t.wide o c t) ((tall-stored g h).absent e) ∙ go t.wide
-    where
-      go : (o : Option ℕ) → table.cube_line o none c t ≡ table.refuse 2
-      go none = refl
-      go (some n) = refl
-
-  module _ (i : s.inputs ≡ 0 → ⊥) (o : s.outputs ≡ 0 → ⊥) where
-    cube-there : result ≡ table.add_line (cube_line_of s.inputs s.outputs c) t
-    cube-there = ap₂ (λ (a b : Option ℕ). table.cube_line a b c t) ((wide-stored g h).present i) ((tall-stored g h).present o)
-
-    parsing-there : parsing s.inputs s.outputs c ≡ entry_of (cube_line_of s.inputs s.outputs c)
+    parsing-there : parsing n m c ≡ entry_of (cube_line_of n m c)
     unfolding parsing
-    parsing-there = rw (le-leb s.inputs most_places (wide-stored g h).few, le-leb s.outputs most_places (tall-stored g h).few)
+    parsing-there = rw (le-leb n most_places (inputs-few g h n i), le-leb m most_places (outputs-few g h m o))
 
-    module _ {p : Parsed} (e : parsed_of p ≡ parsing s.inputs s.outputs c) where
+    module _ {p : Parsed} (e : parsed_of p ≡ parsing n m c) where
       pub cube-other : p ≡ Nothing → result ≡ table.refuse 2
       cube-other q = cube-there ∙ ap (λ (x : Option CubeLine). table.add_line x t)
-          (told_none (cube_line_of s.inputs s.outputs c) (ap parsed_of (sym q) ∙ e ∙ parsing-there))
+          (told_none (cube_line_of n m c) (ap parsed_of (sym q) ∙ e ∙ parsing-there))
 
-      pub cube-behind : (k : Cube) (m r : ℕ) → p ≡ Line k m r → Behind (cube_line_of s.inputs s.outputs c) (lits k) m r
-      cube-behind k m r q = told-some (cube_line_of s.inputs s.outputs c) (lits k) m r (ap parsed_of (sym q) ∙ e ∙ parsing-there)
+      pub cube-behind : (k : Cube) (x r : ℕ) → p ≡ Line k x r → Behind (cube_line_of n m c) (lits k) x r
+      cube-behind k x r q = told-some (cube_line_of n m c) (lits k) x r (ap parsed_of (sym q) ∙ e ∙ parsing-there)
 
-    module _ {k : List ℕ} {m r : ℕ} (b : Behind (cube_line_of s.inputs s.outputs c) k m r) where
+    module _ {k : List ℕ} {x r : ℕ} (b : Behind (cube_line_of n m c) k x r) where
       added : result ≡ table.add_line (some b.line) t
-      added = cube-there ∙ ap (λ (x : Option CubeLine). table.add_line x t) b.is
+      added = cube-there ∙ ap (λ (y : Option CubeLine). table.add_line y t) b.is
 
       pub cube-over : table.most_rows - s.rows < r → result ≡ table.refuse 6
       cube-over l = added ∙ rw (lt-leb (total rows_in t.lines + rows_in b.line) table.most_rows (omega (arith, h.rows, b.rows)))

@@ -14,6 +14,8 @@ use Rattle.sets.{specs.Masks.bit, specs.Masks.packed, proofs.Truth.clash, proofs
 use Rattle.sets.proofs.Lists.{◌∈◌, keep-keep, total-cong, total-sum, total-times, total-map, map-cong}
 use Rattle.expression.specs.{Words.cubes_of, Expression.sort, Expression.absorbed}
 use Rattle.table_rows.specs.Lines.{CubeLine, rows_in, cube_of}
+use Rattle.std.specs.Prelude.{unwrap_or}
+use Rattle.table.proofs.Standing.{held-zero}
 use Rattle.table_columns.specs.Columns.{or_zero}
 use Rattle.table.specs.Table as table
 use Rattle.table.specs.Table.{most_rows, cubes_for, output_for, table_net}
@@ -55,11 +57,11 @@ module _ {t : table.State} {s : State} {words marks : List ℕ} (h : Stands t s 
       ∙ ap (map cube_of) (keep-keep (has j) (λ (c : CubeLine). ltb 0 (rows_in c)) t.lines (λ c e. lt-ltb 0 (rows_in c) (mark-row c.marks j e)))
 
   -- the network built is the table's
-  pub net-same : net_from s.inputs s.outputs words marks s.kept ≡ table_net t
+  pub net-same : net_from (unwrap_or s.inputs 0) (unwrap_or s.outputs 0) words marks s.kept ≡ table_net t
   unfolding table_net
   net-same = λ i. record {
-    inputs = h.wide i;
-    outputs = (ap (λ (m : ℕ). map (formed words marks s.kept) (from 0 m)) h.tall
+    inputs = (held-zero s.inputs ∙ ap or_zero h.wide) i;
+    outputs = (ap (λ (m : ℕ). map (formed words marks s.kept) (from 0 m)) (held-zero s.outputs ∙ ap or_zero h.tall)
         ∙ map-cong (formed words marks s.kept) (output_for t.lines) (from 0 (or_zero t.tall))
         (λ j m. ap (λ (f : List (List ℕ)). sort (absorbed f)) (pick-cubes j))) i;
     divisors = [];
@@ -110,10 +112,10 @@ marked-few (c ∷ l) = go (ltb 0 (rows_in c)) refl (marked-few l)
 
 -- the cubes kept of a table that is accepted can be built from
 pub kept-buildable : {t : table.State} {n m : ℕ} {s : State} {words marks : List ℕ} → Complete t n m → Stands t s words marks
-    → length (cubes_of words) ≡ most_rows → length marks ≡ most_rows → Buildable words marks s.kept s.outputs
+    → length (cubes_of words) ≡ most_rows → length marks ≡ most_rows → Buildable words marks s.kept (unwrap_or s.outputs 0)
 kept-buildable {t} {n} {m} {s} {words} {marks} c h p q =
     let k : s.kept ≤ s.rows = omega (arith, h.kept, h.rows, marked-few t.lines) in
-    let e : s.outputs ≡ m = h.tall ∙ ap or_zero c.tall in
+    let e : unwrap_or s.outputs 0 ≡ m = held-zero s.outputs ∙ ap or_zero (h.tall ∙ c.tall) in
     record {
       source = record { cubes = omega (arith, h.rows, c.rows); masks = omega (arith, h.rows, c.rows) };
       outputs = omega (arith, c.outputs);
@@ -122,6 +124,6 @@ kept-buildable {t} {n} {m} {s} {words} {marks} c h p q =
         c.rows,
         rows-exchange m t.lines (λ l i. (c.shaped l i).marks),
         ap (λ (z : ℕ). total (λ j. length (cubes_for j t.lines)) (from 0 z)) e,
-        total-cong (λ j. length (pick j words marks s.kept)) (λ j. length (cubes_for j t.lines)) (from 0 s.outputs) (λ j i. ap length (pick-cubes h j)),
+        total-cong (λ j. length (pick j words marks s.kept)) (λ j. length (cubes_for j t.lines)) (from 0 (unwrap_or s.outputs 0)) (λ j i. ap length (pick-cubes h j)),
       );
     }

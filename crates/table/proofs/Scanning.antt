@@ -9,6 +9,7 @@ use lib.Dec.{eqb}
 use lib.ListN.{length, drop, get_or, drop_of_length-le}
 use Rattle.std.proofs.lemmas.List.Splits.{length-slice_split}
 use Rattle.std.proofs.lemmas.List.Sums.{count_by-le-length}
+use Rattle.std.specs.Prelude.{None}
 use Rattle.sets.proofs.Places.{drop-next}
 use Rattle.expression.specs.Words.{cubes_of}
 use Rattle.network.specs.Handed.{AllZero}
@@ -57,7 +58,7 @@ pub record Reading (text words marks : List ℕ) (s : State) (k : ℕ) : Type 0 
   pub few : length now.lines ≤ k
   pub left : read_lines (suc k) (drop k (lines_of text)) now ≡ read_lines 1 (lines_of text) start
 
-pub reading-first : (text words marks : List ℕ) → Reading text words marks (record { inputs = 0; outputs = 0; stated = 0; lines = 0; rows = 0; kept = 0 }) 0
+pub reading-first : (text words marks : List ℕ) → Reading text words marks (record { inputs = None; outputs = None; stated = None; lines = 0; rows = 0; kept = 0 }) 0
 reading-first text words marks = record {
   now = start;
   good = start-bounded;

@@ -1,5 +1,6 @@
 -- What the private parts of reading and building hold and leave.
-use Rattle.std.specs.Prelude.{ℕ, ◌+◌, ◌-◌, ◌<◌, ◌≤◌, ltb, eqb, List, [], ◌∷◌, map, length, take, drop, replicate}
+use Rattle.std.specs.Prelude.{ℕ, ◌+◌, ◌-◌, ◌<◌, ◌≤◌, ltb, eqb, List, [], ◌∷◌, map, length, take, drop, replicate, Some, None, unwrap_or}
+use Rattle.std.specs.Prelude as std
 use Rattle.std.proofs.Math.Option.{Option, none, some}
 use mathlib.Core.{Path.◌≡◌, Bool.Bool, Bool.cond}
 use Rattle.sets.specs.Lists.{keep, total, from}
@@ -8,7 +9,7 @@ use Rattle.expression.specs.{Words.cubes_of, Expression.sort, Expression.absorbe
 use Rattle.network.specs.{Net.Net, Held.most_outputs}
 use Rattle.table_kinds.specs.Kinds.{kind_of}
 use Rattle.table_rows.specs.Lines.{CubeLine, rows_in, cube_of}
-use Rattle.table_columns.specs.Columns.{unless_zero, or_zero, column_of}
+use Rattle.table_columns.specs.Columns.{unless_zero, column_of}
 use Rattle.table.specs.Table as table
 use Rattle.table.specs.{Table.most_bytes, Table.most_rows, Meaning.Bounded, declared.Scanned.Scanned}
 use Rattle.table.specs.declared.Answer.TheVariants as Answer
@@ -17,10 +18,10 @@ use Rattle.table.specs.declared.Turn.TheVariants.{Next, Done, Refused}
 
 -- ---- reading
 
--- one more than the number of `.p`; 0 while it is missing
-abbrev pub one_more : Option ℕ → ℕ
-one_more none = 0
-one_more (some n) = n + 1
+-- a number, where it is there
+abbrev pub held : std.Option ℕ → Option ℕ
+held None = none
+held (Some n) = some n
 
 -- the cube lines that make a row
 abbrev pub marked : List CubeLine → List CubeLine
@@ -28,9 +29,9 @@ marked l = keep (λ (c : CubeLine). ltb 0 (rows_in c)) l
 
 -- what has been read, as numbers, and the cubes and masks of the lines that make a row
 pub record Stands (t : table.State) (s : State) (words marks : List ℕ) : Type 0 where
-  pub wide : s.inputs ≡ or_zero t.wide
-  pub tall : s.outputs ≡ or_zero t.tall
-  pub stated : s.stated ≡ one_more t.stated
+  pub wide : held s.inputs ≡ t.wide
+  pub tall : held s.outputs ≡ t.tall
+  pub stated : held s.stated ≡ t.stated
   pub lines : s.lines ≡ length t.lines
   pub rows : s.rows ≡ total rows_in t.lines
   pub kept : s.kept ≡ length (marked t.lines)
@@ -53,10 +54,10 @@ LineTurned (table.refuse r) (Refused k) words marks = k ≡ r
 abbrev pub Answers : (table.State → table.Turn) → State → Turn → Type 0
 Answers f s r = (t : table.State) (words marks : List ℕ) → Bounded t → Stands t s words marks → LineTurned (f t) r words marks
 
--- of a number that is missing while 0 is held: the answer is what its line does, s being what stands with the number
-abbrev pub Numbers : ℕ → Bool → State → Turn → Type 0
-Numbers held fits s r = (o : Option ℕ) (t : table.State) (words marks : List ℕ) → table.missing o ≡ eqb held 0 → Stands t s words marks
-    → LineTurned (table.number_line (table.in_time o t.lines) fits t) r words marks
+-- of a number that is held where it is there: the answer is what its line does, s being what stands with the number
+abbrev pub Numbers : std.Option ℕ → Bool → State → Turn → Type 0
+Numbers o fits s r = (t : table.State) (words marks : List ℕ) → Stands t s words marks
+    → LineTurned (table.number_line (table.in_time (held o) t.lines) fits t) r words marks
 
 -- there are 1,024 places for cubes and for masks, and the numbers leave room in them
 pub record Roomy (s : State) (words marks : List ℕ) : Type 0 where
@@ -91,7 +92,7 @@ pub record Ready (text words marks : List ℕ) : Type 0 where
 
 -- the column of the refusal of line l by number k
 abbrev pub column_by : State → List ℕ → ℕ → ℕ
-column_by s l k = column_of k (unless_zero s.inputs) (unless_zero s.outputs) (most_rows - s.rows) l
+column_by s l k = column_of k (unless_zero (unwrap_or s.inputs 0)) (unless_zero (unwrap_or s.outputs 0)) (most_rows - s.rows) l
 
 -- the answer to line l, which is the last to be read: what was read, or the refusal
 abbrev pub stopped_at : Turn → List ℕ → ℕ → State → Scanned

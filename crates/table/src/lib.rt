@@ -50,13 +50,13 @@ pub struct Table {
     pub network: Network,
 }
 
-// What has been read: the numbers of inputs and outputs, 0 while missing; one more than the number of `.p`, 0 while missing; the
-// cube lines, the rows that they make, and how many of the lines make one.
+// What has been read: the numbers of inputs and outputs and the number of `.p`, where they are there; the cube lines, the rows that
+// they make, and how many of the lines make one.
 #[derive(Clone, Copy)]
 struct State {
-    inputs: usize,
-    outputs: usize,
-    stated: usize,
+    inputs: Option<usize>,
+    outputs: Option<usize>,
+    stated: Option<usize>,
     lines: usize,
     rows: u64,
     kept: usize,
@@ -70,21 +70,15 @@ enum Turn {
     Refused(u32),
 }
 
-// The line of a number that is missing while `held` is 0, where s is what stands with it: 2 where it is repeated or too late, 3
-// where it is out of range.
-fn number_line(s: State, held: usize, least: u32, n: u32, most: u32) -> Turn
+// The line of a number of which `held` stands, where s is what stands with it: 2 where it is repeated or too late, 3 where it is out of
+// range.
+fn number_line(s: State, held: Option<usize>, least: u32, n: u32, most: u32) -> Turn
     ensures { Numbers held (leb least n && leb n most) s result }
 {
-    if held != 0 {
+    if held.is_some() || s.lines != 0 {
         return Turn::Refused(2);
     }
-    if s.lines != 0 {
-        return Turn::Refused(2);
-    }
-    if n < least {
-        return Turn::Refused(3);
-    }
-    if n > most {
+    if n < least || n > most {
         return Turn::Refused(3);
     }
     Turn::Next(s)
@@ -95,7 +89,7 @@ fn set_inputs(s: State, n: u32) -> Turn
     ensures { Answers (set_wide n) s result }
 {
     let t = State {
-        inputs: n as usize,
+        inputs: Some(n as usize),
         ..s
     };
     number_line(t, s.inputs, 1, n, MOST_INPUTS)
@@ -106,7 +100,7 @@ fn set_outputs(s: State, n: u32) -> Turn
     ensures { Answers (set_tall n) s result }
 {
     let t = State {
-        outputs: n as usize,
+        outputs: Some(n as usize),
         ..s
     };
     number_line(t, s.outputs, 1, n, MOST_OUTPUTS)
@@ -117,7 +111,7 @@ fn set_stated(s: State, n: u32) -> Turn
     ensures { Answers (set_stated n) s result }
 {
     let t = State {
-        stated: n as usize + 1,
+        stated: Some(n as usize),
         ..s
     };
     number_line(t, s.stated, 0, n, MOST_PRODUCTS)
@@ -127,19 +121,13 @@ fn set_stated(s: State, n: u32) -> Turn
 fn finish(s: State) -> Turn
     ensures { Answers finish s result }
 {
-    if s.inputs == 0 {
+    if s.inputs.is_none() || s.outputs.is_none() {
         return Turn::Refused(2);
     }
-    if s.outputs == 0 {
-        return Turn::Refused(2);
+    match s.stated {
+        Some(p) if p != s.lines => Turn::Refused(4),
+        _ => Turn::Done(s),
     }
-    if s.stated == 0 {
-        return Turn::Done(s);
-    }
-    if s.stated - 1 != s.lines {
-        return Turn::Refused(4);
-    }
-    Turn::Done(s)
 }
 
 // One more cube line; its cube and mask are kept where it makes a row.
@@ -173,13 +161,13 @@ fn add_line(c: &[u8], s: State, words: &mut [u64], marks: &mut [u64]) -> Turn
     requires { Roomy s words.old marks.old }
     ensures { Leaves (by_cube c.now) s result words.old marks.old words.new marks.new }
 {
-    if s.inputs == 0 {
+    let Some(n) = s.inputs else {
         return Turn::Refused(2);
-    }
-    if s.outputs == 0 {
+    };
+    let Some(m) = s.outputs else {
         return Turn::Refused(2);
-    }
-    let Parsed::Line(cube, mask, rows) = table_rows::cube_line(c, s.inputs, s.outputs) else {
+    };
+    let Parsed::Line(cube, mask, rows) = table_rows::cube_line(c, n, m) else {
         return Turn::Refused(2);
     };
     if rows > MOST_ROWS - s.rows {
@@ -227,8 +215,10 @@ fn column(l: &[u8], number: u32, s: State) -> usize
     requires rows_le_most_rows { s.rows ≤ most_rows }
     ensures { result ≡ column_by s l.now number }
 {
+    let n = s.inputs.unwrap_or(0);
+    let m = s.outputs.unwrap_or(0);
     let left = (MOST_ROWS - s.rows) as usize;
-    table_columns::place_of(l, number, s.inputs, s.outputs, left) + 1
+    table_columns::place_of(l, number, n, m, left) + 1
 }
 
 // The answer to line l, which is the last to be read.
@@ -263,9 +253,9 @@ fn scan(text: &[u8], words: &mut [u64], marks: &mut [u64]) -> Scanned
     ensures { Scans (read_lines 1 (lines_of text.now) start) result words.new marks.new }
 {
     let mut s = State {
-        inputs: 0,
-        outputs: 0,
-        stated: 0,
+        inputs: None,
+        outputs: None,
+        stated: None,
         lines: 0,
         rows: 0,
         kept: 0,
@@ -373,8 +363,10 @@ pub fn read(text: &[u8]) -> Table
         return refused(answer);
     };
     let s = scanned.state;
+    let n = s.inputs.unwrap_or(0);
+    let m = s.outputs.unwrap_or(0);
     Table {
         answer,
-        network: build(s.inputs, s.outputs, &words, &marks, s.kept),
+        network: build(n, m, &words, &marks, s.kept),
     }
 }

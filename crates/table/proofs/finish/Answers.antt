@@ -1,34 +1,41 @@
 -- `table::finish` meets its contract: `.i` and `.o` are there, and `.p` agrees. Assumes nothing.
-use Prim.Native.Nat.{ℕ}
-use mathlib.Core.{Path.◌≡◌, Path.◌∙◌, Bool.false, List.List}
+use Rattle.std.proofs.Common.{◌∙◌}
 use borrow.Author.Tests.{eq-eqb, ne_eqb}
-use Rattle.table.specs.Table.{State, missing, finish}
-use Rattle.table.specs.{Meaning.Bounded, Parts.Stands}
-use Rattle.table.proofs.Standing.{wide-stored, tall-stored, agrees-unstated, agrees-not, agrees-so}
+use Rattle.table.specs.Table.{finish}
+use Rattle.table.proofs.Standing.{missing-held, agrees-unstated, agrees}
 use Rattle.table.proofs.finish.Goals as goal
-use Rattle.table.proofs.finish.Goals.{Else-s-eq0-2}
+use Rattle.table.proofs.finish.Goals.{then-is_none-via-then-is_none, then-is_none-via-else-is_none+then-is_none-2}
 
-pub returns-then-s-eq0 : goal.returns-then-s-eq0
+pub returns-then-is_none : goal.returns-then-is_none
 unfolding finish
-returns-then-s-eq0 c = λ t words marks g h. rw ((wide-stored g h).gone ∙ eq-eqb _ 0 c.if-s-eq0.true)
+returns-then-is_none c = λ t words marks g h. elim c.then-is_none.branch [
+  | then-is_none-via-then-is_none w ↦ rw (missing-held _ _ h.wide c.is_none.ensures ∙ w.if-is_none.true)
+  | then-is_none-via-else-is_none+then-is_none-2 w ↦ rw (
+    missing-held _ _ h.wide c.is_none.ensures ∙ w.if-is_none.false,
+    missing-held _ _ h.tall w.is_none-else-is_none.ensures ∙ w.if-is_none-2.true,
+  )
+]
 
-pub returns-then-s-eq0-2 : goal.returns-then-s-eq0-2
+pub returns-in-Some : goal.returns-in-Some
 unfolding finish
-returns-then-s-eq0-2 c = λ t words marks g h. rw ((wide-stored g h).gone ∙ ne_eqb _ 0 c.if-s-eq0.false, (tall-stored g h).gone ∙ eq-eqb _ 0 c.if-s-eq0-2.true)
+returns-in-Some c = λ t words marks g h. rw (
+  missing-held _ _ h.wide c.is_none.ensures ∙ c.if-is_none.false,
+  missing-held _ _ h.tall c.is_none-else-is_none.ensures ∙ c.if-is_none-2.false,
+  agrees g h c.in-Some.is ∙ ne_eqb _ _ c.if-p-s.true,
+)
 
--- neither test stops it: `.i` and `.o` are there
-there : (d : Else-s-eq0-2) {t : State} {words marks : List ℕ} → Bounded t → Stands t d.args.s words marks
-    → (missing t.wide ≡ false) × (missing t.tall ≡ false)
-there d g h = ((wide-stored g h).gone ∙ ne_eqb _ 0 d.if-s-eq0.false, (tall-stored g h).gone ∙ ne_eqb _ 0 d.if-s-eq0-2.false)
-
-pub returns-then-s-eq0-3 : goal.returns-then-s-eq0-3
+pub returns-in_default : goal.returns-in_default
 unfolding finish
-returns-then-s-eq0-3 c = λ t words marks g h. let w = there (goal.at.returns-then-s-eq0-3 c).Else-s-eq0-2 g h in rw (w.0, w.1, agrees-unstated g h c.if-s-eq0-3.true) h
+returns-in_default c = λ t words marks g h. rw (
+  missing-held _ _ h.wide c.is_none.ensures ∙ c.if-is_none.false,
+  missing-held _ _ h.tall c.is_none-else-is_none.ensures ∙ c.if-is_none-2.false,
+  agrees g h c.in-Some.is ∙ eq-eqb _ _ c.if-p-s.false,
+) h
 
-pub returns-then-s : goal.returns-then-s
+pub returns-in_default-2 : goal.returns-in_default-2
 unfolding finish
-returns-then-s c = λ t words marks g h. let w = there (goal.at.returns-then-s c).Else-s-eq0-2 g h in rw (w.0, w.1, agrees-not g h c.if-s-eq0-3.false c.if-s.true)
-
-pub returns : goal.returns
-unfolding finish
-returns c = λ t words marks g h. let w = there (goal.at.returns c).Else-s-eq0-2 g h in rw (w.0, w.1, agrees-so g h c.if-s.false) h
+returns-in_default-2 c = λ t words marks g h. rw (
+  missing-held _ _ h.wide c.is_none.ensures ∙ c.if-is_none.false,
+  missing-held _ _ h.tall c.is_none-else-is_none.ensures ∙ c.if-is_none-2.false,
+  agrees-unstated g h c.in_default.is,
+) h

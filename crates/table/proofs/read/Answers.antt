@@ -26,13 +26,13 @@ read-in q = text-read _ _ q.args.text.now q.if-text-gt-MOST_BYTES.false q.scan-s
 pub build-requires : goal.build-requires
 build-requires c =
     let r = read-in (goal.at.build-requires c).In-Read in
-    kept-buildable (accepted-complete c.args.text.now r.0 r.1).2 r.2 (room-cubes c.scan-scanned.new.words most_rows (search rules))
-    (search rules)
+    rw c.unwrap_or-m.ensures (kept-buildable (accepted-complete c.args.text.now r.0 r.1).2 r.2 (room-cubes c.scan-scanned.new.words most_rows (search rules))
+    (search rules))
 
 pub returns : goal.returns
 returns c =
     let r = read-in (goal.at.returns c).In-Read in
-    rw r.1 (c.in-Read.is, subst (Holds c.build.result) (net-same r.2) c.build.ensures)
+    rw r.1 (c.in-Read.is, subst (Holds c.build.result) (net-same r.2) (rw (c.unwrap_or-n.ensures, c.unwrap_or-m.ensures) at c.build.ensures))
 
 pub scan-scanned-requires : goal.scan-scanned-requires
 scan-scanned-requires c = record { short = search rules; places = room-cubes _ most_rows (search rules); masks = search rules }
