@@ -1,6 +1,6 @@
 -- The lines of a report as they are written: words, numbers and divisors one after the other. Assumes nothing.
 use Prim.Native.Nat.{ℕ, ◌+◌, ◌<◌}
-use mathlib.Core.Path.{◌≡◌, refl, ◌∙◌, ap}
+use mathlib.Core.Path.{◌≡◌, refl, sym, ◌∙◌, ap}
 use mathlib.Core.List.{List, [], ◌∷◌, ◌++◌, map}
 use native.Mathlib.Omega.{arith}
 use lib.IntN.{pos}
@@ -73,9 +73,10 @@ pub lines_none : step_lines [] ≡ []
 unfolding step_lines
 lines_none = refl
 
-pub lines-first : (m : Made) (l : List Made) → step_lines (m ∷ l) ≡ step_line m.number m.divisor m.weight (pos m.literals) ++ step_lines l
+pub lines-first : (m : Made) (l : List Made) {w : ℕ} → pos w ≡ m.weight
+    → step_lines (m ∷ l) ≡ step_line m.number m.divisor (pos w) (pos m.literals) ++ step_lines l
 unfolding step_lines
-lines-first m l = refl
+lines-first m l e = ap (λ z. step_line m.number m.divisor z (pos m.literals) ++ step_lines l) (sym e)
 
 -- the steps from i on
 pub made-next : (s : List declared.Made) (i : ℕ) → i < length s → drop i (map made_of s) ≡ made_of (get_or s i no_made) ∷ drop (i + 1) (map made_of s)

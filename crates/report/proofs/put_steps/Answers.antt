@@ -8,7 +8,7 @@ use lib.Seq.{get_or-take}
 use Rattle.letters.proofs.Laying.{due-as, due-next, due-done}
 use Rattle.extract.specs.Answers.{made_of, no_made}
 use Rattle.report.specs.Report.{step_lines}
-use Rattle.report.proofs.Lines.{lines_none, lines-first, made-next}
+use Rattle.report.proofs.Lines.{lines_none, made-next}
 use Rattle.report.proofs.put_steps.Goals as goal
 
 pub put_step-p-requires : goal.put_step-p-requires
@@ -18,9 +18,10 @@ put_step-p-requires c =
     rw (get_or-take s.count s.list c.loop-s.s-index no_made h) (c.requires.each c.loop-s.s-index h)
 
 pub loop-s-preserved : goal.loop-s-preserved
+unfolding step_lines
 loop-s-preserved c =
     let l = take c.args.steps.now.count c.args.steps.now.list in
-    due-next (due-as c.loop-s.invariant (ap step_lines (made-next l c.loop-s.s-index c.loop-s-test.true) ∙ lines-first _ _)) c.put_step-p.ensures
+    due-next (due-as c.loop-s.invariant (ap step_lines (made-next l c.loop-s.s-index c.loop-s-test.true))) c.put_step-p.ensures
 
 pub returns : goal.returns
 returns c =
