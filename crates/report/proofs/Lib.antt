@@ -1,5 +1,5 @@
-pub mod Lines
 pub mod Counting
+pub mod Lines
 pub mod Exploring
 pub mod Finding
 pub mod Outputs

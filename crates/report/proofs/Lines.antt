@@ -1,11 +1,10 @@
 -- The lines of a report as they are written: words, numbers and divisors one after the other. Assumes nothing.
-use Prim.Native.Nat.{ℕ, zero, suc, ◌+◌, ◌<◌, ◌≤◌}
+use Prim.Native.Nat.{ℕ, ◌+◌, ◌<◌}
 use mathlib.Core.Path.{◌≡◌, refl, sym, ◌∙◌, ap}
 use mathlib.Core.List.{List, [], ◌∷◌, ◌++◌, map}
 use native.Mathlib.Omega.{arith}
 use lib.IntN.{pos}
-use lib.ListN.{length, get_or, take, drop, length-map}
-use lib.Seq.{length-take-le, get_or-take}
+use lib.ListN.{length, get_or, drop, length-map}
 use Rattle.sets.proofs.Places.{drop-next}
 use Rattle.letters.specs.Letters.{decimal, name_text}
 use Rattle.letters_products.specs.Products.{literal_text, cube_text}
@@ -13,9 +12,10 @@ use Rattle.extract_laws.specs.Divisor.{Divisor, pair, sum}
 use Rattle.extract_laws.specs.Run.{Stop, Made}
 use Rattle.extract.specs.Answers.{made_of, no_made, stop_of, made_in}
 use Rattle.extract.specs.declared.Made as declared
-use Rattle.table.specs.declared.{Refusal.Refusal, Answer.TheVariants.Read, Answer.TheVariants.Refused}
-use Rattle.report.specs.Parts.{run_of, unless_refused, found_text}
-use Rattle.report.specs.declared.Findings.{Findings}
+use Rattle.table.specs.declared.Refusal.{Refusal}
+use Rattle.report.specs.Parts.{run_of}
+use Rattle.report.proofs.Counting.{made-at}
+use Rattle.report.specs.declared.findings.Findings.{Findings}
 use Rattle.report.specs.Report.{divisor_text, integer, step_line, step_lines, stop_text, run_text, refusal_text}
 
 -- a word and a number after it
@@ -78,19 +78,11 @@ pub lines-first : (m : Made) (l : List Made) {w : ℕ} → pos w ≡ m.weight
 unfolding step_lines
 lines-first m l e = ap (λ z. step_line m.number m.divisor z (pos m.literals) ++ step_lines l) (sym e)
 
--- the steps from i on, of those that are counted
-pub made-next : (s : List declared.Made) (n i : ℕ) → i < n → n ≤ length s
-    → drop i (map made_of (take n s)) ≡ made_of (get_or s i no_made) ∷ drop (i + 1) (map made_of (take n s))
-made-next s n i h k =
-    let e : length (take n s) ≡ n = length-take-le n s k in
-    let j : i < length (map made_of (take n s)) = omega (arith, length-map (take n s) made_of) in
-    drop-next (map made_of (take n s)) i (made_of no_made) j
-    ∙ ap (◌∷ drop (i + 1) (map made_of (take n s))) (get_d_map (take n s) i ∙ ap made_of (get_or-take n s i no_made h))
-  where
-    get_d_map : (l : List declared.Made) (i : ℕ) → get_or (map made_of l) i (made_of no_made) ≡ made_of (get_or l i no_made)
-    get_d_map [] i = refl
-    get_d_map (x ∷ l) zero = refl
-    get_d_map (x ∷ l) (suc i) = get_d_map l i
+-- the steps from i on
+pub made-next : (s : List declared.Made) (i : ℕ) → i < length s → drop i (map made_of s) ≡ made_of (get_or s i no_made) ∷ drop (i + 1) (map made_of s)
+made-next s i h =
+    drop-next (map made_of s) i (made_of no_made) (omega (arith, length-map s made_of))
+    ∙ ap (◌∷ drop (i + 1) (map made_of s)) (made-at s i)
 
 pub run-start : (a : ℕ) (l : List Made) (e : ℕ) (r : Stop)
     → run_text a l e r ≡ field start_word a ++ (line_end ++ (step_lines l ++ (field end_word e ++ stop_text r)))
@@ -108,11 +100,3 @@ pub found-start : (f : Findings) → run_of f ≡ field start_word f.start ++
     (line_end ++ (step_lines (made_in f.steps) ++ (field end_word f.end ++ stop_text (stop_of f.stop))))
 unfolding run_of
 found-start f = run-start _ _ _ _
-
-pub found-read : (f : Findings) → f.answer ≡ Read → found_text f ≡ run_of f
-unfolding found_text
-found-read f e = ap (λ a. unless_refused a (run_of f)) e
-
-pub found-refused : (f : Findings) (q : Refusal) → f.answer ≡ Refused q → found_text f ≡ refusal_text q
-unfolding found_text
-found-refused f q e = ap (λ a. unless_refused a (run_of f)) e

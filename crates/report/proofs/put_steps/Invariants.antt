@@ -1,18 +1,10 @@
--- `report::put_steps` meets its contract. The loop's invariant: the lines from step i on are due, and their weights can be written. Assumes nothing.
-use mathlib.Core.Path.{◌≡◌}
+-- `report::put_steps` meets its contract. The loop's invariant: the lines of the steps that are left are due. Assumes nothing.
 use mathlib.Core.List.{map}
-use Prim.Native.Nat.{◌-◌, ◌≤◌}
-use lib.ListN.{length, take, drop}
+use lib.ListN.{drop}
 use Rattle.letters.proofs.Laying.{Due}
-use Rattle.extract.specs.Answers.{made_of}
-use Rattle.report.specs.{Report.step_lines, Parts.EachSized}
+use Rattle.extract.specs.Answers.{made_in, made_of}
+use Rattle.report.specs.Report.{step_lines}
 use Rattle.report.proofs.put_steps.Given as goal
 
-abbrev pub invariant-loop-i : goal.invariant-loop-i
-invariant-loop-i l =
-    let made = map made_of (take l.n l.list) in
-    (l.i ≤ l.n) × Due l.initial.o l.initial.p (step_lines made) l.o l.p (step_lines (drop l.i made)) × EachSized (drop l.i made)
-    × (length l.o ≡ length l.initial.o)
-
-abbrev pub decreases-loop-i : goal.decreases-loop-i
-decreases-loop-i l = l.n - l.i
+abbrev pub invariant-loop-s : goal.invariant-loop-s
+invariant-loop-s l = Due l.initial.o l.initial.p (step_lines (made_in l.steps)) l.o l.p (step_lines (drop l.s-index (map made_of l.s-items)))
