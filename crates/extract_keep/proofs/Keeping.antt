@@ -1,20 +1,21 @@
 -- The table on its way from one network to another. Assumes nothing.
-use Prim.Native.Nat.{ℕ, ◌+◌, ◌-◌, ◌<◌, ◌≤◌}
+use Prim.Native.Nat.{ℕ, ◌+◌, ◌-◌, ◌<◌, ◌≤◌, min}
 use mathlib.Core.Path.{◌≡◌, refl, sym, ap, ◌∙◌, subst}
 use mathlib.Core.Bool.{Bool, true}
 use mathlib.Core.List.{List, [], ◌∷◌, ◌++◌, append_assoc, append-nil}
 use native.Mathlib.Omega.{arith}
-use lib.ListN.{length, get_or, take, drop, length-drop, drop_of_length-le, take-append-drop, get_or-eq_default}
+use lib.ListN.{length, get_or, take, drop, length-drop, length-take, drop_of_length-le, take-append-drop, get_or-eq_default}
 use lib.Seq.{take_all, take-suc}
 use native.Mathlib.{Numerals.add-one, Nat.add-zero}
 use Rattle.sets.{specs.Lists.all, specs.Lists.total, specs.Sets.asc}
 use Rattle.sets.proofs.{Truth.compared, Truth.Stand.below, Truth.Stand.equal, Truth.Stand.beyond, Lists.all-out, Lists.all-parts, Places.at_in}
 use Rattle.sets.proofs.{Places.drop-next, Places.total-next}
 use Rattle.expression.{specs.Words.cubes_of, proofs.Words.cubes-asc}
-use Rattle.extract_gains.{specs.Gains.entries, specs.Gains.many, specs.Gains.Turns, specs.Gains.none, proofs.Table.turns-none}
+use Rattle.extract_gains.{specs.Gains.entries, specs.Gains.many, specs.Gains.Turns, specs.Gains.none}
 use Rattle.extract_counts.specs.Counts.{pairs_gain, row_gain, node_gain, net_gain, Says}
 use Rattle.extract_counts.proofs.Turning.{node-middle}
-use Rattle.network.{specs.Net.nodes, specs.Held.net_of, specs.Parts.nodes_of, specs.declared.Network.Network, proofs.Holding.nodes-held}
+use Rattle.network.{specs.Net.nodes, specs.Held.net_of, specs.Held.used, specs.declared.Network.Network, proofs.Holding.nodes-held}
+use Rattle.network_nodes.proofs.Cutting.{cut-length}
 use Rattle.extract_keep.specs.{Keep.Kept, Parts.Shifts, Parts.between}
 
 take_next : {A : Type 0} (l : List A) (j : ℕ) (d : A) → j < length l → take (j + 1) l ≡ take j l ++ (get_or l j d ∷ [])
@@ -123,9 +124,18 @@ net-next fs i k = elim (compared i (length fs)) [
 pub net-all : (fs : List (List (List ℕ))) (i : ℕ) → length fs ≤ i → (k : ℕ) → net_gain k (take i fs) ≡ net_gain k fs
 net-all fs i h k = ap (net_gain k) (take_all i fs h)
 
-pub net-none : (t g : List ℕ) (fs : List (List (List ℕ))) → Turns t g t g none (λ k. net_gain k (take 0 fs))
+-- as many nodes as there are counts in use
+pub nodes-many : (n : Network) → length (nodes (net_of n)) ≡ min (n.outputs + n.divisors) (length n.counts)
+nodes-many n = ap length (nodes-held n) ∙ cut-length (used n) (cubes_of n.words) ∙ length-take (n.outputs + n.divisors) n.counts
+
+-- the first node and the others; where there is none nothing
+pub net-first : (k : ℕ) {f : List (List ℕ)} {fs gs : List (List (List ℕ))} → fs ≡ f ∷ gs → net_gain k fs ≡ net_gain k gs + node_gain k f
 unfolding net_gain
-net-none t g fs = turns-none t g
+net-first k e = rw e (omega arith)
+
+pub net-none : (k : ℕ) {fs : List (List (List ℕ))} → fs ≡ [] → net_gain k fs ≡ 0
+unfolding net_gain
+net-none k e = rw e
 
 module _ (fs hs : List (List (List ℕ))) where
   pub shift-first : (t g : List ℕ) → Shifts t g t g (λ k. net_gain k (take 0 fs)) (λ k. net_gain k (take 0 hs))
@@ -144,20 +154,13 @@ module _ (fs hs : List (List (List ℕ))) where
 -- ---- from one network to another
 
 pub renewed : (old new : Network) (t g u h : List ℕ) → Kept t g old
-    → Shifts t g u h (λ k. net_gain k (nodes_of (old.outputs + old.divisors) old.counts old.words))
-    (λ k. net_gain k (nodes_of (new.outputs + new.divisors) new.counts new.words))
+    → Shifts t g u h (λ k. net_gain k (nodes (net_of old))) (λ k. net_gain k (nodes (net_of new)))
     → many u < entries → Says u h (nodes (net_of new))
 renewed old new t g u h k s f =
     let a = k roomy in
     record {
       sound = s.sound a.sound f;
-      gains = λ x. omega (
-        arith,
-        s.moves a.sound f x,
-        a.gains x,
-        ap (net_gain x) (nodes-held old),
-        ap (net_gain x) (nodes-held new),
-      );
+      gains = λ x. omega (arith, s.moves a.sound f x, a.gains x);
     }
   where
     roomy : many t < entries

@@ -1,10 +1,12 @@
 // The gains of all divisors of a network, kept from step to step: a cube that goes is taken out, one that comes is put in.
 #![tactic(auto)]
 
-ghost use Rattle.std.specs.Prelude.{◌≡◌, ◌+◌, ◌<◌, ◌≤◌, [], length, get_or};
+ghost use Rattle.std.specs.Prelude.{◌≡◌, true, ◌+◌, ◌^◌, ◌<◌, [], length, get_or};
 ghost use Rattle.expression.specs.Words.{cubes_of};
-ghost use Rattle.network.specs.Parts.{nodes_of};
-ghost use Rattle.network.specs.Handed.{node_slots};
+ghost use Rattle.network.specs.Net.{nodes};
+ghost use Rattle.network.specs.Held.{net_of};
+ghost use Rattle.network.specs.Handed.{Shaped};
+ghost use Rattle.extract_tidy.specs.Tidy.{arranged};
 ghost use Rattle.extract_gains.specs.Gains.{Turns, none};
 ghost use Rattle.extract_counts.specs.Counts.{node_gain, net_gain};
 ghost use Rattle.extract_keep.specs.Keep.{Knows, Kept};
@@ -23,31 +25,20 @@ const MOST_ENTRIES: usize = extract_gains::MOST_ENTRIES;
 fn fill_node(t: &mut [u32; TABLE_WORDS], g: &mut [u16; MOST_ENTRIES], f: &[u64])
     ensures { Turns t.old g.old t.new g.new none (λ k. node_gain k (cubes_of f.now)) }
 {
-    let n = expression::number(f);
-    let mut i = 0;
-    while i < n {
-        extract_rows::count_pairs(t, g, true, expression::cube_at(f, i));
-        i += 1;
+    for c in expression::each(f) {
+        extract_rows::count_pairs(t, g, true, c);
     }
     extract_partners::count_sums(t, g, f);
 }
 
-// The cubes of the first e nodes.
-fn fill_nodes(
-    t: &mut [u32; TABLE_WORDS],
-    g: &mut [u16; MOST_ENTRIES],
-    words: &[u64],
-    counts: &[usize],
-    e: usize,
-)
-    requires { e ≤ length counts.now }
-    ensures { Turns t.old g.old t.new g.new
-        none (λ k. net_gain k (nodes_of e counts.now words.now)) }
+// The cubes of all nodes.
+fn fill_nodes(t: &mut [u32; TABLE_WORDS], g: &mut [u16; MOST_ENTRIES], n: &Network)
+    requires { arranged n.now ≡ true }
+    ensures { Turns t.old g.old t.new g.new none (λ k. net_gain k (nodes (net_of n.now))) }
 {
-    let mut i = 0;
-    while i < e {
-        fill_node(t, g, network_nodes::node(words, counts, i));
-        i += 1;
+    let e = n.outputs + n.divisors;
+    for f in network_nodes::each(&n.words, &n.counts[..e]) {
+        fill_node(t, g, f);
     }
 }
 
@@ -56,45 +47,28 @@ pub fn fill(t: &mut [u32; TABLE_WORDS], g: &mut [u16; MOST_ENTRIES], n: Network)
     ensures { Knows t.new g.new n }
 {
     extract_gains::clear(t, g);
-    if !extract_tidy::is_arranged(n) {
-        return;
+    if extract_tidy::is_arranged(n) {
+        fill_nodes(t, g, &n);
     }
-    let words = n.words;
-    let counts = n.counts;
-    fill_nodes(t, g, &words, &counts, n.outputs + n.divisors);
 }
 
 // ---- a table kept
 
-#[derive(Clone, Copy)]
-enum Next {
-    Goes,
-    Comes,
-    Stays,
-    Ended,
-}
-
-// Which cube is next: in cube order one that only a has goes before one that only b has comes, or the other way about. Any order would do.
-fn next_of(a: &[u64], n: usize, i: usize, b: &[u64], m: usize, j: usize) -> Next
-    requires { (n ≡ length (cubes_of a.now)) × (m ≡ length (cubes_of b.now)) }
-    ensures { Turn (cubes_of a.now) i (cubes_of b.now) j result }
+// Which cube is next: one of a goes where it is before that of b, one of b comes where it is before that of a, and the same one stays. Any order
+// would do.
+fn next_of(a: &[u64], i: usize, b: &[u64], j: usize) -> Option<Order>
+    ensures turn { Turn (cubes_of a.now) i (cubes_of b.now) j result }
+    ensures fits { (length (cubes_of a.now) < 2 ^ 64) × (length (cubes_of b.now) < 2 ^ 64) }
 {
-    if i >= n {
-        if j >= m {
-            return Next::Ended;
+    match (i < expression::number(a), j < expression::number(b)) {
+        (true, true) => {
+            let c = expression::cube_at(a, i);
+            let d = expression::cube_at(b, j);
+            Some(cube_order::compare(c, d))
         }
-        return Next::Comes;
-    }
-    if j >= m {
-        return Next::Goes;
-    }
-    let c = expression::cube_at(a, i);
-    let d = expression::cube_at(b, j);
-    let o = cube_order::compare(c, d);
-    match o {
-        Order::Before => Next::Goes,
-        Order::Same => Next::Stays,
-        Order::After => Next::Comes,
+        (true, false) => Some(Order::Before),
+        (false, true) => Some(Order::After),
+        (false, false) => None,
     }
 }
 
@@ -153,67 +127,52 @@ fn renew_node(t: &mut [u32; TABLE_WORDS], g: &mut [u16; MOST_ENTRIES], a: &[u64]
     ensures { Shifts t.old g.old t.new g.new
         (λ k. node_gain k (cubes_of a.now)) (λ k. node_gain k (cubes_of b.now)) }
 {
-    let n = expression::number(a);
-    let m = expression::number(b);
     let mut i = 0;
     let mut j = 0;
-    loop {
-        let x = next_of(a, n, i, b, m, j);
-        match x {
-            Next::Goes => {
+    // By two places: a turn moves either or both.
+    while let Some(o) = next_of(a, i, b, j) {
+        match o {
+            Order::Before => {
                 take_out(t, g, a, i, b, j);
                 i += 1;
             }
-            Next::Comes => {
-                put_in(t, g, a, i, b, j);
-                j += 1;
-            }
-            Next::Stays => {
+            Order::Same => {
                 i += 1;
                 j += 1;
             }
-            Next::Ended => {
-                return;
+            Order::After => {
+                put_in(t, g, a, i, b, j);
+                j += 1;
             }
         }
     }
 }
 
-// Node i of the first e, or no cubes where there is none.
-fn node_of<'a>(words: &'a [u64], counts: &[usize], e: usize, i: usize) -> &'a [u64]
-    requires { e ≤ length counts.now }
-    ensures { cubes_of result.now ≡ get_or (nodes_of e counts.now words.now) i [] }
+// Node i, or no cubes where there is none.
+fn node_of(n: &Network, i: usize) -> &[u64]
+    requires { arranged n.now ≡ true }
+    ensures { cubes_of result.now ≡ get_or (nodes (net_of n.now)) i [] }
 {
-    if i < e {
-        return network_nodes::node(words, counts, i);
+    if i < n.outputs + n.divisors {
+        network_nodes::node(&n.words, &n.counts, i)
+    } else {
+        &[]
     }
-    expression::part(words, 0, 0)
 }
 
-// The first a nodes of one network become the first b of another.
+// The nodes of one network become those of another.
 fn renew_nodes(
     t: &mut [u32; TABLE_WORDS],
     g: &mut [u16; MOST_ENTRIES],
-    words: &[u64],
-    counts: &[usize],
-    a: usize,
-    other: &[u64],
-    sizes: &[usize],
-    b: usize,
+    old: &Network,
+    new: &Network,
 )
-    requires { (a ≤ length counts.now) × (a ≤ node_slots) × (b ≤ length sizes.now) × (b ≤ node_slots) }
+    requires { Shaped old.now × Shaped new.now × (arranged old.now ≡ true) × (arranged new.now ≡ true) }
     ensures { Shifts t.old g.old t.new g.new
-        (λ k. net_gain k (nodes_of a counts.now words.now)) (λ k. net_gain k (nodes_of b sizes.now other.now)) }
+        (λ k. net_gain k (nodes (net_of old.now))) (λ k. net_gain k (nodes (net_of new.now))) }
 {
-    let mut i = 0;
-    while i < network::NODE_SLOTS {
-        renew_node(
-            t,
-            g,
-            node_of(words, counts, a, i),
-            node_of(other, sizes, b, i),
-        );
-        i += 1;
+    for i in 0..network::NODE_SLOTS {
+        renew_node(t, g, node_of(old, i), node_of(new, i));
     }
 }
 
@@ -229,20 +188,7 @@ pub fn renew(t: &mut [u32; TABLE_WORDS], g: &mut [u16; MOST_ENTRIES], old: Netwo
     if !extract_tidy::is_arranged(new) {
         return;
     }
-    let words = old.words;
-    let counts = old.counts;
-    let other = new.words;
-    let sizes = new.counts;
-    renew_nodes(
-        t,
-        g,
-        &words,
-        &counts,
-        old.outputs + old.divisors,
-        &other,
-        &sizes,
-        new.outputs + new.divisors,
-    );
+    renew_nodes(t, g, &old, &new);
     if extract_gains::number(t) >= MOST_ENTRIES {
         fill(t, g, new);
     }

@@ -1,29 +1,35 @@
 -- The answers of `extract_keep::fill_nodes`.
-use mathlib.Core.Path.{refl, sym, ap, ◌∙◌}
+use Prim.Native.Nat.{◌+◌, ◌≤◌}
+use mathlib.Core.Path.{sym, ap, ap₂, ◌∙◌}
 use native.Mathlib.Omega.{arith}
-use Rattle.network.{specs.Parts.nodes_of, proofs.Parts.nodes-at, proofs.Parts.nodes-length}
-use Rattle.extract_gains.{proofs.Table.turns_then, proofs.Table.turns_as}
-use Rattle.extract_counts.specs.Counts.{node_gain}
-use Rattle.extract_keep.proofs.Keeping.{net-none, net-next, net-all}
+use borrow.Author.Rules.{rules}
+use Rattle.expression.specs.Words.{cubes_of}
+use Rattle.network.{specs.Handed.node_slots, proofs.Handing.shape_of, proofs.Holding.nodes-held}
+use Rattle.network_nodes.{specs.Nodes.cut, proofs.Chains.left}
+use Rattle.extract_counts.specs.Counts.{net_gain}
+use Rattle.extract_counts.proofs.Arranged.{arranged-few}
+use Rattle.extract_partners.proofs.Turning.{partly-first, partly-as, partly-then, partly-end}
+use Rattle.extract_keep.proofs.Keeping.{net-first, net-none}
 use Rattle.extract_keep.proofs.fill_nodes.Goals as goal
+use Rattle.extract_keep.proofs.fill_nodes.Goals.{Start}
 
-pub loop-i-init : goal.loop-i-init
-loop-i-init c =
-    (omega arith, net-none _ _ (nodes_of c.args.e c.args.counts.now c.args.words.now))
+-- there are counts for its nodes
+few : (c : Start) → c.args.n.now.outputs + c.args.n.now.divisors ≤ node_slots
+few c = arranged-few c.args.n.now c.requires (shape_of _ (search rules) (search rules))
 
-pub loop-i-preserved : goal.loop-i-preserved
-loop-i-preserved c =
-    let fs = nodes_of c.args.e c.args.counts.now c.args.words.now in (
-      omega arith,
-      turns_as (λ k. refl) (λ k. omega (
-        arith,
-        net-next fs c.loop-i.i k,
-        ap (node_gain k) (c.node.ensures.0 ∙ sym (nodes-at c.args.counts.now c.args.words.now c.args.e c.loop-i.i (omega arith))),
-      )) (turns_then c.loop-i.invariant.1 c.fill_node.ensures),
-    )
+pub overflow_add-e : goal.overflow_add-e
+overflow_add-e c = omega (arith, few (goal.at.overflow_add-e c).Start)
+
+pub shared_ref_as_front-each : goal.shared_ref_as_front-each
+shared_ref_as_front-each c = few (goal.at.shared_ref_as_front-each c).Start
+
+pub loop-f-init : goal.loop-f-init
+loop-f-init c =
+    partly-as (partly-first _ _ _) (λ k. ap (net_gain k) (nodes-held c.args.n.now
+    ∙ sym (ap left c.into_iter-f-iterator.ensures.into_iter_gives ∙ ap₂ (λ ns ws. cut ns (cubes_of ws)) c.each-f-items.ensures.1 c.each-f-items.ensures.0)))
+
+pub loop-f-preserved : goal.loop-f-preserved
+loop-f-preserved c = partly-then c.loop-f.invariant c.fill_node.ensures (λ k. net-first k c.in-Some.ensures.steps)
 
 pub returns : goal.returns
-returns c =
-    let fs = nodes_of c.args.e c.args.counts.now c.args.words.now in
-    turns_as (λ k. refl) (net-all fs c.loop-i.i (omega (arith, nodes-length c.args.counts.now c.args.words.now c.args.e c.requires)))
-    c.loop-i.invariant.1
+returns c = partly-end c.loop-f.invariant (λ k. net-none k c.in-None.ensures.steps.0)

@@ -1,9 +1,24 @@
 -- `extract_keep::next_of` meets its contract: equal cubes stay. Assumes nothing.
-use mathlib.Core.Path.{sym, ◌∙◌}
+use Prim.Native.Nat.{ℕ, ◌<◌}
+use mathlib.Core.Path.{◌≡◌, sym, ap₂, ◌∙◌}
+use mathlib.Core.List.{List, []}
 use native.Mathlib.Omega.{arith}
+use lib.ListN.{length, get_or}
+use Rattle.std.specs.Prelude.{Some}
+use Rattle.cube.specs.Cube.{order_of}
+use Rattle.cube.specs.declared.Order.{Order}
+use Rattle.cube.specs.declared.Order.TheVariants.{Before, Same, After}
 use Rattle.cube.proofs.Verdict.{order-told}
+use Rattle.extract_keep.specs.Parts.{Turn}
 use Rattle.extract_keep.proofs.next_of.Goals as goal
 
-pub returns-in-Same : goal.returns-in-Same
-returns-in-Same c =
-    (omega arith, omega arith, sym c.cube_at-c.ensures ∙ (order-told _ _).alike (sym c.compare-o.ensures ∙ c.in-Same.is) ∙ c.cube_at-d.ensures)
+-- what a comparison says
+turned : (a b : List (List ℕ)) (i j : ℕ) (o : Order) → i < length a → j < length b → o ≡ order_of (get_or a i []) (get_or b j []) → Turn a i b j (Some o)
+turned a b i j Before l m e = l
+turned a b i j Same l m e = (l, m, (order-told _ _).alike (sym e))
+turned a b i j After l m e = m
+
+pub returns-in-true-true-clause-turn : goal.returns-in-true-true-clause-turn
+returns-in-true-true-clause-turn c =
+    turned _ _ _ _ c.compare.result (omega (arith, c.in-true-true.is-0, c.number.ensures))
+    (omega (arith, c.in-true-true.is-1, c.number-2.ensures)) (c.compare.ensures ∙ ap₂ order_of c.cube_at-c.ensures c.cube_at-d.ensures)
