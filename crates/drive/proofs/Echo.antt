@@ -1,6 +1,7 @@
 -- Numbers and bytes as they are written in answers are read as those numbers and bytes. Assumes nothing.
 use Rattle.std.proofs.Common.{◌≡◌, ℕ, zero, suc, ◌+◌, ◌-◌, ◌*◌, ◌/◌, ◌%◌, ◌^◌, ◌<◌, ◌≤◌, Bool, true, false, cond, ltb, List, [], ◌∷◌, ◌++◌, length, get_or, sym, refl, ap, ◌∙◌, pow-suc, arith, length-append, ltb-false, ltb-true, lt-ltb, le-leb}
-use mathlib.Core.{Logic.inl, Logic.inr, Option.none, Option.some}
+use mathlib.Core.{Logic.inl, Logic.inr}
+use Rattle.std.specs.Prelude.{None, Some}
 use lib.ListN.{get_or-append}
 use Rattle.sets.proofs.Truth.{decided}
 use Rattle.io.specs.Digits.{hex_digit_ascii, last_digits, IsDigitCount}
@@ -25,24 +26,24 @@ quotient k n h = let e : n < 16 ^ k * 16 = rw (pow-suc 16 k) at h in omega arith
 
 -- ---- what they write
 
-hex-append : (s t : List ℕ) (m v : ℕ) → hex_after m s ≡ some v → hex_after m (s ++ t) ≡ hex_after v t
+hex-append : (s t : List ℕ) (m v : ℕ) → hex_after m s ≡ Some v → hex_after m (s ++ t) ≡ hex_after v t
 unfolding hex_after
 hex-append [] t m v h = let e : m ≡ v = cc in ap (λ k. hex_after k t) e
 hex-append (b ∷ s) t m v h = go (ltb (digit_of b) 16) h (hex-append s t (16 * m + digit_of b) v)
   where
-    go : (e : Bool) → cond e (hex_after (16 * m + digit_of b) s) none ≡ some v
-        → (hex_after (16 * m + digit_of b) s ≡ some v → hex_after (16 * m + digit_of b) (s ++ t) ≡ hex_after v t)
-        → cond e (hex_after (16 * m + digit_of b) (s ++ t)) none ≡ hex_after v t
+    go : (e : Bool) → cond e (hex_after (16 * m + digit_of b) s) None ≡ Some v
+        → (hex_after (16 * m + digit_of b) s ≡ Some v → hex_after (16 * m + digit_of b) (s ++ t) ≡ hex_after v t)
+        → cond e (hex_after (16 * m + digit_of b) (s ++ t)) None ≡ hex_after v t
     go true k f = f k
     go false k f = let z : ◌≡◌ {A = ℕ} 0 1 = cc in absurd (omega arith)
 
-hex-digits : (k n : ℕ) → n < 16 ^ k → hex_after 0 (last_digits 16 k n) ≡ some n
+hex-digits : (k n : ℕ) → n < 16 ^ k → hex_after 0 (last_digits 16 k n) ≡ Some n
 unfolding hex_after
-hex-digits zero n h = let e : 0 ≡ n = omega arith in ap some e
+hex-digits zero n h = let e : 0 ≡ n = omega arith in ap Some e
 hex-digits (suc k) n h =
     let e : 16 * (n / 16) + n % 16 ≡ n = omega arith in
     hex-append (last_digits 16 k (n / 16)) (hex_digit_ascii (n % 16) ∷ []) 0 (n / 16) (hex-digits k (n / 16) (quotient k n h))
-    ∙ rw (digit_glyph (n % 16) (omega arith), lt-ltb (n % 16) 16 (omega arith)) (ap some e)
+    ∙ rw (digit_glyph (n % 16) (omega arith), lt-ltb (n % 16) 16 (omega arith)) (ap Some e)
 
 -- ---- no leading zero
 
@@ -72,14 +73,14 @@ well-led n (suc (suc j)) h f =
     led-more w (omega (arith, m)) (digits-lead (suc j) n l f.1) ∙ le-leb (length w) 16 (omega (arith, m))
 
 -- a number in its fewest digits is read as that number
-pub number_read : (n k : ℕ) → k ≤ 16 → IsDigitCount 16 1 n k → number_of (last_digits 16 k n) ≡ some n
+pub number_read : (n k : ℕ) → k ≤ 16 → IsDigitCount 16 1 n k → number_of (last_digits 16 k n) ≡ Some n
 unfolding number_of
 number_read n k h f = rw (well-led n k h f) (hex-digits k n f.1)
 
 -- a byte in two digits is read as that byte
-pub byte-read : (b : ℕ) (t : List ℕ) → b < 256 → pairs_of (last_digits 16 2 b ++ t) ≡ some b ∷ pairs_of t
+pub byte-read : (b : ℕ) (t : List ℕ) → b < 256 → pairs_of (last_digits 16 2 b ++ t) ≡ Some b ∷ pairs_of t
 unfolding pairs_of
 byte-read b t h =
     let e : 16 * (b / 16 % 16) + b % 16 ≡ b = omega arith in
     rw (digit_glyph (b / 16 % 16) (omega arith), digit_glyph (b % 16) (omega arith), lt-ltb (b / 16 % 16) 16 (omega arith), lt-ltb (b % 16) 16 (omega arith))
-    (ap (λ x. some x ∷ pairs_of t) e)
+    (ap (λ x. Some x ∷ pairs_of t) e)

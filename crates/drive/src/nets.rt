@@ -3,122 +3,64 @@ ghost use Rattle.std.specs.Prelude.{◌≡◌};
 ghost use Rattle.drive.specs.Nets.{given_in};
 ghost use Rattle.drive.specs.Wire.{number_told};
 
-use crate::wire::Told;
-use crate::{rooms, wire};
-use network::{Network, Number};
-use std::io::Stdout;
-use std::num;
+use crate::wire::Reply;
+use expression::Verdict;
+use network::{Handed, Network, Number};
 
 // ---- requests
 
-// A network, and whether it was one that was given.
-#[derive(Clone, Copy)]
-pub struct Given {
-    pub ok: bool,
-    pub network: Network,
-}
-
-fn narrow(pool: [u64; network::NODE_SLOTS]) -> [usize; network::NODE_SLOTS]
-    ensures { result ≡ pool }
-{
-    let mut counts = [0usize; network::NODE_SLOTS];
-    let mut i = 0;
-    while i < network::NODE_SLOTS {
-        counts[i] = pool[i] as usize;
-        i += 1;
-    }
-    counts
-}
-
-// The network of the first three groups. Slots that are not given are 0.
-pub fn read_net(text: &[u8]) -> Given
+// The network of the first three groups, where they are one. Slots that are not given are 0.
+pub fn read_net(text: &[u8]) -> Option<Network>
     ensures { result ≡ given_in text.now }
 {
     let after = drive_request::tail(text);
-    let mut sizes = [0u64; 3];
-    let mut counts = [0u64; network::NODE_SLOTS];
-    let mut words = [0u64; network::WORD_SLOTS];
-    let s = rooms::read_numbers(drive_request::head(text), &mut sizes);
-    let c = rooms::read_numbers(drive_request::head(after), &mut counts);
-    let w = rooms::read_numbers(drive_request::head(drive_request::tail(after)), &mut words);
-    let network = Network {
+    let mut sizes = [0; 3];
+    if drive_request::numbers(drive_request::head(text), &mut sizes)? != 3 {
+        return None;
+    }
+    let mut counts = [0; network::NODE_SLOTS];
+    drive_request::numbers(drive_request::head(after), &mut counts)?;
+    let mut words = [0; network::WORD_SLOTS];
+    drive_request::numbers(drive_request::head(drive_request::tail(after)), &mut words)?;
+    Some(Network {
         inputs: sizes[0] as usize,
         outputs: sizes[1] as usize,
         divisors: sizes[2] as usize,
-        counts: narrow(counts),
+        counts: counts.map(|c| c as usize),
         words,
-    };
-    Given {
-        ok: s == 3 && c <= network::NODE_SLOTS && w <= network::WORD_SLOTS,
-        network,
-    }
+    })
 }
 
 // ---- answers
 
-fn put_counts(
-    to: Stdout,
-    out: &mut [u8],
-    n: usize,
-    counts: [usize; network::NODE_SLOTS],
-    nodes: usize,
-) -> usize {
-    let mut at = wire::put_text(to, out, n, b" ;");
-    let mut i = 0;
-    while i < network::NODE_SLOTS {
-        if i >= nodes {
-            return at;
-        }
-        at = wire::put_number(to, out, at, counts[i] as u64);
-        i += 1;
+// `ok` or another beginning, and the three groups of a network handed back.
+pub fn put_network(reply: &mut Reply, n: &Network) {
+    reply.group(&[n.inputs as u64, n.outputs as u64, n.divisors as u64]);
+    let nodes = n.outputs.wrapping_add(n.divisors);
+    reply.text(b" ;");
+    for c in n.counts.iter().take(nodes) {
+        reply.number(*c as u64);
     }
-    at
-}
-
-fn put_sizes(
-    to: Stdout,
-    out: &mut [u8],
-    n: usize,
-    inputs: usize,
-    outputs: usize,
-    divisors: usize,
-) -> usize {
-    let sizes = [inputs as u64, outputs as u64, divisors as u64];
-    wire::put_group(to, out, n, &sizes)
-}
-
-// The three groups of a network handed back.
-pub fn put_network(to: Stdout, out: &mut [u8], n: usize, network: Network) -> usize {
-    let counts = network.counts;
-    let words = network.words;
-    let nodes = num::wrapping_add_usize(network.outputs, network.divisors);
-    let at = put_sizes(
-        to,
-        out,
-        n,
-        network.inputs,
-        network.outputs,
-        network.divisors,
-    );
-    let at = put_counts(to, out, at, counts, nodes);
-    wire::put_group(to, out, at, network_nodes::front(&words, &counts, nodes))
+    reply.group(network_nodes::front(&n.words, &n.counts, nodes));
 }
 
 // `ok` and the network, or what it was refused for.
-pub fn put_handed(to: Stdout, out: &mut [u8], t: Told, network: Network) -> usize {
-    if !t.ok {
-        return wire::put_told(to, out, t);
+pub fn put_handed(reply: &mut Reply, h: &Handed) {
+    match h.answer {
+        Verdict::Accepted => {
+            reply.text(b"ok");
+            put_network(reply, &h.network);
+        }
+        Verdict::Refused(k) => reply.refused(k, 0),
     }
-    let at = wire::put_text(to, out, 0, b"ok");
-    put_network(to, out, at, network)
 }
 
 // What a number is told as.
-pub fn number_told(x: Number) -> Told
+pub fn number_told(x: Number) -> Result<u64, u32>
     ensures { result ≡ number_told x }
 {
     match x {
-        Number::Is(v) => wire::found(v),
-        Number::No(k) => wire::refused(k, 0),
+        Number::Is(v) => Ok(v),
+        Number::No(k) => Err(k),
     }
 }

@@ -1,166 +1,126 @@
 // An answer line put together.
-ghost use Rattle.std.specs.Prelude.{◌≡◌};
-ghost use Rattle.drive.specs.Wire.{found_of, refused_of, wrote_of};
+ghost use Rattle.std.specs.Prelude.{◌≡◌, ◌≤◌};
+ghost use Rattle.drive.specs.Wire.{wrote_of};
 
 use letters::Wrote;
 use std::io::Stdout;
 
-// Bytes to standard output. Where they cannot be written nothing is said of it.
-fn write(to: Stdout, bytes: &[u8]) {
-    let _ = to.write_all(bytes);
+// Bytes of an answer written at a time.
+const CHUNK: usize = 65536;
+
+// An answer as far as it is put together. A room that is full is written out, so that an answer may have any length.
+#[derive(Drop)]
+pub struct Reply {
+    to: Stdout,
+    room: [u8; CHUNK],
+    length: usize,
+    ghost within: { length ≤ 65536 },
 }
 
-// One byte after n others. A room that is full is written out first, so that an answer may have any length.
-pub fn put(to: Stdout, out: &mut [u8], n: usize, b: u8) -> usize {
-    if n < out.len() {
-        out[n] = b;
-        return n + 1;
+impl Reply {
+    pub fn new(to: Stdout) -> Reply {
+        Reply {
+            to,
+            room: [0; CHUNK],
+            length: 0,
+        }
     }
-    write(to, out);
-    if out.len() > 0 {
-        out[0] = b;
-        return 1;
+
+    // What is held goes to standard output. Where it cannot be written nothing is said of it.
+    fn flush(&mut self)
+        ensures { self.new.length ≡ 0 }
+    {
+        let _ = self.to.write_all(&self.room[..self.length]);
+        self.length = 0;
     }
-    0
-}
 
-// The line ends, and is written out.
-pub fn end(to: Stdout, out: &mut [u8], n: usize) {
-    let k = put(to, out, n, b'\n');
-    if k <= out.len() {
-        write(to, &out[0..k]);
+    fn byte(&mut self, b: u8) {
+        if self.length == CHUNK {
+            self.flush();
+        }
+        self.room[self.length] = b;
+        self.length += 1;
     }
-}
 
-pub fn put_text(to: Stdout, out: &mut [u8], n: usize, s: &[u8]) -> usize {
-    let mut at = n;
-    let mut i = 0;
-    while i < s.len() {
-        at = put(to, out, at, s[i]);
-        i += 1;
+    pub fn text(&mut self, s: &[u8]) {
+        for b in s {
+            self.byte(*b);
+        }
     }
-    at
-}
 
-// The number in hex, of so many digits at least.
-pub fn put_hex(to: Stdout, out: &mut [u8], n: usize, x: u64, digits: usize) -> usize {
-    let mut room = [0u8; 16];
-    let k = io::hex(x, digits, &mut room);
-    put_text(to, out, n, &room[..k])
-}
-
-// A blank and the number.
-pub fn put_number(to: Stdout, out: &mut [u8], n: usize, x: u64) -> usize {
-    let at = put(to, out, n, b' ');
-    put_hex(to, out, at, x, 1)
-}
-
-fn put_numbers(to: Stdout, out: &mut [u8], n: usize, s: &[u64]) -> usize {
-    let mut at = n;
-    let mut i = 0;
-    while i < s.len() {
-        at = put_number(to, out, at, s[i]);
-        i += 1;
+    // The number in hex, of so many digits at least. The digits are those of io, of which the law of what is read speaks.
+    pub fn hex(&mut self, x: u64, digits: usize) {
+        let mut room = [0u8; 16];
+        let k = io::hex(x, digits, &mut room);
+        self.text(&room[..k]);
     }
-    at
-}
 
-fn wide(b: u8) -> u64 {
-    b as u64
-}
-
-fn put_pairs(to: Stdout, out: &mut [u8], n: usize, s: &[u8]) -> usize {
-    let mut at = n;
-    let mut i = 0;
-    while i < s.len() {
-        at = put_hex(to, out, at, wide(s[i]), 2);
-        i += 1;
+    // A blank and the number.
+    pub fn number(&mut self, x: u64) {
+        self.byte(b' ');
+        self.hex(x, 1);
     }
-    at
-}
 
-// A blank and the bytes, or `-` for none.
-pub fn put_bytes(to: Stdout, out: &mut [u8], n: usize, s: &[u8]) -> usize {
-    let at = put(to, out, n, b' ');
-    if s.len() == 0 {
-        return put(to, out, at, b'-');
+    // A blank and the bytes, or `-` for none.
+    pub fn bytes(&mut self, s: &[u8]) {
+        self.byte(b' ');
+        if s.is_empty() {
+            self.byte(b'-');
+        }
+        for b in s {
+            self.hex(u64::from(*b), 2);
+        }
     }
-    put_pairs(to, out, at, s)
-}
 
-// One group more: its numbers.
-pub fn put_group(to: Stdout, out: &mut [u8], n: usize, s: &[u64]) -> usize {
-    let at = put_text(to, out, n, b" ;");
-    put_numbers(to, out, at, s)
-}
-
-pub fn put_none(to: Stdout, out: &mut [u8]) -> usize {
-    put_text(to, out, 0, b"no request")
-}
-
-// ---- what came of a request
-
-// `ok` or `refused`, and one number or two.
-#[derive(Clone, Copy)]
-pub struct Told {
-    pub ok: bool,
-    pub first: u64,
-    pub two: bool,
-    pub second: u64,
-}
-
-pub fn found(x: u64) -> Told
-    ensures { result ≡ found_of x }
-{
-    Told {
-        ok: true,
-        first: x,
-        two: false,
-        second: 0,
+    // One group more: its numbers.
+    pub fn group(&mut self, s: &[u64]) {
+        self.text(b" ;");
+        for x in s {
+            self.number(*x);
+        }
     }
-}
 
-// Refused by number, at a line.
-pub fn refused(number: u32, line: u32) -> Told
-    ensures { result ≡ refused_of number line }
-{
-    Told {
-        ok: false,
-        first: number as u64,
-        two: true,
-        second: line as u64,
+    // `ok` and a number.
+    pub fn found(&mut self, x: u64) {
+        self.text(b"ok");
+        self.number(x);
+    }
+
+    // Refused by number, at a line.
+    pub fn refused(&mut self, number: u32, line: u32) {
+        self.text(b"refused");
+        self.number(u64::from(number));
+        self.number(u64::from(line));
+    }
+
+    // A number that was found, or what it was refused for.
+    pub fn told(&mut self, t: Result<u64, u32>) {
+        match t {
+            Ok(x) => self.found(x),
+            Err(k) => self.refused(k, 0),
+        }
+    }
+
+    // What came of writing to a lent room of bytes, and the room as it was left.
+    pub fn left(&mut self, a: Wrote, room: &[u8]) {
+        self.told(wrote(a));
+        self.text(b" ;");
+        self.bytes(room);
+    }
+
+    // The line ends, and is written out.
+    pub fn end(&mut self) {
+        self.byte(b'\n');
+        self.flush();
     }
 }
 
 // How many bytes were written to a lent room, or what they were refused for.
-pub fn wrote(a: Wrote) -> Told
+fn wrote(a: Wrote) -> Result<u64, u32>
     ensures { result ≡ wrote_of a }
 {
     match a {
-        Wrote::Bytes(n) => found(n as u64),
-        Wrote::Refused(k) => refused(k, 0),
+        Wrote::Bytes(n) => Ok(n as u64),
+        Wrote::Refused(k) => Err(k),
     }
-}
-
-fn put_verdict(to: Stdout, out: &mut [u8], ok: bool) -> usize {
-    if ok {
-        return put_text(to, out, 0, b"ok");
-    }
-    put_text(to, out, 0, b"refused")
-}
-
-pub fn put_told(to: Stdout, out: &mut [u8], t: Told) -> usize {
-    let at = put_verdict(to, out, t.ok);
-    let at = put_number(to, out, at, t.first);
-    if t.two {
-        return put_number(to, out, at, t.second);
-    }
-    at
-}
-
-// The same, and a lent room of bytes as it was left.
-pub fn put_left(to: Stdout, out: &mut [u8], t: Told, room: &[u8]) -> usize {
-    let at = put_told(to, out, t);
-    let at = put_text(to, out, at, b" ;");
-    put_bytes(to, out, at, room)
 }

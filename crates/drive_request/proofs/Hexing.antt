@@ -1,17 +1,18 @@
 -- Numbers and bytes in hex, digit by digit, and how large they are. Assumes nothing.
-use Prim.Native.Nat.{ℕ, ◌+◌, ◌-◌, ◌*◌, ◌^◌, ◌<◌, ◌≤◌}
+use Prim.Native.Nat.{ℕ, ◌+◌, ◌-◌, ◌*◌, ◌^◌, ◌<◌, ◌≤◌, min}
 use mathlib.Core.Path.{◌≡◌, refl, ap, ◌∙◌}
 use mathlib.Core.Bool.{true, false, not}
-use mathlib.Core.List.{List, [], ◌∷◌}
-use mathlib.Core.Option.{none, some}
+use mathlib.Core.List.{List, [], ◌∷◌, ◌++◌}
+use Rattle.std.specs.Prelude.{Option, None, Some}
 use native.Mathlib.Nat.{pow-suc, pow-le-pow_right}
 use native.Mathlib.Numerals.{add-one}
 use native.Mathlib.Omega.{arith}
-use lib.Dec.{eqb, leb}
+use lib.Dec.{eqb, leb, ltb}
 use lib.ListN.{length, get_or, drop, drop_of_length-le}
-use borrow.Author.Tests.{lt-ltb, le-ltb, le-leb, lt-leb, eq-eqb, ne_eqb, leb-true}
-use Rattle.sets.proofs.{Truth.both, Places.drop-next}
-use Rattle.drive_request.specs.Numbers.{digit_of, hex_after, well_led, pairs_of, bytes_of}
+use borrow.Author.Tests.{ltb-true, ltb-false, lt-ltb, le-ltb, le-leb, lt-leb, eq-eqb, ne_eqb, leb-true}
+use mathlib.Core.Logic.{inl, inr}
+use Rattle.sets.proofs.{Truth.both, Truth.decided, Places.drop-next}
+use Rattle.drive_request.specs.Numbers.{digit_of, digit_in, hex_after, well_led, pairs_of, bytes_of}
 
 -- ---- a digit
 
@@ -70,7 +71,7 @@ led-length (b ∷ d ∷ w) h = leb-true (length (b ∷ d ∷ w)) 16 (both (not (
 -- ---- a number
 
 module _ (w : List ℕ) (n i : ℕ) where
-  pub hex-stop : i < length w → 15 < digit_of (get_or w i 0) → hex_after n (drop i w) ≡ none
+  pub hex-stop : i < length w → 15 < digit_of (get_or w i 0) → hex_after n (drop i w) ≡ None
   unfolding hex_after
   hex-stop h k = rw (drop-next w i 0 h, le-ltb (digit_of (get_or w i 0)) 16 (omega arith))
 
@@ -78,7 +79,7 @@ module _ (w : List ℕ) (n i : ℕ) where
   unfolding hex_after
   hex-on h k = rw (drop-next w i 0 h, lt-ltb (digit_of (get_or w i 0)) 16 (omega arith))
 
-  pub hex-done : length w ≤ i → hex_after n (drop i w) ≡ some n
+  pub hex-done : length w ≤ i → hex_after n (drop i w) ≡ Some n
   unfolding hex_after
   hex-done h = rw (drop_of_length-le w h)
 
@@ -90,35 +91,61 @@ module _ (n d i : ℕ) (h : n < 16 ^ i) (k : d ≤ 15) where
   pub hex-fits : i < 16 → 16 * n + d < 18446744073709551616
   hex-fits l = let p : 16 ^ i ≤ 16 ^ 15 = pow-le-pow_right {n = 16} (omega arith) {i = i} {j = 15} (omega arith) in omega arith
 
--- ---- bytes
+-- ---- a digit as an option
 
-module _ (w : List ℕ) (i : ℕ) where
-  pub pairs-odd : i < length w → length w - i < 2 → pairs_of (drop i w) ≡ none ∷ []
+pub digit_some : (b : ℕ) {d : ℕ} → Some d ≡ digit_in b → (digit_of b ≤ 15) × (d ≡ digit_of b)
+digit_some b e = elim (decided (ltb (digit_of b) 16)) [
+  | inl t ↦ let h = rw t at e in (omega (arith, ltb-true (digit_of b) 16 t), cc)
+  | inr f ↦ let h = rw f at e in absurd (cc)
+]
+
+pub digit_none : (b : ℕ) → ◌≡◌ {A = Option ℕ} None (digit_in b) → 15 < digit_of b
+digit_none b e = elim (decided (ltb (digit_of b) 16)) [
+  | inl t ↦ let h = rw t at e in absurd (cc)
+  | inr f ↦ omega (arith, ltb-false (digit_of b) 16 f)
+]
+
+-- ---- bytes: what is left begins with the piece x, and goes on with t
+
+module _ (r x t : List ℕ) (e : r ≡ x ++ t) where
+  pub pairs-odd : length x ≡ min 2 (length r) → 0 < length r → length x < 2 → pairs_of r ≡ None ∷ []
   unfolding pairs_of
-  pairs-odd h k = let z : length w ≤ i + 1 = omega arith in rw (drop-next w i 0 h, drop_of_length-le w z)
+  pairs-odd h k l = odd r (omega arith)
+    where
+      odd : (l : List ℕ) → length l ≡ 1 → pairs_of l ≡ None ∷ []
+      odd [] z = absurd (omega arith)
+      odd (a ∷ []) z = refl
+      odd (a ∷ b ∷ l) z = absurd (omega arith)
 
-  split : i + 1 < length w → drop i w ≡ get_or w i 0 ∷ get_or w (i + 1) 0 ∷ drop (i + 2) w
-  split h = let e : (i + 1) + 1 ≡ i + 2 = omega arith in
-      drop-next w i 0 (omega arith) ∙ ap (λ l. get_or w i 0 ∷ l) (drop-next w (i + 1) 0 h ∙ ap (λ j. get_or w (i + 1) 0 ∷ drop j w) e)
+  module _ (two : length x ≡ 2) where
+    split : r ≡ get_or x 0 0 ∷ get_or x 1 0 ∷ t
+    split = e ∙ pair x two
+      where
+        pair : (l : List ℕ) → length l ≡ 2 → l ++ t ≡ get_or l 0 0 ∷ get_or l 1 0 ∷ t
+        pair [] z = absurd (omega arith)
+        pair (a ∷ []) z = absurd (omega arith)
+        pair (a ∷ b ∷ []) z = refl
+        pair (a ∷ b ∷ d ∷ l) z = absurd (omega arith)
 
-  pub pairs-left : i + 1 < length w → 15 < digit_of (get_or w i 0) → pairs_of (drop i w) ≡ none ∷ pairs_of (drop (i + 2) w)
-  unfolding pairs_of
-  pairs-left h k = rw (split h, le-ltb (digit_of (get_or w i 0)) 16 (omega arith))
+    pub pairs-left : 15 < digit_of (get_or x 0 0) → pairs_of r ≡ None ∷ pairs_of t
+    unfolding pairs_of
+    pairs-left h = rw (split, le-ltb (digit_of (get_or x 0 0)) 16 (omega arith))
 
-  pub pairs-right : i + 1 < length w → digit_of (get_or w i 0) ≤ 15 → 15 < digit_of (get_or w (i + 1) 0) → pairs_of (drop i w) ≡ none ∷ pairs_of (drop (i + 2) w)
-  unfolding pairs_of
-  pairs-right h j k = rw (split h, lt-ltb (digit_of (get_or w i 0)) 16 (omega arith), le-ltb (digit_of (get_or w (i + 1) 0)) 16 (omega arith))
+    pub pairs-right : digit_of (get_or x 0 0) ≤ 15 → 15 < digit_of (get_or x 1 0) → pairs_of r ≡ None ∷ pairs_of t
+    unfolding pairs_of
+    pairs-right h k = rw (split, lt-ltb (digit_of (get_or x 0 0)) 16 (omega arith), le-ltb (digit_of (get_or x 1 0)) 16 (omega arith))
 
-  pub pairs-byte : i + 1 < length w → digit_of (get_or w i 0) ≤ 15 → digit_of (get_or w (i + 1) 0) ≤ 15
-      → pairs_of (drop i w) ≡ some (16 * digit_of (get_or w i 0) + digit_of (get_or w (i + 1) 0)) ∷ pairs_of (drop (i + 2) w)
-  unfolding pairs_of
-  pairs-byte h j k = rw (split h, lt-ltb (digit_of (get_or w i 0)) 16 (omega arith), lt-ltb (digit_of (get_or w (i + 1) 0)) 16 (omega arith))
+    pub pairs-byte : {a b : ℕ} → (digit_of (get_or x 0 0) ≤ 15) × (a ≡ digit_of (get_or x 0 0)) → (digit_of (get_or x 1 0) ≤ 15) × (b ≡ digit_of (get_or x 1 0))
+        → pairs_of r ≡ Some (16 * a + b) ∷ pairs_of t
+    unfolding pairs_of
+    pairs-byte h k = rw (split, h.1, k.1, lt-ltb (digit_of (get_or x 0 0)) 16 (omega arith), lt-ltb (digit_of (get_or x 1 0)) 16 (omega arith))
 
-  pub pairs-done : length w ≤ i → pairs_of (drop i w) ≡ []
-  unfolding pairs_of
-  pairs-done h = rw (drop_of_length-le w h)
+pub pairs-done : (r : List ℕ) → length r ≡ 0 → pairs_of r ≡ []
+unfolding pairs_of
+pairs-done [] h = refl
+pairs-done (a ∷ r) h = absurd (omega arith)
 
-pub bytes-empty : (w : List ℕ) → length w < 1 → bytes_of w ≡ none ∷ []
+pub bytes-empty : (w : List ℕ) → length w < 1 → bytes_of w ≡ None ∷ []
 unfolding bytes_of
 bytes-empty [] h = refl
 bytes-empty (a ∷ w) h = absurd (omega arith)
@@ -129,14 +156,8 @@ bytes-none [] h k e = absurd (omega arith)
 bytes-none (a ∷ []) h k e = rw (eq-eqb a 45 e)
 bytes-none (a ∷ b ∷ w) h k e = absurd (omega arith)
 
-pub bytes-odd : (w : List ℕ) → 1 ≤ length w → length w < 2 → (get_or w 0 0 ≡ 45 → ⊥) → bytes_of w ≡ none ∷ []
-unfolding bytes_of
-bytes-odd [] h k e = absurd (omega arith)
-bytes-odd (a ∷ []) h k e = rw (ne_eqb a 45 e)
-bytes-odd (a ∷ b ∷ w) h k e = absurd (omega arith)
-
-pub bytes-pairs : (w : List ℕ) → 2 ≤ length w → bytes_of w ≡ pairs_of w
-unfolding bytes_of
-bytes-pairs [] h = absurd (omega arith)
-bytes-pairs (a ∷ []) h = absurd (omega arith)
-bytes-pairs (a ∷ b ∷ w) h = refl
+pub bytes-other : (w : List ℕ) → 1 ≤ length w → (length w < 2 → get_or w 0 0 ≡ 45 → ⊥) → bytes_of w ≡ pairs_of w
+unfolding bytes_of pairs_of
+bytes-other [] h k = absurd (omega arith)
+bytes-other (a ∷ []) h k = rw (ne_eqb a 45 (k (omega arith)))
+bytes-other (a ∷ b ∷ w) h k = refl

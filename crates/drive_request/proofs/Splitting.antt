@@ -1,15 +1,18 @@
 -- The words of a text from a place on: the first ends at the first blank, and the others are those of what follows it. Assumes nothing.
 use Prim.Native.Nat.{ℕ, suc, ◌+◌, ◌-◌, ◌<◌, ◌≤◌}
-use mathlib.Core.Path.{◌≡◌, refl, ap, ◌∙◌}
-use mathlib.Core.Bool.{Bool, true, false, cond}
+use mathlib.Core.Path.{◌≡◌, refl, sym, ap, ◌∙◌}
+use mathlib.Core.Bool.{Bool, true, false, cond, not, ◌&&◌}
+use Rattle.std.proofs.lemmas.Grind.{common_steps}
+use Rattle.std.specs.Prelude.{Some, None, ◌==◌, if◌then◌else◌, unwrap_or}
+use Rattle.std.specs.{List.position_or_len, List.position, List.ends_with, List.filter}
 use mathlib.Core.List.{List, [], ◌∷◌}
 use mathlib.Core.Logic.{inl, inr}
 use native.Mathlib.Omega.{arith}
 use lib.Dec.{eqb, ltb}
 use lib.ListN.{length, get_or, take, drop, length-drop, drop_of_length-le}
 use lib.Seq.{drop-drop, length-take-le, take-nil, drop-length}
-use borrow.Author.Tests.{ltb-true, ltb-false, eq-eqb, ne_eqb}
-use Rattle.sets.{specs.Lists.is_nil, proofs.Truth.decided, proofs.Places.drop-next}
+use borrow.Author.Tests.{ltb-true, ltb-false, eq-eqb, ne_eqb, not-true, not-false}
+use Rattle.sets.{specs.Lists.any, specs.Lists.total, proofs.Truth.decided, proofs.Places.drop-next}
 use Rattle.drive_request.specs.Words.{index_of, index_after, onto, words_of, is_part, ahead, ends_blank, filled, parts_in, groups_of}
 
 pub index-le : (b : ℕ) (t : List ℕ) → index_of b t ≤ length t
@@ -32,7 +35,25 @@ module _ (b : ℕ) (t : List ℕ) (i : ℕ) where
   unfolding index_of
   index-done h = rw (drop_of_length-le t h)
 
-words-first : (t : List ℕ) → 1 ≤ length t → words_of t ≡ take (index_of 32 t) t ∷ words_of (drop (suc (index_of 32 t)) t)
+prefix-index : (b : ℕ) (t : List ℕ) → position_or_len (λ x. eqb x b) t ≡ index_of b t
+unfolding index_of
+prefix-index b [] = refl
+prefix-index b (x ∷ t) = elim (eqb x b) as (λ e. cond (not e) (1 + position_or_len (λ x. eqb x b) t) 0 ≡ index_after e (index_of b t))
+    [ true ↦ refl | false ↦ omega (arith, prefix-index b t) ]
+
+-- where a search finds it, or else the length
+pub index-position : (b : ℕ) (t : List ℕ) → unwrap_or (position (λ x. eqb x b) t) (length t) ≡ index_of b t
+index-position b t = rw (prefix-index b t) (elim (decided (ltb (index_of b t) (length t))) [
+  | inl k ↦ rw k
+  | inr k ↦ rw k (omega (arith, index-le b t, ltb-false (index_of b t) (length t) k))
+])
+
+pub words-none : (t : List ℕ) → length t < 1 → words_of t ≡ []
+unfolding words_of
+words-none [] h = refl
+words-none (b ∷ t) h = absurd (omega arith)
+
+pub words-first : (t : List ℕ) → 1 ≤ length t → words_of t ≡ take (index_of 32 t) t ∷ words_of (drop (suc (index_of 32 t)) t)
 unfolding words_of index_of
 words-first [] h = absurd (omega arith)
 words-first (b ∷ []) h = elim (eqb b 32)
@@ -49,86 +70,72 @@ words-first (b ∷ d ∷ t) h = go (eqb b 32) (words-first (d ∷ t) (omega arit
     go true k = refl
     go false k = ap (onto b) k
 
--- a word with a byte
-some_byte : (w : List ℕ) → 1 ≤ length w → is_nil w ≡ false
-some_byte [] h = absurd (omega arith)
-some_byte (b ∷ w) h = refl
+-- ---- words and the bytes that they take
 
--- ---- a lone `;`, and a blank at the end
-
-pub part-other : (w : List ℕ) → (length w ≡ 1 → ⊥) → is_part w ≡ false
-part-other [] h = refl
-part-other (b ∷ []) h = absurd (h refl)
-part-other (b ∷ d ∷ w) h = refl
-
-pub part-one : (w : List ℕ) → length w ≡ 1 → is_part w ≡ eqb (get_or w 0 0) 59
-part-one [] h = absurd (omega arith)
-part-one (b ∷ []) h = refl
-part-one (b ∷ d ∷ w) h = absurd (omega arith)
-
-pub blank_none : (l : List ℕ) → length l ≡ 0 → ends_blank l ≡ false
-blank_none [] h = refl
-blank_none (b ∷ l) h = absurd (omega arith)
-
--- ---- from a place on
-
-pub rest-past : (text : List ℕ) (at : ℕ) → length text ≤ at → take (length text - length text) (drop (length text) text) ≡ drop at text
-rest-past text at h = rw (drop-length, drop_of_length-le text h, take-nil)
-
-module _ (text : List ℕ) (at e : ℕ) (more : at < length text) (end : e ≡ at + index_of 32 (drop at text)) where
-  word-length : length (take (e - at) (drop at text)) ≡ e - at
-  word-length = length-take-le (e - at) (drop at text) (omega (arith, index-le 32 (drop at text)))
-
-  pub words-next : words_of (drop at text) ≡ take (e - at) (drop at text) ∷ words_of (drop (e + 1) text)
-  words-next =
-      let i = index_of 32 (drop at text) in
-      let k : i ≡ e - at = omega arith in
-      let n : at + suc i ≡ e + 1 = omega arith in
-      words-first (drop at text) (simp length-drop (omega arith))
-      ∙ ap (λ j. take j (drop at text) ∷ words_of (drop (suc i) (drop at text))) k
-      ∙ ap (λ l. take (e - at) (drop at text) ∷ words_of l) (drop-drop (suc i) at text ∙ ap (λ j. drop j text) n)
-
-  pub ahead-stop : is_part (take (e - at) (drop at text)) ≡ true → at + ahead (words_of (drop at text)) ≡ at
-  unfolding ahead
-  ahead-stop p = rw (words-next, p) (omega arith)
-
-  pub ahead-on : is_part (take (e - at) (drop at text)) ≡ false → at + ahead (words_of (drop at text)) ≡ (e + 1) + ahead (words_of (drop (e + 1) text))
-  unfolding ahead
-  ahead-on p = rw (words-next, p) (omega (arith, word-length))
-
-  -- a word that does not end where it begins
-  pub later : (e ≡ at → ⊥) → at < e
-  later h = elim (decided (ltb at e)) [ inl t ↦ ltb-true at e t | inr f ↦ absurd (h (omega (arith, ltb-false at e f))) ]
-
-  pub filled-stop : e ≡ at → filled (words_of (drop at text)) ≡ false
-  filled-stop h = let z : e - at ≡ 0 = omega arith in rw (words-next, z)
-
-  pub filled_on : (e ≡ at → ⊥) → filled (words_of (drop at text)) ≡ filled (words_of (drop (e + 1) text))
-  filled_on h = let l : at < e = later h in rw (words-next, some_byte (take (e - at) (drop at text)) (omega (arith, word-length)))
-
-  pub parts_next : parts_in (words_of (drop at text)) ≡ cond (is_part (take (e - at) (drop at text))) 1 0 + parts_in (words_of (drop (e + 1) text))
-  parts_next = ap parts_in words-next
-
--- no word is left past the text
-pub words-done : (text : List ℕ) (at : ℕ) → length text ≤ at → words_of (drop at text) ≡ []
+-- the words take no more bytes, a blank after each, than the text and a blank
+pub words-span : (t : List ℕ) → total (λ w. length w + 1) (words_of t) ≤ length t + 1
 unfolding words_of
-words-done text at h = rw (drop_of_length-le text h)
+words-span [] = omega arith
+words-span (b ∷ t) = elim (eqb b 32) as (λ e. total (λ w. length w + 1) (cond e ([] ∷ words_of t) (onto b (words_of t))) ≤ length (b ∷ t) + 1)
+    [ true ↦ omega (arith, words-span t) | false ↦ onto-span (words_of t) (words-span t) ]
+  where
+    onto-span : (ws : List (List ℕ)) → total (λ w. length w + 1) ws ≤ length t + 1 → total (λ w. length w + 1) (onto b ws) ≤ length (b ∷ t) + 1
+    onto-span [] h = omega arith
+    onto-span (w ∷ ws) h = omega (arith, h)
 
-pub ahead-done : (text : List ℕ) (at : ℕ) → length text ≤ at → at + ahead (words_of (drop at text)) ≡ at
+-- no more of them than bytes
+pub words-few : (t : List ℕ) → length (words_of t) ≤ length t
+unfolding words_of
+words-few [] = omega arith
+words-few (b ∷ t) = elim (eqb b 32) as (λ e. length (cond e ([] ∷ words_of t) (onto b (words_of t))) ≤ length (b ∷ t))
+    [ true ↦ omega (arith, words-few t) | false ↦ onto-few (words_of t) (words-few t) ]
+  where
+    onto-few : (ws : List (List ℕ)) → length ws ≤ length t → length (onto b ws) ≤ length (b ∷ t)
+    onto-few [] h = omega arith
+    onto-few (w ∷ ws) h = omega (arith, h)
+
+-- a word at the front, and none
+module _ {ws : List (List ℕ)} {w : List ℕ} {vs : List (List ℕ)} (e : ws ≡ w ∷ vs) where
+  pub ahead-stop : is_part w ≡ true → ahead ws ≡ 0
+  unfolding ahead
+  ahead-stop p = rw (e, p)
+
+  pub ahead-on : is_part w ≡ false → ahead ws ≡ length w + 1 + ahead vs
+  unfolding ahead
+  ahead-on p = rw (e, p)
+
+pub ahead-done : {ws : List (List ℕ)} → ws ≡ [] → ahead ws ≡ 0
 unfolding ahead
-ahead-done text at h = rw (words-done text at h) (omega arith)
+ahead-done e = rw e
 
 -- ---- how many groups a line has
+
+-- a blank at the end is the last byte
+pub ends-last : (l : List ℕ) → ends_with eqb l (32 ∷ []) ≡ ends_blank l
+ends-last [] = refl
+ends-last (b ∷ l) = grind (arith, common_steps)
+
+pub any-empty : (ws : List (List ℕ)) → any (λ w. eqb (length w) 0) ws ≡ not (filled ws)
+any-empty [] = refl
+any-empty ([] ∷ ws) = refl
+any-empty ((b ∷ w) ∷ ws) = let h : eqb (length (b ∷ w)) 0 ≡ false = ne_eqb (length (b ∷ w)) 0 (λ e. absurd (omega arith)) in rw h (any-empty ws)
+
+pub count-parts : (ws : List (List ℕ)) → length (filter is_part ws) ≡ parts_in ws
+count-parts [] = refl
+count-parts (w ∷ ws) = elim (is_part w) as (λ e. length (cond e (w ∷ filter is_part ws) (filter is_part ws)) ≡ cond e 1 0 + parts_in ws)
+    [ true ↦ omega (arith, count-parts ws) | false ↦ omega (arith, count-parts ws) ]
 
 module _ (line : List ℕ) where
   pub groups-blank : ends_blank line ≡ true → groups_of line ≡ 0
   unfolding groups_of
   groups-blank b = rw b
 
-  pub groups-empty : ends_blank line ≡ false → filled (words_of line) ≡ false → groups_of line ≡ 0
+  pub groups-empty : any (λ w. eqb (length w) 0) (words_of line) ≡ true → groups_of line ≡ 0
   unfolding groups_of
-  groups-empty b f = rw (b, f)
+  groups-empty a = rw (not-true (filled (words_of line)) (sym (any-empty (words_of line)) ∙ a))
+      (elim (not (ends_blank line)) as (λ e. cond (e && false) (parts_in (words_of line) + 1) 0 ≡ 0) [ true ↦ refl | false ↦ refl ])
 
-  pub groups-spaced : ends_blank line ≡ false → filled (words_of line) ≡ true → groups_of line ≡ parts_in (words_of line) + 1
+  pub groups-spaced : ends_blank line ≡ false → any (λ w. eqb (length w) 0) (words_of line) ≡ false
+      → Some (parts_in (words_of line) + 1) ≡ (if groups_of line == 0 then None else Some (groups_of line))
   unfolding groups_of
-  groups-spaced b f = rw (b, f)
+  groups-spaced b a = rw (b, not-false (filled (words_of line)) (sym (any-empty (words_of line)) ∙ a), ne_eqb (parts_in (words_of line) + 1) 0 (λ e. absurd (omega arith)))

@@ -2,13 +2,15 @@
 use Prim.Native.Nat.{ℕ, suc, ◌+◌, ◌<◌, ◌≤◌}
 use mathlib.Core.Path.{◌≡◌, refl, sym, ◌∙◌}
 use mathlib.Core.List.{List, [], ◌∷◌}
-use mathlib.Core.Option.{Option, none, some}
+use Rattle.std.specs.Prelude.{Option, None, Some, IfSome}
 use native.Mathlib.Numerals.{add-one}
 use native.Mathlib.Omega.{arith}
 use lib.ListN.{length, set, length-set}
 use lib.Seq.{sets, set_out}
-use borrow.Author.Tests.{lt-ltb, le-ltb}
-use Rattle.drive_request.specs.declared.Count.TheVariants.{Are, Nothing}
+use mathlib.Core.Logic.{inl, inr}
+use lib.Dec.{ltb}
+use Rattle.sets.proofs.{Truth.decided}
+use borrow.Author.Tests.{ltb-true, lt-ltb, le-ltb}
 use Rattle.drive_request.specs.Reading.{values_of, count_of, Stored}
 
 -- of the values all, those of left are due from n on
@@ -29,20 +31,20 @@ module _ {old new : List ℕ} {n : ℕ} {all : List (Option ℕ)} where
   storing-as e s = rw e at s
 
   -- one is none
-  pub storing-none : {left : List (Option ℕ)} → Storing old new n (none ∷ left) all → Stored old new Nothing all
+  pub storing-none : {left : List (Option ℕ)} → Storing old new n (None ∷ left) all → Stored old new None all
   unfolding values_of count_of
   storing-none s = record { answer = s.answer; bytes = s.bytes }
 
-  pub storing-done : Storing old new n [] all → Stored old new (Are n) all
+  pub storing-done : Storing old new n [] all → Stored old new (Some n) all
   unfolding values_of count_of
   storing-done s = record { answer = s.answer; bytes = s.bytes }
 
-  module _ {v : ℕ} {left : List (Option ℕ)} (s : Storing old new n (some v ∷ left) all) where
-    pub storing-full : length new ≤ n → Stored old new Nothing all
+  module _ {v : ℕ} {left : List (Option ℕ)} (s : Storing old new n (Some v ∷ left) all) where
+    pub storing-full : length new ≤ n → Stored old new None all
     unfolding values_of count_of
     storing-full h = record {
       answer = rw (le-ltb n (length old) (omega (arith, s.size))) at s.answer;
-      bytes = sym (sets-out (values_of (some v ∷ left)) new n h) ∙ s.bytes;
+      bytes = sym (sets-out (values_of (Some v ∷ left)) new n h) ∙ s.bytes;
     }
 
     pub storing-next : n < length new → Storing old (set new n v) (n + 1) left all
@@ -52,3 +54,16 @@ module _ {old new : List ℕ} {n : ℕ} {all : List (Option ℕ)} where
       answer = rw add-one (rw (lt-ltb n (length old) (omega (arith, s.size))) at s.answer);
       bytes = rw add-one s.bytes;
     }
+
+-- no more are counted than there is room for
+count-within : (room n : ℕ) (os : List (Option ℕ)) → n ≤ room → IfSome (count_of room n os) (λ k. k ≤ room)
+unfolding count_of
+count-within room n [] h = h
+count-within room n (None ∷ os) h = tt
+count-within room n (Some v ∷ os) h = elim (decided (ltb n room)) [
+  | inl t ↦ rw t (count-within room (suc n) os (omega (arith, ltb-true n room t)))
+  | inr f ↦ rw f tt
+]
+
+pub stored-within : {old new : List ℕ} {r : Option ℕ} {os : List (Option ℕ)} → Stored old new r os → IfSome r (λ n. n ≤ length old)
+stored-within {old} {os = os} s = rw (s.answer) (count-within (length old) 0 os (omega arith))

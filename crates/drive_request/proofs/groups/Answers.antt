@@ -1,44 +1,47 @@
--- The answers of `drive_request::groups`, whose loop's invariant stands beside. Assumes nothing.
-use mathlib.Core.Path.{◌≡◌, sym, ap, ◌∙◌}
-use mathlib.Core.{Bool.false, Bool.cond, List.[]}
-use Prim.Native.Nat.{◌+◌, ◌<◌}
+-- `drive_request::groups` meets its contract: a blank at the end, an empty word, or one group more than lone `;`. Assumes nothing.
+use mathlib.Core.Path.{◌≡◌, refl, sym, ap, ◌∙◌}
+use mathlib.Core.{Bool.Bool, Bool.false, Bool.not, Logic.inl, List.List}
+use Prim.Native.Nat.{ℕ, ◌+◌}
+use lib.Dec.{eqb}
+use lib.ListN.{length}
 use native.Mathlib.Omega.{arith}
-use lib.ListN.{drop}
-use Rattle.drive_request.specs.Words.{words_of, ends_blank, filled, parts_in}
-use Rattle.drive_request.proofs.Splitting.{later, filled-stop, filled_on, parts_next, words-done, groups-blank, groups-empty, groups-spaced}
+use borrow.Author.{Rules.rules, Tests.tests}
+use Rattle.std.proofs.lemmas.Iterator.{YieldsList}
+use Rattle.std.proofs.lemmas.Iterator.Consumers.{YieldsList-from_first, YieldsList-from_filter, count_from_yields_List}
+use Rattle.std.specs.Iterator.{YieldsFirstRef}
+use Rattle.sets.{proofs.Chains.any-chain}
+use Rattle.drive_request.specs.declared.Words.{Words}
+use Rattle.drive_request.specs.Words.{words_of, is_part, filled}
+use Rattle.drive_request.proofs.Splitting.{ends-last, any-empty, count-parts, words-few, groups-blank, groups-empty, groups-spaced}
 use Rattle.drive_request.proofs.groups.Goals as goal
-use Rattle.drive_request.proofs.groups.Goals.{At-loop-at, then-is_part, else-is_part}
+use Rattle.drive_request.proofs.groups.Goals.{then-ends_with-via-then-ends_with, then-ends_with-via-else-ends_with+then-any}
 
--- no blank ends the line
-clear : (s : At-loop-at) → ends_blank s.args.line.now ≡ false
-clear s = sym s.ends_blank.ensures ∙ s.if-ends_blank.false
+-- the words of the line, each in turn
+road : {s : Words} (line : List ℕ) → s.0.now ≡ line → YieldsList (YieldsFirstRef (λ (t : Words). words_of t.0.now)) (λ w. w.now) s (words_of line)
+road line e = YieldsList-from_first (λ w. w.now) (λ (t : Words). words_of t.0.now) _ (ap words_of e)
 
-pub returns-then-ends_blank : goal.returns-then-ends_blank
-returns-then-ends_blank c = sym (groups-blank c.args.line.now (sym c.ends_blank.ensures ∙ c.if-ends_blank.true))
+pub returns-then-ends_with : goal.returns-then-ends_with
+returns-then-ends_with c = let line = c.args.line.now in elim c.then-ends_with.branch [
+  | then-ends_with-via-then-ends_with w ↦ rw (groups-blank line (sym (ends-last line) ∙ sym c.ends_with.ensures.value ∙ w.if-ends_with.true))
+  | then-ends_with-via-else-ends_with+then-any w ↦
+    let a = any-chain (λ v. eqb (length v) 0) w.any.new.self _ _ w.any.ensures.ran (road line refl) (λ x b q k. search (rules, tests)) in
+    rw (groups-empty line (sym a ∙ w.if-any.true))
+]
 
-pub returns-then-e-at : goal.returns-then-e-at
-returns-then-e-at c = sym (groups-empty c.args.line.now (clear (goal.at.returns-then-e-at c).At-loop-at) (sym c.loop-at.invariant.0
-    ∙ filled-stop c.args.line.now c.loop-at.at c.word_end-e.result c.loop-at-test.true c.word_end-e.ensures.0 c.if-e-at.true))
+pub count-parts-requires-clause-fits : goal.count-parts-requires-clause-fits
+count-parts-requires-clause-fits c =
+    let e = ap (λ (s : Words). length (words_of s.0.now)) c.filter.ensures.source in inl (omega (arith, e, words-few c.args.line.now))
 
-pub loop-at-preserved : goal.loop-at-preserved
-loop-at-preserved c =
-    let l : c.loop-at.at < c.word_end-e.result =
-    later c.args.line.now c.loop-at.at c.word_end-e.result c.loop-at-test.true c.word_end-e.ensures.0 c.if-e-at.false in
-    let p = parts_next c.args.line.now c.loop-at.at c.word_end-e.result c.loop-at-test.true c.word_end-e.ensures.0 in
-    let r = words_of (drop (c.word_end-e.result + 1) c.args.line.now) in (
-      sym (filled_on c.args.line.now c.loop-at.at c.word_end-e.result c.loop-at-test.true c.word_end-e.ensures.0 c.if-e-at.false) ∙ c.loop-at.invariant.0,
-      elim c.if-is_part.branch [
-        | then-is_part w ↦ omega (arith, p ∙ ap (λ b. cond b 1 0 + parts_in r) (sym c.is_part.ensures ∙ w.if-is_part.true), c.loop-at.invariant.1, w.parts-is)
-        | else-is_part w ↦ omega (arith, p ∙ ap (λ b. cond b 1 0 + parts_in r) (sym c.is_part.ensures ∙ w.if-is_part.false), c.loop-at.invariant.1, w.parts-is)
-      ],
-      elim c.if-is_part.branch [
-        | then-is_part w ↦ omega (arith, l, c.loop-at.invariant.2, w.parts-is)
-        | else-is_part w ↦ omega (arith, l, c.loop-at.invariant.2, w.parts-is)
-      ],
-      omega (arith, c.word_end-e.ensures.1),
-    )
+pub overflow_add-result : goal.overflow_add-result
+overflow_add-result c =
+    let e = ap (λ (s : Words). length (words_of s.0.now)) c.filter.ensures.source in omega (arith, e, words-few c.args.line.now)
 
 pub returns : goal.returns
-returns c = let d : words_of (drop c.loop-at.at c.args.line.now) ≡ [] = words-done c.args.line.now c.loop-at.at c.loop-at-test.false in
-    let p : c.loop-at.parts ≡ parts_in (words_of c.args.line.now) = omega (arith, ap parts_in d, c.loop-at.invariant.1) in
-    ap (λ k. k + 1) p ∙ sym (groups-spaced c.args.line.now (clear (goal.at.returns c).At-loop-at) (sym c.loop-at.invariant.0 ∙ ap filled d))
+returns c =
+    let line = c.args.line.now in
+    let n = count_from_yields_List c.filter.result _ c.count-parts.ensures.ran
+        (YieldsList-from_filter _ is_part (road line (ap (λ (s : Words). s.0.now) c.filter.ensures.source)) c.filter.ensures.closure
+        (λ x b q k. search (rules, tests))) in
+    let a = any-chain (λ v. eqb (length v) 0) c.any.new.self _ _ c.any.ensures.ran (road line refl) (λ x b q k. search (rules, tests)) in
+    rw (n, count-parts (words_of line))
+    (groups-spaced line (sym (ends-last line) ∙ sym c.ends_with.ensures.value ∙ c.if-ends_with.false) (sym a ∙ c.if-any.false))

@@ -1,62 +1,27 @@
 -- The answers of `drive_request::numbers`, whose loop's invariant stands beside. Assumes nothing.
-use mathlib.Core.Path.{◌≡◌, sym, ap, ◌∙◌}
-use mathlib.Core.List.{List, ◌∷◌, map}
-use mathlib.Core.Option.{none, some}
-use Prim.Native.Nat.{ℕ, ◌+◌, ◌-◌, ◌<◌}
-use native.Mathlib.Omega.{arith}
-use lib.ListN.{length, take, drop}
-use Rattle.drive_request.specs.declared.Hex.{Hex}
-use Rattle.drive_request.specs.Words.{index_of}
-use Rattle.drive_request.specs.Numbers.{number_of, number_in, numbers_of}
-use Rattle.drive_request.proofs.{Splitting.words-next, Splitting.words-done}
-use Rattle.drive_request.proofs.Storing.{Storing, storing-all, storing-as, storing-none, storing-full, storing-next, storing-done}
+use mathlib.Core.Path.{sym, ap, ◌∙◌}
+use mathlib.Core.List.{◌∷◌, map}
+use Rattle.drive_request.specs.Numbers.{number_of, numbers_of}
+use Rattle.drive_request.proofs.Storing.{storing-as, storing-none, storing-full, storing-next, storing-done, stored-within}
 use Rattle.drive_request.proofs.numbers.Goals as goal
-use Rattle.drive_request.proofs.numbers.Goals.{In_default, In-Is}
 
--- a word is read: what it is, and the numbers after it
-read : (text : List ℕ) (at e : ℕ) (r : Hex) → at < length text → e ≡ at + index_of 32 (drop at text)
-    → number_in r ≡ number_of (take (e - at) (drop at text)) → numbers_of (drop at text) ≡ number_in r ∷ numbers_of (drop (e + 1) text)
-read text at e r more end is =
-    ap (map number_of) (words-next text at e more end) ∙ ap (λ o. o ∷ numbers_of (drop (e + 1) text)) (sym is)
+pub returns-in_err-v-clause-stored : goal.returns-in_err-v-clause-stored
+returns-in_err-v-clause-stored c =
+    let e = ap (map number_of) c.in-Some.ensures.steps ∙ ap (λ o. o ∷ numbers_of c.next.new.self.0.now) (sym c.number.ensures ∙ c.in_err-v.was) in
+    rw c.from_residual.ensures (storing-none (storing-as e c.loop-word.invariant))
 
-pub loop-at-init : goal.loop-at-init
-loop-at-init c = (omega arith, storing-all _ _)
+pub returns-then-n-pool-clause-stored : goal.returns-then-n-pool-clause-stored
+returns-then-n-pool-clause-stored c =
+    let e = ap (map number_of) c.in-Some.ensures.steps ∙ ap (λ o. o ∷ numbers_of c.next.new.self.0.now) (sym c.number.ensures ∙ c.in_ok-v.was) in
+    storing-full (storing-as e c.loop-word.invariant) c.if-n-pool.true
 
--- the word is no number
-missing : (c : In_default) → Storing c.args.pool.now c.loop-at.pool c.loop-at.n
-    (none ∷ numbers_of (drop (c.word_end-e.result + 1) c.args.text.now)) (numbers_of c.args.text.now)
-missing c = storing-as
-    (read c.args.text.now c.loop-at.at c.word_end-e.result c.number.result c.loop-at-test.true c.word_end-e.ensures.0 c.number.ensures
-    ∙ ap (λ k. number_in k ∷ numbers_of (drop (c.word_end-e.result + 1) c.args.text.now)) c.in_default.is)
-    c.loop-at.invariant.1
+pub loop-word-preserved : goal.loop-word-preserved
+loop-word-preserved c =
+    let e = ap (map number_of) c.in-Some.ensures.steps ∙ ap (λ o. o ∷ numbers_of c.next.new.self.0.now) (sym c.number.ensures ∙ c.in_ok-v.was) in
+    storing-next (storing-as e c.loop-word.invariant) c.if-n-pool.false
 
-pub returns-in_default : goal.returns-in_default
-returns-in_default c = storing-none (missing c)
+pub returns-clause-stored : goal.returns-clause-stored
+returns-clause-stored c = storing-done (storing-as (ap (map number_of) c.in-None.ensures.steps.0) c.loop-word.invariant)
 
--- the number is due, then those after it
-due : (c : In-Is) → Storing c.args.pool.now c.loop-at.pool c.loop-at.n
-    (some c.in-Is.v ∷ numbers_of (drop (c.word_end-e.result + 1) c.args.text.now)) (numbers_of c.args.text.now)
-due c = storing-as
-    (read c.args.text.now c.loop-at.at c.word_end-e.result c.number.result c.loop-at-test.true c.word_end-e.ensures.0 c.number.ensures
-    ∙ ap (λ k. number_in k ∷ numbers_of (drop (c.word_end-e.result + 1) c.args.text.now)) c.in-Is.is)
-    c.loop-at.invariant.1
-
-pub returns-then-n-pool : goal.returns-then-n-pool
-returns-then-n-pool c = storing-full (due (goal.at.returns-then-n-pool c).In-Is) c.if-n-pool.true
-
-pub loop-at-preserved : goal.loop-at-preserved
-loop-at-preserved c =
-    (omega (arith, c.word_end-e.ensures.1), storing-next (due (goal.at.loop-at-preserved c).In-Is) c.if-n-pool.false)
-
-pub returns : goal.returns
-returns c =
-    storing-done (storing-as (ap (map number_of) (words-done c.args.text.now c.loop-at.at c.loop-at-test.false)) c.loop-at.invariant.1)
-
-pub shape_of-pool-in_default : goal.shape_of-pool-in_default
-shape_of-pool-in_default c = (missing c).size
-
-pub shape_of-pool-then-n-pool : goal.shape_of-pool-then-n-pool
-shape_of-pool-then-n-pool c = (due (goal.at.shape_of-pool-then-n-pool c).In-Is).size
-
-pub shape_of-pool : goal.shape_of-pool
-shape_of-pool c = c.loop-at.invariant.1.size
+pub returns-clause-within : goal.returns-clause-within
+returns-clause-within c = stored-within (storing-done (storing-as (ap (map number_of) c.in-None.ensures.steps.0) c.loop-word.invariant))

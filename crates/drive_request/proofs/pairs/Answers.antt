@@ -1,72 +1,47 @@
 -- The answers of `drive_request::pairs`, whose loop's invariant stands beside. Assumes nothing.
-use mathlib.Core.Path.{◌≡◌, ap, ◌∙◌}
-use mathlib.Core.{List.◌∷◌, Option.some}
-use Prim.Native.Nat.{◌+◌, ◌*◌, ◌<◌, ◌≤◌}
+use mathlib.Core.Path.{◌≡◌, sym, ap, ◌∙◌}
 use native.Mathlib.Omega.{arith}
-use lib.ListN.{length, get_or, drop}
-use Rattle.drive_request.specs.Numbers.{digit_of, pairs_of}
-use Rattle.drive_request.proofs.Hexing.{pairs-odd, pairs-left, pairs-right, pairs-byte, pairs-done}
-use Rattle.drive_request.proofs.Storing.{Storing, storing-all, storing-as, storing-none, storing-full, storing-next, storing-done}
+use lib.ListN.{length}
+use Rattle.drive_request.proofs.Hexing.{digit_some, digit_none, pairs-odd, pairs-left, pairs-right, pairs-byte, pairs-done}
+use Rattle.drive_request.proofs.Storing.{storing-as, storing-none, storing-full, storing-next, storing-done, stored-within}
 use Rattle.drive_request.proofs.pairs.Goals as goal
-use Rattle.drive_request.proofs.pairs.Goals.{Else-a-gt15, Else-b-gt15, Else-word-i-lt2}
 
--- another byte stands after this one
-more : (c : Else-word-i-lt2) → c.loop-i.i + 1 < length c.args.word.now
-more c = omega (arith, c.if-word-i-lt2.false, c.loop-i-test.true)
+pub returns-in_default-clause-stored : goal.returns-in_default-clause-stored
+returns-in_default-clause-stored c =
+    let h = c.in-Some.ensures.steps in
+    storing-none (storing-as (pairs-odd _ _ _ h.1.0 (omega (arith, h.1.1, c.loop-pair.invariant.0)) h.1.2 c.in_default.len_below) c.loop-pair.invariant.1)
 
-pub loop-i-init : goal.loop-i-init
-loop-i-init c = (omega arith, storing-all _ _)
+pub returns-in_err-high-clause-stored : goal.returns-in_err-high-clause-stored
+returns-in_err-high-clause-stored c =
+    let two : length c.in-Some.pair.now ≡ 2 = omega arith in
+    let h = digit_none _ (sym c.in_err-high.was ∙ c.digit.ensures) in
+    rw c.from_residual.ensures (storing-none (storing-as (pairs-left _ _ _ c.in-Some.ensures.steps.1.0 two h) c.loop-pair.invariant.1))
 
-pub returns-then-word-i-lt2 : goal.returns-then-word-i-lt2
-returns-then-word-i-lt2 c =
-    storing-none (storing-as (pairs-odd c.args.word.now c.loop-i.i c.loop-i-test.true c.if-word-i-lt2.true) c.loop-i.invariant.1)
+pub returns-in_err-low-clause-stored : goal.returns-in_err-low-clause-stored
+returns-in_err-low-clause-stored c =
+    let two : length c.in-Some.pair.now ≡ 2 = omega arith in
+    let h = digit_some _ (sym c.in_ok-high.was ∙ c.digit.ensures) in
+    let k = digit_none _ (sym c.in_err-low.was ∙ c.digit-in-loop-pair.ensures) in
+    rw c.from_residual-in_err-low.ensures (storing-none (storing-as (pairs-right _ _ _ c.in-Some.ensures.steps.1.0 two h.0 k) c.loop-pair.invariant.1))
 
-pub returns-then-a-gt15 : goal.returns-then-a-gt15
-returns-then-a-gt15 c = storing-none (storing-as
-    (pairs-left c.args.word.now c.loop-i.i (more (goal.at.returns-then-a-gt15 c).Else-word-i-lt2) (omega (arith, c.digit-a.ensures, c.if-a-gt15.true)))
-    c.loop-i.invariant.1)
+pub returns-then-n-room-clause-stored : goal.returns-then-n-room-clause-stored
+returns-then-n-room-clause-stored c =
+    let two : length c.in-Some.pair.now ≡ 2 = omega arith in
+    let h = digit_some _ (sym c.in_ok-high.was ∙ c.digit.ensures) in
+    let k = digit_some _ (sym c.in_ok-low.was ∙ c.digit-in-loop-pair.ensures) in
+    storing-full (storing-as (pairs-byte _ _ _ c.in-Some.ensures.steps.1.0 two h k) c.loop-pair.invariant.1) c.if-n-room.true
 
--- the first digit is one
-left : (c : Else-a-gt15) → digit_of (get_or c.args.word.now c.loop-i.i 0) ≤ 15
-left c = omega (arith, c.digit-a.ensures, c.if-a-gt15.false)
+pub loop-pair-preserved : goal.loop-pair-preserved
+loop-pair-preserved c =
+    let two : length c.in-Some.pair.now ≡ 2 = omega arith in
+    let h = digit_some _ (sym c.in_ok-high.was ∙ c.digit.ensures) in
+    let k = digit_some _ (sym c.in_ok-low.was ∙ c.digit-in-loop-pair.ensures) in (
+      c.in-Some.ensures.steps.0 ∙ c.loop-pair.invariant.0,
+      storing-next (storing-as (pairs-byte _ _ _ c.in-Some.ensures.steps.1.0 two h k) c.loop-pair.invariant.1) c.if-n-room.false,
+    )
 
-pub returns-then-b-gt15 : goal.returns-then-b-gt15
-returns-then-b-gt15 c = let at = goal.at.returns-then-b-gt15 c in storing-none (storing-as
-    (pairs-right c.args.word.now c.loop-i.i (more at.Else-word-i-lt2) (left at.Else-a-gt15) (omega (arith, c.digit-b.ensures, c.if-b-gt15.true)))
-    c.loop-i.invariant.1)
+pub returns-clause-stored : goal.returns-clause-stored
+returns-clause-stored c = storing-done (storing-as (pairs-done _ c.in-None.ensures.steps.1.0) c.loop-pair.invariant.1)
 
--- the byte of two digits is due, then those after it
-due : (c : Else-b-gt15) → Storing c.args.room.now c.loop-i.room c.loop-i.n
-    (some (16 * c.digit-a.result + c.digit-b.result) ∷ pairs_of (drop (c.loop-i.i + 2) c.args.word.now)) (pairs_of c.args.word.now)
-due c =
-    let m : c.loop-i.i + 1 < length c.args.word.now = omega (arith, c.if-word-i-lt2.false, c.loop-i-test.true) in
-    let a : digit_of (get_or c.args.word.now c.loop-i.i 0) ≤ 15 = omega (arith, c.digit-a.ensures, c.if-a-gt15.false) in
-    let b : digit_of (get_or c.args.word.now (c.loop-i.i + 1) 0) ≤ 15 = omega (arith, c.digit-b.ensures, c.if-b-gt15.false) in
-    let v : 16 * digit_of (get_or c.args.word.now c.loop-i.i 0) + digit_of (get_or c.args.word.now (c.loop-i.i + 1) 0) ≡ 16 * c.digit-a.result + c.digit-b.result
-    = omega (arith, c.digit-a.ensures, c.digit-b.ensures) in
-    storing-as (pairs-byte c.args.word.now c.loop-i.i m a b ∙ ap (λ x. some x ∷ pairs_of (drop (c.loop-i.i + 2) c.args.word.now)) v) c.loop-i.invariant.1
-
-pub returns-then-n-room : goal.returns-then-n-room
-returns-then-n-room c = storing-full (due (goal.at.returns-then-n-room c).Else-b-gt15) c.if-n-room.true
-
-pub loop-i-preserved : goal.loop-i-preserved
-loop-i-preserved c = let at = goal.at.loop-i-preserved c in
-    (omega (arith, more at.Else-word-i-lt2), storing-next (due at.Else-b-gt15) c.if-n-room.false)
-
-pub returns : goal.returns
-returns c = storing-done (storing-as (pairs-done c.args.word.now c.loop-i.i c.loop-i-test.false) c.loop-i.invariant.1)
-
-pub shape_of-room-then-word-i-lt2 : goal.shape_of-room-then-word-i-lt2
-shape_of-room-then-word-i-lt2 c = c.loop-i.invariant.1.size
-
-pub shape_of-room-then-a-gt15 : goal.shape_of-room-then-a-gt15
-shape_of-room-then-a-gt15 c = c.loop-i.invariant.1.size
-
-pub shape_of-room-then-b-gt15 : goal.shape_of-room-then-b-gt15
-shape_of-room-then-b-gt15 c = c.loop-i.invariant.1.size
-
-pub shape_of-room-then-n-room : goal.shape_of-room-then-n-room
-shape_of-room-then-n-room c = (due (goal.at.shape_of-room-then-n-room c).Else-b-gt15).size
-
-pub shape_of-room : goal.shape_of-room
-shape_of-room c = c.loop-i.invariant.1.size
+pub returns-clause-within : goal.returns-clause-within
+returns-clause-within c = stored-within (storing-done (storing-as (pairs-done _ c.in-None.ensures.steps.1.0) c.loop-pair.invariant.1))

@@ -1,19 +1,13 @@
--- `drive_request::word_end` meets its contract: it stops at the first blank, or at the end. Assumes nothing.
-use native.Mathlib.Omega.{arith}
-use Rattle.drive_request.proofs.Splitting.{index-stop, index_on, index-done}
+-- `drive_request::word_end` meets its contract: where a search finds a blank. Assumes nothing.
+use Rattle.std.proofs.Common.{◌∙◌, ap, eqb, length, rules}
+use borrow.Author.Tests.{tests}
+use Rattle.std.specs.Prelude.{unwrap_or}
+use Rattle.std.proofs.lemmas.{Iterator.YieldsList-from_slice, Iterator.Search.position_from_yields_List}
+use Rattle.drive_request.proofs.Splitting.{index-position}
 use Rattle.drive_request.proofs.word_end.Goals as goal
 
-pub returns-then-text-e-eq32 : goal.returns-then-text-e-eq32
-returns-then-text-e-eq32 c = (
-  omega (arith, index-stop 32 c.args.text.now c.loop-e.e c.loop-e-test.true c.if-text-e-eq32.true, c.loop-e.invariant.0),
-  c.loop-e.invariant.1,
-)
-
-pub loop-e-preserved : goal.loop-e-preserved
-loop-e-preserved c = (
-  omega (arith, index_on 32 c.args.text.now c.loop-e.e c.loop-e-test.true c.if-text-e-eq32.false, c.loop-e.invariant.0),
-  omega (arith, c.loop-e-test.true),
-)
-
-pub returns : goal.returns
-returns c = (omega (arith, index-done 32 c.args.text.now c.loop-e.e c.loop-e-test.false, c.loop-e.invariant.0), c.loop-e.invariant.1)
+pub returns-clause-value : goal.returns-clause-value
+returns-clause-value c =
+    let t = c.args.text.now in
+    let p = position_from_yields_List (λ x. eqb x 32) _ _ _ c.position.ensures.ran (YieldsList-from_slice t c.iter.ensures.rest) (λ x b q k. search (rules, tests)) in
+    c.unwrap_or.ensures ∙ ap (λ o. unwrap_or o (length t)) p ∙ index-position 32 t
