@@ -1,7 +1,7 @@
 // Requests for runs.
 use crate::nets;
 use crate::wire::Reply;
-use cube::{Cube, Found, Literal};
+use cube::{Cube, Literal};
 use extract::{Answer, Made, Stop};
 use extract_divisor::Divisor;
 use network::Network;
@@ -11,10 +11,7 @@ fn literal_from(c: Cube, l: u32) -> Option<u32> {
     if l >= cube::LITERALS {
         return None;
     }
-    match cube_order::first_from(c, Literal(l)) {
-        Found::At(m) => Some(m.0),
-        Found::Nothing => None,
-    }
+    cube_order::first_from(c, Literal(l)).map(|m| m.0)
 }
 
 // A part of one or two literals.

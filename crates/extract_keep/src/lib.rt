@@ -12,8 +12,8 @@ ghost use Rattle.extract_counts.specs.Counts.{node_gain, net_gain};
 ghost use Rattle.extract_keep.specs.Keep.{Knows, Kept};
 ghost use Rattle.extract_keep.specs.Parts.{Shifts, between, Turn};
 
-use cube::Order;
 use network::Network;
+use std::cmp::Ordering;
 
 const TABLE_WORDS: usize = extract_gains::TABLE_WORDS;
 
@@ -56,7 +56,7 @@ pub fn fill(t: &mut [u32; TABLE_WORDS], g: &mut [u16; MOST_ENTRIES], n: Network)
 
 // Which cube is next: one of a goes where it is before that of b, one of b comes where it is before that of a, and the same one stays. Any order
 // would do.
-fn next_of(a: &[u64], i: usize, b: &[u64], j: usize) -> Option<Order>
+fn next_of(a: &[u64], i: usize, b: &[u64], j: usize) -> Option<Ordering>
     ensures turn { Turn (cubes_of a.now) i (cubes_of b.now) j result }
     ensures fits { (length (cubes_of a.now) < 2 ^ 64) × (length (cubes_of b.now) < 2 ^ 64) }
 {
@@ -66,8 +66,8 @@ fn next_of(a: &[u64], i: usize, b: &[u64], j: usize) -> Option<Order>
             let d = expression::cube_at(b, j);
             Some(cube_order::compare(c, d))
         }
-        (true, false) => Some(Order::Before),
-        (false, true) => Some(Order::After),
+        (true, false) => Some(Ordering::Less),
+        (false, true) => Some(Ordering::Greater),
         (false, false) => None,
     }
 }
@@ -132,15 +132,15 @@ fn renew_node(t: &mut [u32; TABLE_WORDS], g: &mut [u16; MOST_ENTRIES], a: &[u64]
     // By two places: a turn moves either or both.
     while let Some(o) = next_of(a, i, b, j) {
         match o {
-            Order::Before => {
+            Ordering::Less => {
                 take_out(t, g, a, i, b, j);
                 i += 1;
             }
-            Order::Same => {
+            Ordering::Equal => {
                 i += 1;
                 j += 1;
             }
-            Order::After => {
+            Ordering::Greater => {
                 put_in(t, g, a, i, b, j);
                 j += 1;
             }
