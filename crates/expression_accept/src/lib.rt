@@ -21,7 +21,7 @@ pub const WORDS: usize = expression::WORDS * CUBES;
 fn all_proper(s: &[u64]) -> bool
     ensures { result ≡ all proper (cubes_of s.now) }
 {
-    expression::each(s).all(|c| cube_sets::is_proper(c))
+    expression::each(s).all(cube_sets::is_proper)
 }
 
 // Whether neither of a and b contains the other.
