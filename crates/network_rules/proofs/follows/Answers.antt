@@ -31,10 +31,10 @@ pub returns-then-all_expressions : goal.returns-then-all_expressions
 returns-then-all_expressions c =
     let x = (goal.at.returns-then-all_expressions c).Else-not-is_listable in
     rw (rules-as c.args.n (shape x) (allowed x)) (elim c.if-is_acyclic.branch
-        [ then-is_acyclic w ↦ grind (arith, tests) | else-is_acyclic w ↦ grind (arith, tests) ])
+    [ then-is_acyclic w ↦ grind (arith, tests) | else-is_acyclic w ↦ grind (arith, tests) ])
 
 pub returns-else-all_expressions : goal.returns-else-all_expressions
 returns-else-all_expressions c =
     let x = (goal.at.returns-else-all_expressions c).Else-not-is_listable in
     rw (rules-as c.args.n (shape x) (allowed x)) (elim c.if-is_acyclic.branch
-        [ then-is_acyclic w ↦ grind (arith, tests) | else-is_acyclic w ↦ grind (arith, tests) ])
+    [ then-is_acyclic w ↦ grind (arith, tests) | else-is_acyclic w ↦ grind (arith, tests) ])
