@@ -22,7 +22,8 @@ taken l o = ap₂ take o.number o.places ∙ take-append_seam l (replicate (most
 pub answer-is : (n : Network) → rules n ≡ true → (s : ℕ) {g t order : List ℕ} → Truths n.inputs [] (bit s) g → order ≡ listing (net_of n)
     → t ≡ settled_in (net_of n) order g → packed (map (some_within t) (net_of n).outputs) ≡ evaluate (net_of n) s
 answer-is n h s {g} w e q =
-    ap (λ (u : List ℕ). packed (map (some_within u) (net_of n).outputs)) (q ∙ ap (λ o. settled_in (net_of n) o g) e) ∙ outputs-value (net_of n) (rules-sound n h) s g w
+    ap (λ (u : List ℕ). packed (map (some_within u) (net_of n).outputs)) (q ∙ ap (λ o. settled_in (net_of n) o g) e)
+    ∙ outputs-value (net_of n) (rules-sound n h) s g w
 
 -- ---- what is answered
 

@@ -34,7 +34,9 @@ fn given(n: usize, setting: u64) -> Cube
 // The divisor of number v takes its value.
 fn step(n: &Network, v: usize, t: Cube) -> Cube
     requires { (n.now.outputs ≤ most_outputs) × (v < most_variables) }
-    ensures { lits result ≡ insert (signed v (some_within (lits t) (get_or (cut n.now.counts (cubes_of n.now.words)) (place_at n.now.inputs n.now.outputs v) []))) (lits t) }
+    ensures { lits result ≡ insert
+        (signed v (some_within (lits t) (get_or (cut n.now.counts (cubes_of n.now.words)) (place_at n.now.inputs n.now.outputs v) [])))
+        (lits t) }
 {
     let i = network::place_of(n.inputs, n.outputs, v);
     let b = network_known::within(network_nodes::node(&n.words, &n.counts, i), t, false);

@@ -15,7 +15,8 @@ use native.Mathlib.Numerals.{add-one}
 use lib.ListN.{length, take, drop, set, replicate, length-set, take-append-drop}
 use lib.Seq.{length-take-le, take-suc-set, drop-set-lt, drop-drop}
 use Rattle.sets.{specs.Literal.plain_of, specs.Sets.mem, specs.Sets.insert, proofs.Lists.◌∈◌}
-use Rattle.network.{specs.Net.Node, specs.Net.Net, specs.Held.most_variables, specs.Held.number_at, specs.Held.numbered, proofs.Listings.more-none, proofs.Listings.more-some}
+use Rattle.network.{specs.Net.Node, specs.Net.Net, proofs.Listings.more-none, proofs.Listings.more-some}
+use Rattle.network.specs.Held.{most_variables, number_at, numbered}
 use Rattle.network.specs.Listing.{next_ready, list_more, listing}
 use Rattle.network_known.specs.Known.{every_within, BothWays, signed}
 use Rattle.network_known.proofs.Knowing.{spans-listed}
@@ -40,14 +41,16 @@ module _ (k : List ℕ) (n : ℕ) where
       rw e (elim (decided (not (mem (plain_of (n + i)) k) && every_within k f)) [
         | inl t ↦ rw t (ap some (sym e))
         | inr t ↦ rw t (subst
-            (λ x. MatchOption (find passes (enumerate_from (i + 1) fs)) (next_in k (numbered x fs) ≡ none) (λ p. next_in k (numbered x fs) ≡ some (min (number_at n p.0) largest)))
+            (λ x. MatchOption (find passes (enumerate_from (i + 1) fs)) (next_in k (numbered x fs) ≡ none)
+            (λ p. next_in k (numbered x fs) ≡ some (min (number_at n p.0) largest)))
             q (next-from (i + 1) fs (omega arith)))
       ])
 
   module _ (fs : List (List (List ℕ))) (h : n + length fs ≤ largest) {r : Option (ℕ × List (List ℕ))} (e : r ≡ find passes (enumerate_from 0 fs)) where
     next-first : MatchOption r (next_in k (numbered n fs) ≡ none) (λ p. next_in k (numbered n fs) ≡ some (min (number_at n p.0) largest))
     next-first = rw e (subst
-        (λ x. MatchOption (find passes (enumerate_from 0 fs)) (next_in k (numbered x fs) ≡ none) (λ p. next_in k (numbered x fs) ≡ some (min (number_at n p.0) largest)))
+        (λ x. MatchOption (find passes (enumerate_from 0 fs)) (next_in k (numbered x fs) ≡ none)
+        (λ p. next_in k (numbered x fs) ≡ some (min (number_at n p.0) largest)))
         (add-zero n) (next-from 0 fs (omega arith)))
 
     pub next-none : r ≡ None → next_in k (numbered n fs) ≡ none

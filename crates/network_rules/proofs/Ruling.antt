@@ -42,7 +42,8 @@ module _ (n : Network) where
       few = (sized-out n s (both (sized n) _ h).0).counted
 
       -- with a listing the rest decides
-      pub rules-as : rules n ≡ (eqb (length (numbers_of n)) n.divisors && (all expression (nodes (net_of n)) && leb (capped (literal_count (net_of n))) most_literals))
+      pub rules-as : rules n ≡ (eqb (length (numbers_of n)) n.divisors
+          && (all expression (nodes (net_of n)) && leb (capped (literal_count (net_of n))) most_literals))
       unfolding rules ruled listable numbers_of
       rules-as =
           let p = both (sized n) (all (over (net_of n)) (nodes (net_of n))) h in

@@ -33,6 +33,7 @@ fn count(n: &Network) -> u64
 }
 
 // Whether every divisor is listed.
+#[tactic(auto, unfolding(network::specs::Answers::listed_of))]
 fn is_acyclic(n: Network) -> bool
     ensures { result ≡ eqb (length (numbers_of n)) n.divisors }
 {
@@ -50,6 +51,7 @@ fn follows(n: Network) -> bool
 }
 
 // Whether the network keeps the rules: 10 where it does not.
+#[tactic(auto, unfolding(network::specs::Answers::judged))]
 pub fn judge(n: Network) -> Verdict
     ensures { result ≡ judged n }
 {

@@ -31,4 +31,5 @@ pub collect-requires : goal.collect-requires
 collect-requires c = limited (goal.at.collect-requires c).After-listing-l
 
 pub returns : goal.returns
-returns c = c.collect.ensures ∙ answer-is c.args.n.now c.requires c.args.setting c.given.ensures (taken _ (listed (goal.at.returns c).After-listing-l)) c.settle-t.ensures
+returns c = c.collect.ensures ∙ answer-is c.args.n.now c.requires c.args.setting c.given.ensures
+    (taken _ (listed (goal.at.returns c).After-listing-l)) c.settle-t.ensures

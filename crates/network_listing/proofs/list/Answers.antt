@@ -22,7 +22,8 @@ same l = next-ready l.args.n.now.inputs _ _ l.loop-count.invariant.spans (held l
 range : (c : In-Some) → c.in-Some.v < most_variables
 range c =
     let n = c.args.n.now in
-    let x = next-some n.inputs (take c.loop-count.count c.loop-count.order) (net_of n).divisors c.in-Some.v (sym (same (goal.at.In-Some c).At-loop-count) ∙ c.in-Some.ensures) in
+    let x = next-some n.inputs (take c.loop-count.count c.loop-count.order) (net_of n).divisors c.in-Some.v
+    (sym (same (goal.at.In-Some c).At-loop-count) ∙ c.in-Some.ensures) in
     let r = divisor_range n.counts n.words n.inputs n.outputs n.divisors c.requires.counted c.in-Some.v (x.node, x.inside, x.number) in
     omega (arith, c.requires.variables)
 
@@ -32,7 +33,8 @@ loop-count-init c = turn-first _ _ _ (omega (arith, divisors-held c.args.n.now c
 pub returns-in_default : goal.returns-in_default
 returns-in_default c =
     let l = (goal.at.returns-in_default c).At-loop-count in
-    turn-none (held l) c.loop-count.order c.loop-count.count (lits c.loop-count.known) _ (omega (arith, c.requires.variables)) c.loop-count.invariant (sym (same l) ∙ c.in_default.ensures)
+    turn-none (held l) c.loop-count.order c.loop-count.count (lits c.loop-count.known) _ (omega (arith, c.requires.variables)) c.loop-count.invariant
+    (sym (same l) ∙ c.in_default.ensures)
 
 pub overflow_cast-order : goal.overflow_cast-order
 overflow_cast-order c = omega (arith, range (goal.at.overflow_cast-order c).In-Some)

@@ -23,7 +23,8 @@ found c =
     let n = c.args.n.now in
     find_from_yields_List (passes (lits c.args.known) n.inputs) c.find.new.self _ c.find.result c.find.ensures.ran
     (YieldsList-from_enumerate (YieldsList-at c.enumerate.ensures.source (YieldsList-from_take n.divisors
-    (YieldsList-at c.take.ensures.source (YieldsList-from_skip n.outputs (YieldsList-at c.skip.ensures.source (nodes-list c.each.ensures)) c.skip.ensures.count))
+    (YieldsList-at c.take.ensures.source (YieldsList-from_skip n.outputs
+    (YieldsList-at c.skip.ensures.source (nodes-list c.each.ensures)) c.skip.ensures.count))
     c.take.ensures.count)) c.enumerate.ensures.count)
     (λ x b q k. search (rules, tests))
     ∙ ap (λ fs. find (passes (lits c.args.known) n.inputs) (enumerate_from 0 fs)) (divisors-cut n.counts n.words n.outputs n.divisors)

@@ -30,9 +30,11 @@ count-requires c = small (goal.at.count-requires c).Else-not-is_listable
 pub returns-then-all_expressions : goal.returns-then-all_expressions
 returns-then-all_expressions c =
     let x = (goal.at.returns-then-all_expressions c).Else-not-is_listable in
-    rw (rules-as c.args.n (shape x) (allowed x)) (elim c.if-is_acyclic.branch [ then-is_acyclic w ↦ grind (arith, tests) | else-is_acyclic w ↦ grind (arith, tests) ])
+    rw (rules-as c.args.n (shape x) (allowed x)) (elim c.if-is_acyclic.branch
+    [ then-is_acyclic w ↦ grind (arith, tests) | else-is_acyclic w ↦ grind (arith, tests) ])
 
 pub returns-else-all_expressions : goal.returns-else-all_expressions
 returns-else-all_expressions c =
     let x = (goal.at.returns-else-all_expressions c).Else-not-is_listable in
-    rw (rules-as c.args.n (shape x) (allowed x)) (elim c.if-is_acyclic.branch [ then-is_acyclic w ↦ grind (arith, tests) | else-is_acyclic w ↦ grind (arith, tests) ])
+    rw (rules-as c.args.n (shape x) (allowed x)) (elim c.if-is_acyclic.branch
+    [ then-is_acyclic w ↦ grind (arith, tests) | else-is_acyclic w ↦ grind (arith, tests) ])
