@@ -2,8 +2,7 @@
 use Prim.Native.Nat.{ℕ, zero, suc, ◌+◌, ◌<◌, ◌≤◌}
 use mathlib.Core.Path.{◌≡◌, refl, sym, ap, ap₂, ◌∙◌}
 use mathlib.Core.Bool.{Bool, true, false, cond}
-use mathlib.Core.List.Memᴰ.{head as here}
-use mathlib.Core.List.Memᴰ.{tail as there}
+use mathlib.Core.List.{Memᴰ.head as here, Memᴰ.tail as there}
 use mathlib.Core.List.{List, [], ◌∷◌, map}
 use native.Mathlib.Omega.{arith}
 use lib.Dec.{ltb}
@@ -16,11 +15,10 @@ use Rattle.sets.proofs.Lists.{◌∈◌, keep-keep, total-cong, total-sum, total
 use Rattle.expression.specs.{Words.cubes_of, Expression.sort, Expression.absorbed}
 use Rattle.table_rows.specs.Lines.{CubeLine, rows_in, cube_of}
 use Rattle.std.specs.Prelude.{unwrap_or}
-use Rattle.table.proofs.Standing.{held-zero}
+use Rattle.table.{proofs.Standing.held-zero, specs.Meaning.Complete, specs.declared.State.State}
 use Rattle.table_columns.specs.Columns.{or_zero}
 use Rattle.table.specs.Table as table
 use Rattle.table.specs.Table.{most_rows, cubes_for, output_for, table_net}
-use Rattle.table.specs.{Meaning.Complete, declared.State.State}
 use Rattle.table.specs.Parts.{picked, pick, marked, Stands, formed, Buildable, net_from}
 
 -- the line has a `1` at output j
@@ -125,7 +123,8 @@ kept-buildable {t} {n} {m} {s} {words} {marks} c h p q =
         c.rows,
         rows-exchange m t.lines (λ l i. (c.shaped l i).marks),
         ap (λ (z : ℕ). total (λ j. length (cubes_for j t.lines)) (from 0 z)) e,
-        total-cong (λ j. length (pick j words marks s.kept)) (λ j. length (cubes_for j t.lines)) (from 0 (unwrap_or s.outputs 0)) (λ j i. ap length (pick-cubes h j)),
+        total-cong (λ j. length (pick j words marks s.kept)) (λ j. length (cubes_for j t.lines)) (from 0 (unwrap_or s.outputs 0))
+            (λ j i. ap length (pick-cubes h j)),
       );
     }
 
@@ -150,6 +149,7 @@ module _ {words marks : List ℕ} {k m : ℕ} (b : Buildable words marks k m) wh
     few = omega (
       arith,
       b.few,
-      total-cong (λ j. length (pick j words (take k marks) (length (take k marks)))) (λ j. length (pick j words marks k)) (from 0 m) (λ j i. ap length (pick-cut j)),
+      total-cong (λ j. length (pick j words (take k marks) (length (take k marks)))) (λ j. length (pick j words marks k)) (from 0 m)
+          (λ j i. ap length (pick-cut j)),
     );
   }
