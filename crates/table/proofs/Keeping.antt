@@ -21,9 +21,8 @@ use Rattle.table_columns.specs.Columns.{or_zero}
 use Rattle.table.specs.Table.{most_rows, State, cubes_for, output_for, table_net, accepted, read_text}
 use Rattle.table.specs.Written.{inputs_of, outputs_of, cube_lines_of, some_covers}
 use Rattle.table.specs.{Answers.Told, Meaning.Complete, Meaning.Says, declared.Answer.TheVariants.Read}
-use Rattle.table.specs.declared.Table.{Table}
+use Rattle.table.{specs.declared.Table.Table, proofs.Telling.told-accepted}
 use Rattle.table.proofs.{Marking.rows-exchange, Refusals.accepted-complete, Writing.read-lines}
-use Rattle.table.proofs.Telling.{told-accepted}
 use Rattle.table.proofs.Outputs.{output-reads, output-literals, outputs-are, outputs-ordered, outputs-rows}
 
 module _ {s : State} {n m : ℕ} (c : Complete s n m) where

@@ -2,12 +2,12 @@
 use Prim.Native.Nat.{ℕ, zero, suc, ◌+◌, ◌<◌, ◌≤◌}
 use mathlib.Core.Path.{◌≡◌, refl, sym, ap, ap₂, ◌∙◌}
 use mathlib.Core.Bool.{Bool, true, false, cond}
-use mathlib.Core.List.Memᴰ.{head as here}
-use mathlib.Core.List.Memᴰ.{tail as there}
+use mathlib.Core.List.{Memᴰ.head as here, Memᴰ.tail as there}
 use mathlib.Core.List.{List, [], ◌∷◌, map}
 use native.Mathlib.Omega.{arith}
 use lib.Dec.{ltb}
-use lib.ListN.{length, get_or}
+use lib.ListN.{length, get_or, take}
+use lib.Seq.{length-take-le, take_all}
 use borrow.Author.Tests.{lt-ltb, ltb-true}
 use Rattle.sets.specs.Lists.{keep, total, from}
 use Rattle.sets.{specs.Masks.bit, specs.Masks.packed, proofs.Truth.clash, proofs.Packing.packed-bit}
@@ -15,11 +15,10 @@ use Rattle.sets.proofs.Lists.{◌∈◌, keep-keep, total-cong, total-sum, total
 use Rattle.expression.specs.{Words.cubes_of, Expression.sort, Expression.absorbed}
 use Rattle.table_rows.specs.Lines.{CubeLine, rows_in, cube_of}
 use Rattle.std.specs.Prelude.{unwrap_or}
-use Rattle.table.proofs.Standing.{held-zero}
+use Rattle.table.{proofs.Standing.held-zero, specs.Meaning.Complete, specs.declared.State.State}
 use Rattle.table_columns.specs.Columns.{or_zero}
 use Rattle.table.specs.Table as table
 use Rattle.table.specs.Table.{most_rows, cubes_for, output_for, table_net}
-use Rattle.table.specs.{Meaning.Complete, declared.State.State}
 use Rattle.table.specs.Parts.{picked, pick, marked, Stands, formed, Buildable, net_from}
 
 -- the line has a `1` at output j
@@ -124,6 +123,33 @@ kept-buildable {t} {n} {m} {s} {words} {marks} c h p q =
         c.rows,
         rows-exchange m t.lines (λ l i. (c.shaped l i).marks),
         ap (λ (z : ℕ). total (λ j. length (cubes_for j t.lines)) (from 0 z)) e,
-        total-cong (λ j. length (pick j words marks s.kept)) (λ j. length (cubes_for j t.lines)) (from 0 (unwrap_or s.outputs 0)) (λ j i. ap length (pick-cubes h j)),
+        total-cong (λ j. length (pick j words marks s.kept)) (λ j. length (cubes_for j t.lines)) (from 0 (unwrap_or s.outputs 0))
+            (λ j i. ap length (pick-cubes h j)),
       );
     }
+
+-- ---- the marks, no more than those kept
+
+module _ {words marks : List ℕ} {k m : ℕ} (b : Buildable words marks k m) where
+  cut : length (take k marks) ≡ k
+  cut = length-take-le k marks b.source.masks
+
+  pick-cut : (j : ℕ) → pick j words (take k marks) (length (take k marks)) ≡ pick j words marks k
+  pick-cut j = rw cut (ap (picked j (take k (cubes_of words))) (take_all k (take k marks) (omega (arith, cut))))
+
+  pub net-cut : (n : ℕ) → net_from n m words (take k marks) (length (take k marks)) ≡ net_from n m words marks k
+  net-cut n = ap (λ (f : List (List (List ℕ))). record { inputs = n; outputs = f; divisors = [] })
+      (map-cong (formed words (take k marks) (length (take k marks))) (formed words marks k) (from 0 m)
+      (λ j i. ap (λ (f : List (List ℕ)). sort (absorbed f)) (pick-cut j)))
+
+  pub cut-buildable : Buildable words (take k marks) (length (take k marks)) m
+  cut-buildable = record {
+    source = record { cubes = omega (arith, cut, b.source.cubes); masks = omega arith };
+    outputs = b.outputs;
+    few = omega (
+      arith,
+      b.few,
+      total-cong (λ j. length (pick j words (take k marks) (length (take k marks)))) (λ j. length (pick j words marks k)) (from 0 m)
+          (λ j i. ap length (pick-cut j)),
+    );
+  }

@@ -18,8 +18,7 @@ use Rattle.table_columns.specs.{Columns.or_zero, Meaning.Fault, Meaning.soon, Me
 use Rattle.table.specs.Table.{State, column_at, most_rows}
 use Rattle.table.specs.Meaning.{Bounded, Points, fault, misplaced, digit, point, row}
 use Rattle.table.specs.Meaning.{Refuses, late_inputs, late_outputs, late_products, early_end, early_cube, no_kind, out_inputs, out_outputs, out_products}
-use Rattle.table.specs.Meaning.{differs, over}
-use Rattle.table.proofs.Standing.{or-zero-same}
+use Rattle.table.{specs.Meaning.differs, specs.Meaning.over, proofs.Standing.or-zero-same}
 use Rattle.table_columns.proofs.{Faults.fault-iff, Faults.first-iff, Pointing.digit-iff, Pointing.row-iff}
 
 -- ---- the line of a number names it by its letter

@@ -17,9 +17,8 @@ use Rattle.table.specs.Table.{State, start, Turn, next, done, refuse, missing, r
 use Rattle.table.specs.Table.{column_at, read_lines, read_text, most_bytes}
 use Rattle.table.specs.Meaning.{within, Bounded, is_line, Complete, Goes, Closes, Does, going, closing, refusing, Comes}
 use Rattle.table.specs.Meaning.{Reads, nothing, line, Ended, whole, stopped, short}
-use Rattle.table.specs.declared.Refusal.{Refusal}
+use Rattle.table.{specs.declared.Refusal.Refusal, proofs.Pointing.points-iff, proofs.Pointing.points-from}
 use Rattle.table.proofs.Going.{start-bounded, goes-bounded, read-bounded}
-use Rattle.table.proofs.{Pointing.points-iff, Pointing.points-from}
 use Rattle.table.proofs.Reasons.{line_does, next-iff, done-iff, refuse-iff, refuses-line}
 
 none-one : is_line 1 ≡ false

@@ -7,9 +7,7 @@ use native.Mathlib.Numerals.{add-one}
 use native.Mathlib.Omega.{arith}
 use lib.Dec.{eqb}
 use lib.ListN.{length, drop, get_or, drop_of_length-le}
-use Rattle.std.proofs.lemmas.List.Splits.{length-slice_split}
-use Rattle.std.proofs.lemmas.List.Sums.{count_by-le-length}
-use Rattle.std.specs.Prelude.{None}
+use Rattle.std.{proofs.lemmas.List.Splits.length-slice_split, proofs.lemmas.List.Sums.count_by-le-length, specs.Prelude.None}
 use Rattle.sets.proofs.Places.{drop-next}
 use Rattle.expression.specs.Words.{cubes_of}
 use Rattle.network.specs.Handed.{AllZero}
@@ -58,7 +56,8 @@ pub record Reading (text words marks : List ℕ) (s : State) (k : ℕ) : Type 0 
   pub few : length now.lines ≤ k
   pub left : read_lines (suc k) (drop k (lines_of text)) now ≡ read_lines 1 (lines_of text) start
 
-pub reading-first : (text words marks : List ℕ) → Reading text words marks (record { inputs = None; outputs = None; stated = None; lines = 0; rows = 0; kept = 0 }) 0
+pub reading-first : (text words marks : List ℕ) → Reading text words marks
+    (record { inputs = None; outputs = None; stated = None; lines = 0; rows = 0; kept = 0 }) 0
 reading-first text words marks = record {
   now = start;
   good = start-bounded;

@@ -64,5 +64,6 @@ module _ {t : table.State} {s : State} {words marks : List ℕ} (g : Bounded t) 
   pub column-same : (l : List ℕ) (k : ℕ) → column_by s l k ≡ column_at t l k
   column-same l k =
       let a : unless_zero (unwrap_or s.inputs 0) ≡ t.wide = ap unless_zero (held-zero s.inputs ∙ ap or_zero h.wide) ∙ or-zero-same most_inputs t.wide g.wide in
-      let b : unless_zero (unwrap_or s.outputs 0) ≡ t.tall = ap unless_zero (held-zero s.outputs ∙ ap or_zero h.tall) ∙ or-zero-same most_outputs t.tall g.tall in
+      let b : unless_zero (unwrap_or s.outputs 0) ≡ t.tall =
+      ap unless_zero (held-zero s.outputs ∙ ap or_zero h.tall) ∙ or-zero-same most_outputs t.tall g.tall in
       cc h.rows

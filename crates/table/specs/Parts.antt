@@ -1,5 +1,5 @@
 -- What the private parts of reading and building hold and leave.
-use Rattle.std.specs.Prelude.{ℕ, ◌+◌, ◌-◌, ◌<◌, ◌≤◌, ltb, eqb, List, [], ◌∷◌, map, length, take, drop, replicate, Some, None, unwrap_or}
+use Rattle.std.specs.Prelude.{ℕ, ◌+◌, ◌-◌, ◌<◌, ◌≤◌, ltb, List, [], ◌∷◌, map, length, take, drop, replicate, Some, None, unwrap_or}
 use Rattle.std.specs.Prelude as std
 use Rattle.std.proofs.Math.Option.{Option, none, some}
 use mathlib.Core.{Path.◌≡◌, Bool.Bool, Bool.cond}

@@ -282,14 +282,14 @@ fn is_marked(mask: u64, j: usize) -> bool
     (mask >> j) & 1 == 1
 }
 
-// The kept cubes of output j are put from place `at` on; the place after them is returned.
-fn collect(words: &[u64], marks: &[u64], kept: usize, j: usize, out: &mut [u64], at: usize) -> usize
-    requires { Room words.now marks.now kept j at out.old }
-    ensures { Appends out.old out.new at (pick j words.now marks.now kept) result }
+// The cubes of output j, of those that the marks are of, are put from place `at` on; the place after them is returned.
+fn collect(words: &[u64], marks: &[u64], j: usize, out: &mut [u64], at: usize) -> usize
+    requires { Room words.now marks.now (length marks.now) j at out.old }
+    ensures { Appends out.old out.new at (pick j words.now marks.now (length marks.now)) result }
 {
     let mut to = at;
-    for i in 0..kept {
-        if is_marked(marks[i], j) {
+    for (i, mask) in marks.iter().enumerate() {
+        if is_marked(*mask, j) {
             expression::put_cube(out, to, expression::cube_at(words, i));
             to += 1;
         }
@@ -298,34 +298,28 @@ fn collect(words: &[u64], marks: &[u64], kept: usize, j: usize, out: &mut [u64],
 }
 
 // Output j's expression is put from place `at` on: cubes dropped, the rest in cube order; the place after it is returned.
-fn fill_output(
-    words: &[u64],
-    marks: &[u64],
-    kept: usize,
-    j: usize,
-    out: &mut [u64],
-    at: usize,
-) -> usize
-    requires { Room words.now marks.now kept j at out.old }
-    ensures { Appends out.old out.new at (formed words.now marks.now kept j) result }
+fn fill_output(words: &[u64], marks: &[u64], j: usize, out: &mut [u64], at: usize) -> usize
+    requires { Room words.now marks.now (length marks.now) j at out.old }
+    ensures { Appends out.old out.new at (formed words.now marks.now (length marks.now) j) result }
 {
-    let e = collect(words, marks, kept, j, out, at);
+    let e = collect(words, marks, j, out, at);
     let to = at + expression_absorb::absorb_part(out, at, e);
     expression_sort::sort_part(out, at, to);
     expression::clear(out, to, e);
     to
 }
 
-// The network of the kept cubes.
-fn build(inputs: usize, outputs: usize, words: &[u64], marks: &[u64], kept: usize) -> Network
-    requires { Buildable words.now marks.now kept outputs }
-    ensures { Holds result (net_from inputs outputs words.now marks.now kept) }
+// The network of the kept cubes, one for each of the marks.
+fn build(inputs: usize, outputs: usize, words: &[u64], marks: &[u64]) -> Network
+    requires { Buildable words.now marks.now (length marks.now) outputs }
+    ensures { Holds result (net_from inputs outputs words.now marks.now (length marks.now)) }
 {
     let mut counts = [0usize; network::NODE_SLOTS];
     let mut out = [0u64; network::WORD_SLOTS];
     let mut at = 0;
+    // By index: the counts are written beside the numbers of the outputs.
     for j in 0..outputs {
-        let to = fill_output(words, marks, kept, j, &mut out, at);
+        let to = fill_output(words, marks, j, &mut out, at);
         counts[j] = to - at;
         at = to;
     }
@@ -367,6 +361,6 @@ pub fn read(text: &[u8]) -> Table
     let m = s.outputs.unwrap_or(0);
     Table {
         answer,
-        network: build(n, m, &words, &marks, s.kept),
+        network: build(n, m, &words, &marks[..s.kept]),
     }
 }

@@ -18,7 +18,7 @@ use Rattle.table_lines.proofs.{Ends.front-le, Spans.span-inside, Spans.span-cont
 use Rattle.table_kinds.specs.{Kinds.kind_of, declared.Kind.Kind}
 use Rattle.table_kinds.specs.declared.Kind.TheVariants.{Empty, Inputs, Outputs, Products, End, Other}
 use Rattle.table_columns.specs.Forms as good
-use Rattle.table_columns.specs.Forms.{front, limit, reach, cube_form, cube_forms, forms, farthest}
+use Rattle.table_columns.specs.Forms.{front, limit, reach, cube_forms, forms, farthest}
 use Rattle.table_columns.specs.Columns.{unless_zero, or_zero, digit_place, one_place, row_place, kind_place, place_in, place_of}
 
 -- ---- bytes at the front

@@ -17,9 +17,8 @@ use Rattle.table_kinds.specs.Meaning.{Names, Spelled, bare, dot_i, dot_o, dot_p,
 use Rattle.table_kinds.specs.declared.Kind.TheVariants.{Empty, Inputs, Outputs, Products, End}
 use Rattle.table_rows.specs.{Lines.is_mark, Lines.CubeLine, Meaning.Writes}
 use Rattle.table_columns.specs.Forms.{Part, exactly, between, or_more, reach, blanks, number_form, cube_form, cube_forms, forms}
-use Rattle.table_columns.specs.Forms.{farthest}
+use Rattle.table_columns.{specs.Forms.farthest, proofs.Counting.max_of}
 use Rattle.table_columns.specs.{Columns.unless_zero, Meaning.Kinded, Meaning.spelled, Meaning.cube}
-use Rattle.table_columns.proofs.Counting.{max_of}
 use Rattle.table_columns.proofs.Bytes.{high, digit-high, mark-high, high-solid}
 use Rattle.table_columns.proofs.Reaching.{Takes, Sound, Fits, Clear, reach-begins, reach-most}
 

@@ -12,8 +12,7 @@ use Rattle.sets.proofs.{Truth.clash, Truth.below, Truth.equal, Truth.beyond, Tru
 use Rattle.table_lines.specs.Text.{is_blank, uncommented, trim_front, content, content_span}
 use Rattle.table_lines.proofs.{Blanks.trimmed, Spans.commented, Spans.span-inside, Spans.span-content}
 use Rattle.table_columns.specs.Columns.{place_in, place_of, column_of}
-use Rattle.table_columns.specs.Meaning.{FirstOf}
-use Rattle.table_columns.proofs.{Counting.place_inside, Bytes.none-blank}
+use Rattle.table_columns.{specs.Meaning.FirstOf, proofs.Counting.place_inside, proofs.Bytes.none-blank}
 
 -- where what is left of a line starts
 abbrev pub start : List ℕ → ℕ

@@ -3,9 +3,8 @@ use Rattle.std.specs.Prelude.{ℕ, Bool, cond, ◌||◌, List, [], ◌∷◌, eq
 use Rattle.std.specs.Prelude as std
 use Rattle.std.proofs.Math.Option.{Option, none, some}
 use Rattle.sets.specs.Sets.{same}
-use Rattle.table_kinds.specs.declared.Kind.{Kind}
+use Rattle.table_kinds.specs.{declared.Kind.Kind, Kinds.with_number}
 use Rattle.table_kinds.specs.declared.Kind.TheVariants.{Inputs, Outputs, Products, Other}
-use Rattle.table_kinds.specs.Kinds.{with_number}
 
 -- the number that is read, where one is
 abbrev pub number_in : std.Option ℕ → Option ℕ

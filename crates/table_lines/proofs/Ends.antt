@@ -10,11 +10,8 @@ use lib.Seq.{take_all}
 use Rattle.sets.{specs.Lists.is_nil}
 use Rattle.table_lines.specs.Text.{is_blank, line_of, uncommented, trim_front, trim_end}
 use Rattle.std.specs.List.{prefix_len, suffix_len, position_or_len, before_first}
-use Rattle.std.proofs.lemmas.List.Folds.{length-prefix_len}
-use Rattle.std.proofs.lemmas.Grind.{reverse_onto}
-use Rattle.std.proofs.lemmas.List.{reverse-reverse, length-reverse}
-use Rattle.std.proofs.lemmas.List.Sums.{take_while-cons}
-use Rattle.std.proofs.Common.{reverse, length-append}
+use Rattle.std.proofs.lemmas.{List.Folds.length-prefix_len, Grind.reverse_onto, List.reverse-reverse, List.length-reverse}
+use Rattle.std.proofs.{lemmas.List.Sums.take_while-cons, Common.reverse, Common.length-append}
 
 -- what is left from a place on
 pub rest-whole : (a : ℕ) (l : List ℕ) → take (length l - a) (drop a l) ≡ drop a l
@@ -59,7 +56,8 @@ front_is (b ∷ l) = go (is_blank b) (front_is l)
 pub front-le : (l : List ℕ) → length (trim_front l) ≤ length l
 unfolding trim_front
 front-le [] = omega arith
-front-le (b ∷ l) = elim (is_blank b) as (λ e. length (cond e (trim_front l) (b ∷ l)) ≤ suc (length l)) [ true ↦ omega (arith, front-le l) | false ↦ omega arith ]
+front-le (b ∷ l) = elim (is_blank b) as (λ e. length (cond e (trim_front l) (b ∷ l)) ≤ suc (length l))
+    [ true ↦ omega (arith, front-le l) | false ↦ omega arith ]
 
 -- ---- without the blanks at the end
 

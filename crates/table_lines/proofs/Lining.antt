@@ -7,8 +7,7 @@ use native.Mathlib.Omega.{arith}
 use lib.Dec.{eqb}
 use lib.ListN.{length, take, drop, length-drop}
 use lib.Seq.{drop-drop}
-use Rattle.std.proofs.lemmas.List.Sums.{prefix_len-le-length}
-use Rattle.std.specs.List.{slice_split, onto_first}
+use Rattle.std.{proofs.lemmas.List.Sums.prefix_len-le-length, specs.List.slice_split, specs.List.onto_first}
 use Rattle.table_lines.specs.Text.{line_of, onto, lines_of}
 use Rattle.table_lines.proofs.Ends.{line-upto, line-length}
 

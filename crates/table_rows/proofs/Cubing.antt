@@ -17,9 +17,7 @@ use Rattle.sets.{specs.Lists.all, specs.Sets.insert, specs.Masks.packed, proofs.
 use Rattle.sets.proofs.Truth.{both, Stand, below, equal, beyond, compared}
 use Rattle.sets.proofs.Lists.{all_in, all-out}
 use Rattle.cube.specs.Cube.{width, joined}
-use Rattle.table_rows.specs.Lines.{most_places, cube_from}
-use Rattle.table_rows.specs.Parts.{placed}
-use Rattle.table_rows.proofs.Covering.{from-bounds}
+use Rattle.table_rows.{specs.Lines.most_places, specs.Lines.cube_from, specs.Parts.placed, proofs.Covering.from-bounds}
 
 -- ---- one literal more
 

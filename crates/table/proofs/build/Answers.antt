@@ -4,8 +4,7 @@ use native.Mathlib.Omega.{arith}
 use lib.ListN.{length-replicate}
 use Rattle.sets.specs.Lists.{from}
 use Rattle.expression.proofs.Words.{room-cubes}
-use Rattle.network.specs.Handed.{cube_slots, word_slots}
-use Rattle.network.proofs.Laying.{laid_none}
+use Rattle.network.{specs.Handed.cube_slots, specs.Handed.word_slots, proofs.Laying.laid_none}
 use Rattle.table.proofs.Building.{laid-room, laid-output, laid-outputs}
 use borrow.Author.Rules.{rules}
 use Rattle.table.proofs.build.Goals as goal

@@ -8,4 +8,4 @@ use Rattle.table.proofs.build.Given as goal
 
 abbrev pub invariant-loop-j : goal.invariant-loop-j
 invariant-loop-j l =
-    (length l.out ≡ word_slots) × LaidNodes l.out l.counts l.at (map (formed l.words l.marks l.kept) (from 0 l.j))
+    (length l.out ≡ word_slots) × LaidNodes l.out l.counts l.at (map (formed l.words l.marks (length l.marks)) (from 0 l.j))

@@ -2,6 +2,7 @@
 use mathlib.Core.Path.{◌≡◌, refl, sym, ◌∙◌, subst}
 use Prim.Native.Nat.{ℕ}
 use native.Mathlib.Omega.{arith}
+use lib.ListN.{length}
 use Rattle.expression.{specs.Words.Appends, proofs.Words.spare-length}
 use Rattle.table.specs.Parts.{pick}
 use Rattle.table.proofs.Picking.{pick-none, pick-skip, pick_put, pick-room}
@@ -33,5 +34,5 @@ loop-i-preserved c =
 pub returns : goal.returns
 returns c =
     let a = c.args in
-    let e : c.loop-i.i ≡ a.kept = omega arith in
+    let e : c.loop-i.i ≡ length a.marks.now = omega arith in
     subst (λ (k : ℕ). Appends a.out.now c.loop-i.out a.at (pick a.j a.words.now a.marks.now k) c.loop-i.to) e c.loop-i.invariant.0

@@ -1,8 +1,7 @@
 -- The answers of `table::scan`.
 use Rattle.std.proofs.Common.{◌≡◌, ◌∙◌, ◌+◌, ◌<◌, ◌≤◌, ◌-◌, ℕ, List, refl, take, drop, sym, ap, subst, arith, eqb, length, get_or, rules, tests}
-use Rattle.std.proofs.lemmas.Iterator.Splits.{YieldsList-from_slice_split}
+use Rattle.std.proofs.lemmas.{Iterator.Splits.YieldsList-from_slice_split, List.length_push}
 use Rattle.std.proofs.lemmas.Iterator.Consumers.{YieldsList-from_enumerate, YieldsList-turn, YieldsList-end}
-use Rattle.std.proofs.lemmas.List.{length_push}
 use Rattle.std.proofs.lemmas.List.FromFn.{get_or-enumerate_from, length-enumerate_from}
 use Rattle.std.specs.List.{slice_split}
 use Rattle.expression.proofs.Words.{same-room}
@@ -15,9 +14,9 @@ use Rattle.table.proofs.scan.Goals as goal
 use Rattle.table.proofs.scan.Goals.{In-Some, After-content_of-span}
 
 -- the line of a turn is the next of the lines, and its number is how many came before it
-turn : (c : In-Some) → let k = length c.loop-i.yielded in let ls = lines_of c.args.text.now in
+next_line : (c : In-Some) → let k = length c.loop-i.yielded in let ls = lines_of c.args.text.now in
     (k < length ls) × (c.in-Some.i ≡ k) × (c.in-Some.l.now ≡ get_or ls k c.in-Some.l.now)
-turn c =
+next_line c =
     let p = slice_split (λ b. eqb b 10) c.args.text.now in
     let k = length c.loop-i.yielded in
     let l = c.in-Some.l.now in
@@ -50,25 +49,27 @@ slice_bounds-take_line-end c = (within (goal.at.slice_bounds-take_line-end c).Af
 
 pub take_line-turn-requires : goal.take_line-turn-requires
 take_line-turn-requires c =
-    let t = turn (goal.at.take_line-turn-requires c).In-Some in
+    let t = next_line (goal.at.take_line-turn-requires c).In-Some in
     reading-roomy c.loop-i.invariant.2 (omega (arith, t.0, lines-few c.args.text.now, c.requires.short))
     (same-room c.loop-i.words c.args.words.now c.loop-i.invariant.0 ∙ c.requires.places) (c.loop-i.invariant.1 ∙ c.requires.masks)
 
 pub returns-in_default : goal.returns-in_default
 returns-in_default c =
     let w = goal.at.returns-in_default c in
-    let t = turn w.In-Some in
+    let t = next_line w.In-Some in
     subst (λ (x : Scanned). Scans (read_lines 1 (lines_of c.args.text.now) table.start) x c.take_line-turn.new.words c.take_line-turn.new.marks)
     (sym (c.stopped.ensures ∙ ap (λ (n : ℕ). stopped_at c.take_line-turn.result c.in-Some.l.now (n + 1) c.loop-i.s) t.1))
-    (reading-stop c.loop-i.invariant.2 _ _ c.take_line-turn.result t.0 t.2 (left w.After-content_of-span) c.take_line-turn.ensures (λ s. c.in_default.not-Next s))
+    (reading-stop c.loop-i.invariant.2 _ _ c.take_line-turn.result t.0 t.2 (left w.After-content_of-span) c.take_line-turn.ensures
+    (λ s. c.in_default.not-Next s))
 
 pub loop-i-preserved : goal.loop-i-preserved
 loop-i-preserved c =
     let w = goal.at.loop-i-preserved c in
-    let t = turn w.In-Some in (
+    let t = next_line w.In-Some in (
       search rules,
       search rules,
-      rw (length_push c.loop-i.yielded (c.in-Some.i, c.in-Some.l)) (reading-next c.loop-i.invariant.2 _ _ c.take_line-turn.result t.0 t.2 (left w.After-content_of-span) c.take_line-turn.ensures _ c.in-Next.is),
+      rw (length_push c.loop-i.yielded (c.in-Some.i, c.in-Some.l))
+          (reading-next c.loop-i.invariant.2 _ _ c.take_line-turn.result t.0 t.2 (left w.After-content_of-span) c.take_line-turn.ensures _ c.in-Next.is),
     )
 
 pub returns : goal.returns

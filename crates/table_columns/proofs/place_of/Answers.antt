@@ -3,8 +3,7 @@ use Prim.Native.Nat.{◌+◌, ◌-◌, ◌≤◌}
 use mathlib.Core.Path.{◌≡◌}
 use native.Mathlib.Omega.{arith}
 use lib.ListN.{length}
-use Rattle.table_columns.specs.Columns.{unless_zero, place_of}
-use Rattle.table_columns.proofs.{Counting.span-within, Counting.place_found}
+use Rattle.table_columns.{specs.Columns.unless_zero, specs.Columns.place_of, proofs.Counting.span-within, proofs.Counting.place_found}
 use Rattle.table_columns.proofs.place_of.Goals as goal
 use Rattle.table_columns.proofs.place_of.Goals.{After-content_of-span, After-place_in-p}
 

@@ -4,12 +4,11 @@ use lib.ListN.{length-map, length-drop, get_or-map, drop_of_length-le}
 use Rattle.std.specs.List.{prefix_len}
 use Rattle.sets.proofs.Places.{drop-next}
 use Rattle.table_lines.proofs.Ends.{rest-whole}
-use Rattle.table_columns.specs.declared.{Part.Part, Sort.TheVariants.Blank}
+use Rattle.table_columns.{specs.declared.Part.Part, specs.declared.Sort.TheVariants.Blank, proofs.reach.Goals.After-front-k}
 use Rattle.table_columns.specs.Forms as good
 use Rattle.table_columns.specs.{Forms.front, Forms.limit, Forms.reach, Parts.most_of, Parts.part_of}
 use Rattle.table_columns.proofs.Counting.{front_is, reach-stop, reach-on, reach-inside, reach-done}
 use Rattle.table_columns.proofs.reach.Goals as goal
-use Rattle.table_columns.proofs.reach.Goals.{After-front-k}
 
 abbrev no_part : Part
 no_part = record { sort = Blank; least = 0; most = None }

@@ -2,9 +2,8 @@
 use Rattle.std.proofs.Common.{◌≡◌, ◌∙◌, ◌≤◌, sym, ap, arith, length, drop}
 use lib.ListN.{length-drop}
 use Rattle.table_lines.{specs.Text.trim_front, proofs.Ends.rest-whole, proofs.Ends.front-le}
-use Rattle.table_columns.proofs.{Counting.one-bound, Counting.row-short}
+use Rattle.table_columns.{proofs.Counting.one-bound, proofs.Counting.row-short, proofs.row_place.Goals.After-trim_front-o}
 use Rattle.table_columns.proofs.row_place.Goals as goal
-use Rattle.table_columns.proofs.row_place.Goals.{After-trim_front-o}
 
 pub returns-in_default : goal.returns-in_default
 returns-in_default c = let a = c.args in sym (row-short a.n a.k a.c.now (omega (arith, c.in_default.ensures.lookup)))

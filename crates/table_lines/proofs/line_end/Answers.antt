@@ -1,15 +1,13 @@
 -- `table_lines::line_end` meets its contract: the end of a line is its first LF. Assumes nothing.
 use Rattle.std.proofs.Common.{◌≡◌, ◌∙◌, ◌+◌, ℕ, [], sym, ap, arith, eqb, drop}
-use Rattle.std.proofs.Math.ListN.{drop_of_length-le}
-use Rattle.std.proofs.lemmas.List.Sums.{prefix_len-le-length}
-use Rattle.std.specs.List.{position_or_len}
-use Rattle.table_lines.specs.Text.{line_of}
-use Rattle.table_lines.proofs.Ends.{rest-whole, line-length}
+use Rattle.std.{proofs.Math.ListN.drop_of_length-le, proofs.lemmas.List.Sums.prefix_len-le-length, specs.List.position_or_len}
+use Rattle.table_lines.{specs.Text.line_of, proofs.Ends.rest-whole, proofs.Ends.line-length}
 use Rattle.table_lines.proofs.line_end.Goals as goal
 
 pub returns-in_default : goal.returns-in_default
 unfolding line_of
-returns-in_default c = let d : drop c.args.at c.args.t.now ≡ [] = drop_of_length-le c.args.t.now (omega (arith, c.in_default.ensures.lookup)) in rw d (omega arith)
+returns-in_default c = let d : drop c.args.at c.args.t.now ≡ [] = drop_of_length-le c.args.t.now (omega (arith, c.in_default.ensures.lookup)) in
+    rw d (omega arith)
 
 pub overflow_add-result : goal.overflow_add-result
 overflow_add-result c = record { fits = omega (arith, c.in-Some.ensures.lookup, c.find.ensures, prefix_len-le-length {X = ℕ}) }

@@ -1,13 +1,10 @@
 -- The answers of `table_names::name_of`.
 use Rattle.std.proofs.Common.{◌≡◌, ◌∙◌, ◌+◌, ◌<◌, ◌≤◌, ℕ, List, [], ◌∷◌, sym, ap, arith, eqb, length, get_or, drop, rules, tests}
-use Rattle.std.proofs.lemmas.Iterator.Splits.{YieldsList-from_slice_split}
-use Rattle.std.proofs.lemmas.Iterator.Consumers.{YieldsList-turn, YieldsList-end}
-use Rattle.std.proofs.lemmas.List.{length_push}
-use Rattle.std.proofs.lemmas.Bool.Decides.{nat_tests}
+use Rattle.std.proofs.lemmas.Iterator.{Splits.YieldsList-from_slice_split, Consumers.YieldsList-turn, Consumers.YieldsList-end}
+use Rattle.std.proofs.lemmas.{List.length_push, Bool.Decides.nat_tests}
 use lib.ListN.{drop_of_length-le}
 use Rattle.sets.proofs.Places.{drop-next}
-use Rattle.table_lines.specs.Text.{lines_of}
-use Rattle.table_lines.proofs.Lining.{lines-split}
+use Rattle.table_lines.{specs.Text.lines_of, proofs.Lining.lines-split}
 use Rattle.table_names.specs.Names.{named, first_name, name_of}
 use Rattle.table_names.proofs.Naming.{no_bytes, name-found, name-closed, name-later, name-few, name-many}
 use Rattle.table_names.proofs.name_of.Goals as goal

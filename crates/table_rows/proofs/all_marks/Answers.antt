@@ -1,6 +1,5 @@
 -- `table_rows::all_marks` meets its contract. Assumes nothing.
-use Rattle.std.proofs.Common.{rules, tests}
-use Rattle.std.proofs.lemmas.Iterator.{YieldsList-from_slice}
+use Rattle.std.proofs.{Common.rules, Common.tests, lemmas.Iterator.YieldsList-from_slice}
 use Rattle.sets.proofs.Chains.{all-chain}
 use Rattle.table_rows.specs.Lines.{is_mark}
 use Rattle.table_rows.proofs.all_marks.Goals as goal

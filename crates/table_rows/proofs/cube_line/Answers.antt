@@ -2,8 +2,7 @@
 use Rattle.std.proofs.Common.{arith, map, eqb}
 use Rattle.std.proofs.lemmas.Bool.Decides.{nat_tests}
 use Rattle.sets.proofs.Packing.{packed-ones}
-use Rattle.table_rows.specs.Lines.{cube_line_of}
-use Rattle.table_rows.specs.Answers.{parsing}
+use Rattle.table_rows.specs.{Lines.cube_line_of, Answers.parsing}
 use Rattle.table_rows.proofs.cube_line.Goals as goal
 
 pub returns : goal.returns

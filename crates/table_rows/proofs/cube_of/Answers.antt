@@ -1,7 +1,6 @@
 -- The answers of `table_rows::cube_of`.
 use Rattle.std.proofs.Common.{◌∙◌, sym, ap, arith, get_or}
-use Rattle.table_rows.specs.{Lines.cube_from, Parts.placed}
-use Rattle.table_rows.proofs.{Cubing.from_next}
+use Rattle.table_rows.{specs.Lines.cube_from, specs.Parts.placed, proofs.Cubing.from_next}
 use Rattle.table_rows.proofs.cube_of.Goals as goal
 
 pub loop-v-init : goal.loop-v-init

@@ -1,12 +1,10 @@
 -- The answers of `table_rows::marks_of`.
 use Rattle.std.proofs.Common.{◌∙◌, ◌<◌, ◌≤◌, ◌^◌, ◌+◌, ◌*◌, [], ◌∷◌, Bor, ℕ, Bool, true, false, List, sym, ap, arith, map, reverse, eqb, length}
-use Rattle.std.proofs.lemmas.Iterator.Adapters.{YieldsList-from_rev_slice}
-use Rattle.std.proofs.lemmas.Iterator.Consumers.{YieldsList-turn, YieldsList-end}
+use Rattle.std.proofs.lemmas.Iterator.{Adapters.YieldsList-from_rev_slice, Consumers.YieldsList-turn, Consumers.YieldsList-end}
 use Rattle.std.proofs.lemmas.List.{reverse-reverse, length-reverse, length-map, map-append}
 use mir.Val.{bool_byte}
 use Rattle.sets.specs.Masks.{packed}
-use Rattle.table_rows.specs.Lines.{most_places}
-use Rattle.table_rows.proofs.Cubing.{marks-next, marks-lt}
+use Rattle.table_rows.{specs.Lines.most_places, proofs.Cubing.marks-next, proofs.Cubing.marks-lt}
 use Rattle.table_rows.proofs.marks_of.Goals as goal
 
 pub loop-b-init : goal.loop-b-init
@@ -20,7 +18,8 @@ small o l h k = marks-lt (reverse (map (λ (b : Bor ℕ). b.now) l)) (simp (leng
 
 pub overflow_mul-mask : goal.overflow_mul-mask
 overflow_mul-mask c =
-    let t = YieldsList-turn (YieldsList-from_rev_slice c.args.o.now cc) c.loop-b.yielded _ c.loop-b.yielded_by _ _ c.in-Some.b c.in-Some.is c.next.ensures.steps in
+    let t = YieldsList-turn (YieldsList-from_rev_slice c.args.o.now cc) c.loop-b.yielded _ c.loop-b.yielded_by _ _ c.in-Some.b c.in-Some.is
+    c.next.ensures.steps in
     record { fits = omega (arith, c.loop-b.invariant, small c.args.o.now c.loop-b.yielded c.requires t.0) }
 
 bit-le : (e : Bool) → bool_byte e ≤ 1
@@ -29,7 +28,8 @@ bit-le false = omega arith
 
 pub overflow_add-mask : goal.overflow_add-mask
 overflow_add-mask c =
-    let t = YieldsList-turn (YieldsList-from_rev_slice c.args.o.now cc) c.loop-b.yielded _ c.loop-b.yielded_by _ _ c.in-Some.b c.in-Some.is c.next.ensures.steps in
+    let t = YieldsList-turn (YieldsList-from_rev_slice c.args.o.now cc) c.loop-b.yielded _ c.loop-b.yielded_by _ _ c.in-Some.b c.in-Some.is
+    c.next.ensures.steps in
     record { fits = omega (arith, c.loop-b.invariant, small c.args.o.now c.loop-b.yielded c.requires t.0, c.from.ensures, bit-le (eqb c.in-Some.b.now 49)) }
 
 pub loop-b-preserved : goal.loop-b-preserved
@@ -42,4 +42,5 @@ loop-b-preserved c =
 pub returns : goal.returns
 returns c =
     let e = YieldsList-end (YieldsList-from_rev_slice c.args.o.now cc) c.loop-b.yielded _ c.loop-b.yielded_by _ _ c.in-None.is c.next.ensures.steps in
-    c.loop-b.invariant ∙ ap (λ (l : List ℕ). packed (map (eqb 49) (reverse l))) e.0 ∙ ap (λ (l : List ℕ). packed (map (eqb 49) l)) (reverse-reverse c.args.o.now)
+    c.loop-b.invariant ∙ ap (λ (l : List ℕ). packed (map (eqb 49) (reverse l))) e.0
+    ∙ ap (λ (l : List ℕ). packed (map (eqb 49) l)) (reverse-reverse c.args.o.now)
