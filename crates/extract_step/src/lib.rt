@@ -130,6 +130,7 @@ impl<'a> Source<'a> {
 }
 
 // The first e nodes rewritten, one after the other, and their numbers of cubes; the place after them.
+// In parts: what `step_in` is lent.
 fn put_nodes(
     words: &[u64],
     counts: &[usize],
@@ -198,6 +199,7 @@ fn refused(outcome: Outcome) -> Next
 }
 
 // The step, where a number is free: the new literal is the plain one of the next free number.
+// In parts: what `step_in` is lent.
 fn made(words: &[u64], counts: &[usize], n: usize, m: usize, k: usize, d: Divisor) -> Next
     requires { Ready n m k words.now counts.now d }
     ensures { Stepped (held_in n m k counts.now words.now)

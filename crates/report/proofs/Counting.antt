@@ -7,7 +7,6 @@ use lib.IntN.{ℤ, pos, negsuc}
 use lib.ListN.{length, get_or, take}
 use lib.Seq.{get_or-take}
 use lib.Dec.{le→leb, leb→le}
-use lib.Signed.{◌≤ℤ◌}
 use mir.Syntax.{w32}
 use mir.Val.{SFits, to_z, of_z}
 use mir.ValLaws.{to_z-of_z}
@@ -31,9 +30,6 @@ sized-to (negsuc k) o = absurd o.above.le
 -- the weight as its bits read back
 pub sized-read : (w : ℤ) → Sized w → to_z w32 (of_z w32 w) ≡ w
 sized-read w o = let q = sized-to w o in to_z-of_z w32 w (subst (λ (z : ℤ). SFits w32 z) (sym q.1) (record { sfits = omega (arith, q.2) }))
-
-pub sized-above : (w : ℤ) → Sized w → pos 0 ≤ℤ to_z w32 (of_z w32 w)
-sized-above w o = subst (λ (z : ℤ). pos 0 ≤ℤ z) (sym (sized-read w o)) o.above
 
 -- the step made at a place
 pub made-at : (l : List declared.Made) (i : ℕ) → get_or (map made_of l) i (made_of no_made) ≡ made_of (get_or l i no_made)

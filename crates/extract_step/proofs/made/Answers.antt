@@ -36,15 +36,6 @@ counted c =
     let l = laid-as r (omega (arith, c.plain-x.ensures, r.number)) c.put_nodes-to.ensures in
     c.literals-literals.ensures ∙ ap capped (laid-literals r (step-laid r l c.put_own-end.ensures) c.part.ensures.0)
 
-pub put_nodes-to-requires : goal.put_nodes-to-requires
-put_nodes-to-requires c =
-    let r = c.requires in
-    record {
-      source = r.source;
-      fit = record { divisor = r.divisor; literal = omega (arith, c.plain-x.ensures, r.number) };
-      zeros = (refl, refl);
-    }
-
 pub overflow_sub-to : goal.overflow_sub-to
 overflow_sub-to c = omega (arith, laid-few c.requires (laid (goal.at.overflow_sub-to c).After-put_nodes-to))
 

@@ -26,6 +26,3 @@ returns-in-Pair c =
     (c.with-in-Pair.ensures
     ∙ ap (joined q) (c.with.ensures ∙ ap (joined p) c.empty.ensures)
     ∙ pair-part p q (subst (λ e. fitting width (divisor_of e) ≡ true) c.in-Pair.is c.requires))
-
-pub returns-in-Sum : goal.returns-in-Sum
-returns-in-Sum c = rw c.in-Sum.is

@@ -43,12 +43,6 @@ returns-then-words-ne-WORD_SLOTS c = record {
   other = λ f. c.refused.ensures;
 }
 
-pub returns-then-counts-ne-NODE_SLOTS : goal.returns-then-counts-ne-NODE_SLOTS
-returns-then-counts-ne-NODE_SLOTS c = record {
-  shaped = λ s. absurd (omega (arith, c.if-counts-ne-NODE_SLOTS.true, s.slots));
-  other = λ f. c.refused-then-counts-ne-NODE_SLOTS.ensures;
-}
-
 pub returns-then-not-are_arranged : goal.returns-then-not-are_arranged
 unfolding outcome_of
 returns-then-not-are_arranged c = record {

@@ -5,11 +5,8 @@ use lib.IntN.{pos}
 use Rattle.letters.proofs.Laying.{due_all, due-next, due-last}
 use Rattle.extract_divisor.specs.Divisor.{divisor_of}
 use Rattle.report.specs.Report.{step_line}
-use Rattle.report.proofs.{Lines.step_start, Counting.sized-read, Counting.sized-above}
+use Rattle.report.proofs.{Lines.step_start, Counting.sized-read}
 use Rattle.report.proofs.put_step.Goals as goal
-
-pub size-requires : goal.size-requires
-size-requires c = sized-above c.args.s.now.weight c.requires
 
 -- the states of the walk: after the name, ` = `, the divisor, its weight and the count
 pub returns : goal.returns

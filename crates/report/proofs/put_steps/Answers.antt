@@ -1,21 +1,14 @@
 -- The answers of `report::put_steps`.
-use Prim.Native.Nat.{◌<◌, ◌≤◌}
+use Prim.Native.Nat.{◌≤◌}
 use mathlib.Core.Path.{◌∙◌, ap}
 use mathlib.Core.List.{map}
 use native.Mathlib.Omega.{arith}
-use lib.ListN.{length, take, length-map, length-take, drop_of_length-le}
-use lib.Seq.{get_or-take}
+use lib.ListN.{length, take, length-map, drop_of_length-le}
 use Rattle.letters.proofs.Laying.{due-as, due-next, due-done}
-use Rattle.extract.specs.Answers.{made_of, no_made}
+use Rattle.extract.specs.Answers.{made_of}
 use Rattle.report.specs.Report.{step_lines}
 use Rattle.report.proofs.Lines.{lines_none, made-next}
 use Rattle.report.proofs.put_steps.Goals as goal
-
-pub put_step-p-requires : goal.put_step-p-requires
-put_step-p-requires c =
-    let s = c.args.steps.now in
-    let h : c.loop-s.s-index < s.count = omega (arith, length-take s.count s.list) in
-    rw (get_or-take s.count s.list c.loop-s.s-index no_made h) (c.requires.each c.loop-s.s-index h)
 
 pub loop-s-preserved : goal.loop-s-preserved
 unfolding step_lines
