@@ -2,11 +2,10 @@
 use Prim.Native.Nat.{ℕ, ◌+◌, ◌≤◌}
 use mathlib.Core.Path.{◌≡◌, sym, ◌∙◌}
 use mathlib.Core.Bool.{true, false}
-use mathlib.Core.List.{List, [], ◌∷◌}
+use mathlib.Core.List.{List, ◌∷◌}
 use native.Mathlib.Omega.{arith}
 use lib.ListN.{length}
 use Rattle.sets.specs.Lists.{all, keep, total}
-use Rattle.sets.proofs.Truth.{both}
 use Rattle.sets.proofs.Lists.{keep-length, total-le}
 use Rattle.expression.specs.{Words.cubes_of, Expression.ordered}
 use Rattle.network.{specs.Held.most_cubes}
@@ -23,22 +22,15 @@ pub record Counting (a b : List ℕ) (f rest : List (List ℕ)) (u : ℕ) : Type
   pub few : u + length rest ≤ length f
   pub uses : u + length (keep (use_of a b f) rest) ≡ uses (sum a b) f
 
-module _ {a b : List ℕ} {f : List (List ℕ)} where
-  pub counting-none : {g : List (List ℕ)} → g ≡ f → Counting a b f g 0
-  counting-none e = rw e (record { few = omega arith; uses = omega arith })
+module _ {a b : List ℕ} {f rest g : List (List ℕ)} {d : List ℕ} {u : ℕ} (c : Counting a b f rest u) (h : rest ≡ d ∷ g) where
+  pub counting-off : use_of a b f d ≡ false → Counting a b f g u
+  counting-off e = let k = rw h at c.few in record { few = omega arith; uses = rw (h, e) at c.uses }
 
-  module _ {rest g : List (List ℕ)} {d : List ℕ} {u : ℕ} (c : Counting a b f rest u) (h : rest ≡ d ∷ g) where
-    pub counting-off : use_of a b f d ≡ false → Counting a b f g u
-    counting-off e = let k = rw h at c.few in record { few = omega arith; uses = rw (h, e) at c.uses }
-
-    pub counting-on : use_of a b f d ≡ true → Counting a b f g (u + 1)
-    counting-on e =
-        let k = rw h at c.few in
-        let x = rw (h, e) at c.uses in
-        record { few = omega arith; uses = omega arith }
-
-  pub counting-all : {rest : List (List ℕ)} {u : ℕ} → Counting a b f rest u → rest ≡ [] → u ≡ uses (sum a b) f
-  counting-all c h = let x = rw h at c.uses in omega arith
+  pub counting-on : use_of a b f d ≡ true → Counting a b f g (u + 1)
+  counting-on e =
+      let k = rw h at c.few in
+      let x = rw (h, e) at c.uses in
+      record { few = omega arith; uses = omega arith }
 
 -- ---- in the nodes that words and counts hold
 
@@ -48,22 +40,10 @@ pub record Summing (a b : List ℕ) (fs rest : List (List (List ℕ))) (u : ℕ)
   pub sorted : all ordered rest ≡ true
   pub few : total length rest ≤ most_cubes
 
-module _ {a b : List ℕ} {fs rest : List (List (List ℕ))} {u : ℕ} (s : Summing a b fs rest u) where
-  module _ {f : List (List ℕ)} {gs : List (List (List ℕ))} (h : rest ≡ f ∷ gs) where
-    pub summing-node : (length f ≤ most_cubes) × (ordered f ≡ true)
-    summing-node = let k = rw h at s.few in (omega arith, (both (ordered f) _ (rw h at s.sorted)).0)
-
-    pub summing_next : Summing a b fs gs (u + uses (sum a b) f)
-    summing_next =
-        let x = rw h at s.uses in
-        let k = rw h at s.few in
-        record { uses = omega arith; sorted = (both (ordered f) _ (rw h at s.sorted)).1; few = omega arith }
-
-    pub summing-room : u + uses (sum a b) f ≤ total (uses (sum a b)) fs
-    summing-room = let x = rw h at s.uses in omega arith
-
-  pub summing-all : rest ≡ [] → u ≡ total (uses (sum a b)) fs
-  summing-all h = let x = rw h at s.uses in omega arith
+-- those in the next node are among all
+pub summing-room : {a b : List ℕ} {fs rest gs : List (List (List ℕ))} {f : List (List ℕ)} {u : ℕ} → Summing a b fs rest u → rest ≡ f ∷ gs
+    → u + uses (sum a b) f ≤ total (uses (sum a b)) fs
+summing-room s h = let x = rw h at s.uses in omega arith
 
 module _ (n : Network) (h : arranged n ≡ true) (shape : Shaped n) where
   -- no more cubes than a network may have

@@ -1,6 +1,6 @@
 -- A table that is filled anew has room for every divisor of a network by the rules. Assumes nothing.
 use Prim.Native.Nat.{ℕ, ◌+◌, ◌*◌, ◌<◌, ◌≤◌}
-use mathlib.Core.Path.{◌≡◌, refl, ap, subst}
+use mathlib.Core.Path.{◌≡◌, refl, sym, ap, subst}
 use mathlib.Core.{Logic.inl, Logic.inr, Bool.true}
 use mathlib.Core.List.Memᴰ
 use mathlib.Core.List.{List, [], ◌∷◌, ◌++◌, map}
@@ -12,7 +12,8 @@ use Rattle.sets.proofs.{Lists.◌∈◌, Lists.map-in, Truth.decided}
 use Rattle.cube.specs.Cube.{width}
 use Rattle.extract_laws.specs.{Divisor.Divisor, Divisor.pair, Divisor.small, Extract.gather, Extract.pairs_in, Extract.sum_of, Extract.sums_in}
 use Rattle.sets.proofs.{Truth.compared, Truth.Stand.below, Truth.Stand.equal, Truth.Stand.beyond}
-use Rattle.network.specs.{Net.nodes, Held.net_of, Held.rules, Held.most_cubes, Handed.Shaped, declared.Network.Network}
+use Rattle.network.specs.{Net.nodes, Held.net_of, Held.rules, Held.most_cubes, Handed.Shaped, Parts.nodes_of, declared.Network.Network}
+use Rattle.network.proofs.Holding.{nodes-held}
 use Rattle.extract_laws.proofs.{Weighing.saved-within, Following.rules-good, Following.rules-within}
 use Rattle.extract_tidy.specs.Tidy.{arranged}
 use Rattle.extract_gains.{specs.Gains.entries, specs.Gains.many, specs.Gains.most_gain, specs.Gains.Sound, specs.Gains.Turns, specs.Gains.none}
@@ -132,6 +133,6 @@ module _ (n : Network) (shape : Shaped n) (r : rules n ≡ true) (a : arranged n
 
 -- the table is filled with the nodes of a network
 pub filled : (n : Network) → Shaped n → (t g u h : List ℕ) → Sound t g × (many t ≡ 0)
-    → Turns t g u h none (λ k. net_gain k (nodes (net_of n))) → Knows u h n
+    → Turns t g u h none (λ k. net_gain k (nodes_of (n.outputs + n.divisors) n.counts n.words)) → Knows u h n
 filled n shape t g u h (s, z) p r a =
-    says-filled n shape r a t g u h s z p
+    says-filled n shape r a t g u h s z (subst (λ fs. Turns t g u h none (λ k. net_gain k fs)) (sym (nodes-held n)) p)

@@ -1,10 +1,10 @@
 -- The table on its way from one network to another. Assumes nothing.
 use Prim.Native.Nat.{ℕ, ◌+◌, ◌-◌, ◌<◌, ◌≤◌, min}
-use mathlib.Core.Path.{◌≡◌, refl, sym, ap, ◌∙◌, subst}
+use mathlib.Core.Path.{◌≡◌, refl, sym, ap, ◌∙◌}
 use mathlib.Core.Bool.{Bool, true}
-use mathlib.Core.List.{List, [], ◌∷◌, ◌++◌, append_assoc, append-nil}
+use mathlib.Core.List.{List, [], ◌∷◌, ◌++◌, append_assoc}
 use native.Mathlib.Omega.{arith}
-use lib.ListN.{length, get_or, take, drop, length-drop, length-take, drop_of_length-le, take-append-drop, get_or-eq_default}
+use lib.ListN.{length, get_or, take, drop, length-drop, length-take, take-append-drop, get_or-eq_default}
 use lib.Seq.{take_all, take-suc}
 use native.Mathlib.{Numerals.add-one, Nat.add-zero}
 use Rattle.sets.{specs.Lists.all, specs.Lists.total, specs.Sets.asc}
@@ -45,15 +45,7 @@ shift-both {u = u} {v = v} p q z = record {
       | beyond k _ _ ↦ absurd (omega (arith, q.stays (omega arith)))
     ]
 
--- the cubes on the way, one cube further
-pub shift-on : {t g u h v i : List ℕ} {a b e : ℕ → ℕ} → Shifts t g u h a b → Shifts u h v i b e → Shifts t g v i a e
-shift-on p q = shift-both p q (λ k. omega arith)
-
--- the same cubes by another name
-pub shift-to : {t g u h : List ℕ} {a : ℕ → ℕ} {f e : List (List ℕ)} → f ≡ e → Shifts t g u h a (λ k. node_gain k f) → Shifts t g u h a (λ k. node_gain k e)
-shift-to {t} {g} {u} {h} {a} p s = subst (λ x. Shifts t g u h a (λ k. node_gain k x)) p s
-
--- ---- a cube goes, comes or stays
+-- ---- a cube goes, or comes
 
 all_take : {A : Type 0} (p : A → Bool) (j : ℕ) (l : List A) → all p l ≡ true → all p (take j l) ≡ true
 all_take p j l h = (all-parts p (take j l) (drop j l) (rw (take-append-drop j l) h)).0
@@ -72,13 +64,6 @@ module _ (a b : List (List ℕ)) (h : all asc a ≡ true) (g : all asc b ≡ tru
   cube-come l k =
       rw (take_next b j [] l, append_assoc)
       (node-middle k (get_or b j []) (take j b) (drop i a) (all-out asc (at_in b j [] l) g) (all_take asc j b g))
-
-  pub cube-stay : i < length a → j < length b → get_or a i [] ≡ get_or b j [] → between a i b j ≡ between a (i + 1) b (j + 1)
-  cube-stay l m e = rw (drop-next a i [] l, take_next b j [] m, append_assoc, e)
-
--- at the end the whole of the second
-pub between-last : (a b : List (List ℕ)) (i j : ℕ) → length a ≤ i → length b ≤ j → between a i b j ≡ b
-between-last a b i j h g = rw (drop_of_length-le a {i = i} h, take_all j b g) (append-nil b)
 
 -- ---- the same of the slices that are lent
 
@@ -138,9 +123,6 @@ unfolding net_gain
 net-none k e = rw e
 
 module _ (fs hs : List (List (List ℕ))) where
-  pub shift-first : (t g : List ℕ) → Shifts t g t g (λ k. net_gain k (take 0 fs)) (λ k. net_gain k (take 0 hs))
-  shift-first t g = shift_none t g (λ k. net_gain k [])
-
   module _ (i : ℕ) {t g u h : List ℕ} (p : Shifts t g u h (λ k. net_gain k (take i fs)) (λ k. net_gain k (take i hs))) where
     -- one more node of the first becomes that of the second
     pub shift-net : {v w : List ℕ} {x y : List (List ℕ)} → x ≡ get_or fs i [] → y ≡ get_or hs i [] → Shifts u h v w (λ k. node_gain k x) (λ k. node_gain k y)

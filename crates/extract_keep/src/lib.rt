@@ -4,6 +4,7 @@
 ghost use Rattle.std.specs.Prelude.{◌≡◌, true, ◌+◌, ◌^◌, ◌<◌, [], length, get_or};
 ghost use Rattle.expression.specs.Words.{cubes_of};
 ghost use Rattle.network.specs.Net.{nodes};
+ghost use Rattle.network.specs.Parts.{nodes_of};
 ghost use Rattle.network.specs.Held.{net_of};
 ghost use Rattle.network.specs.Handed.{Shaped};
 ghost use Rattle.extract_tidy.specs.Tidy.{arranged};
@@ -34,7 +35,8 @@ fn fill_node(t: &mut [u32; TABLE_WORDS], g: &mut [u16; MOST_ENTRIES], f: &[u64])
 // The cubes of all nodes.
 fn fill_nodes(t: &mut [u32; TABLE_WORDS], g: &mut [u16; MOST_ENTRIES], n: &Network)
     requires { arranged n.now ≡ true }
-    ensures { Turns t.old g.old t.new g.new none (λ k. net_gain k (nodes (net_of n.now))) }
+    ensures { Turns t.old g.old t.new g.new
+        none (λ k. net_gain k (nodes_of (n.now.outputs + n.now.divisors) n.now.counts n.now.words)) }
 {
     let e = n.outputs + n.divisors;
     for f in network_nodes::each(&n.words, &n.counts[..e]) {

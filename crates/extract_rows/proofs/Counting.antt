@@ -15,7 +15,7 @@ use Rattle.cube.proofs.Lits.{lits-asc, lits-inside}
 use Rattle.extract_laws.specs.Divisor.{Divisor, pair, small}
 use Rattle.extract_laws.specs.Extract.{pairs_in, smaller_first, sum_of}
 use Rattle.extract_laws.proofs.Parting.{parts-apart}
-use Rattle.extract_gains.specs.Gains.{Turns, only, none}
+use Rattle.extract_gains.specs.Gains.{only}
 use Rattle.extract_gains.proofs.Table.{turns-none, turns_then, turns_as}
 use Rattle.extract_keys.specs.Keys.{part_code, two_codes, key_of, cost}
 use Rattle.extract_keys.proofs.Keys.{two-key}
@@ -28,13 +28,6 @@ module _ (up : Bool) where
   -- the same amounts, said otherwise
   pub counts-as : {t g u h : List ℕ} {a b : ℕ → ℕ} → ((k : ℕ) → a k ≡ b k) → Counts up t g u h a → Counts up t g u h b
   counts-as e p = turns_as (λ k. ap (cond up 0) (e k)) (λ k. ap (λ x. cond up x 0) (e k)) p
-
-  -- an amount put in, or taken out
-  pub counts-put : {t g u h : List ℕ} (by : ℕ → ℕ) → up ≡ true → Turns t g u h none by → Counts up t g u h by
-  counts-put by e p = rw e p
-
-  pub counts-take : {t g u h : List ℕ} (by : ℕ → ℕ) → up ≡ false → Turns t g u h by none → Counts up t g u h by
-  counts-take by e p = rw e p
 
   -- nothing changes
   pub counts-none : (t g : List ℕ) → Counts up t g t g (λ k. 0)

@@ -34,10 +34,6 @@ returns-then-s-le0 c k =
     let s = c.scan-s in
     entries_none _ (kept (goal.at.returns-then-s-le0 c).After-scan-s) _ _ (k (kept (goal.at.returns-then-s-le0 c).After-scan-s)) s.result s.ensures.0 (low (goal.at.returns-then-s-le0 c).Then-s-le0) _ c.no_step-then-s-le0.ensures
 
-pub uses_of-requires : goal.uses_of-requires
-uses_of-requires c =
-    (kept (goal.at.uses_of-requires c).After-scan-s, above (goal.at.uses_of-requires c).Else-s-le0, c.scan-s.ensures.1)
-
 pub returns : goal.returns
 returns c k =
     let s = c.scan-s in

@@ -1,14 +1,13 @@
 -- The answers of `extract_choice::scan`.
 use Prim.Native.Nat.{ℕ, ◌+◌}
 use mathlib.Core.Path.{◌≡◌, refl, sym, ap, ap₂, ◌∙◌, subst}
-use native.Mathlib.Omega.{arith}
 use native.Mathlib.Numerals.{add-one}
 use lib.Signed.{lt_z}
 use mir.Syntax.{w32}
 use mir.Facts.{to_z-of_z}
 use Rattle.extract_divisor.specs.Divisor.{weighed_of}
 use Rattle.extract_laws.specs.Run.{Weighed}
-use Rattle.extract_gains.specs.Gains.{many, key_at}
+use Rattle.extract_gains.specs.Gains.{key_at}
 use Rattle.extract_keys.specs.Keys.{cost_at}
 use Rattle.extract_choice.specs.Parts.{offered, picked, best_below, Modest}
 use Rattle.extract_choice.proofs.Weights.{difference-modest, difference-less, cost-few, picked-less, picked-modest}
@@ -51,8 +50,3 @@ loop-e-preserved c =
           (sym (to_z-of_z {w = w32} {z = c.from.result} (search rules))) ∙ w.if-from-held.false) in
           rw w.held-is (sym (picked-less (weighed_of l.held) (entry (goal.at.loop-e-preserved c).After-gain_at-gain) p) ∙ next (goal.at.loop-e-preserved c).After-gain_at-gain, l.invariant.1)
     ]
-
-pub returns : goal.returns
-returns c =
-    let e : c.loop-e.e ≡ many c.args.t.now = omega arith in
-    (rw (← e) c.loop-e.invariant.0, c.loop-e.invariant.1)

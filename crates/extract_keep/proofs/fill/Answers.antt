@@ -1,7 +1,5 @@
 -- `extract_keep::fill` meets its contract: a table without entries is filled, and has room. Assumes nothing.
-use mathlib.Core.Path.{sym, ◌∙◌}
 use borrow.Author.Rules.{rules}
-use Rattle.sets.proofs.Truth.{clash}
 use Rattle.network.proofs.Handing.{shape_of}
 use Rattle.extract_keep.proofs.{Filling.filled}
 use Rattle.extract_keep.proofs.fill.Goals as goal

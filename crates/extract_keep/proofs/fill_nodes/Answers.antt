@@ -4,7 +4,7 @@ use mathlib.Core.Path.{sym, ap, ap₂, ◌∙◌}
 use native.Mathlib.Omega.{arith}
 use borrow.Author.Rules.{rules}
 use Rattle.expression.specs.Words.{cubes_of}
-use Rattle.network.{specs.Handed.node_slots, proofs.Handing.shape_of, proofs.Holding.nodes-held}
+use Rattle.network.{specs.Handed.node_slots, proofs.Handing.shape_of}
 use Rattle.network_nodes.{specs.Nodes.cut, proofs.Chains.left}
 use Rattle.extract_counts.specs.Counts.{net_gain}
 use Rattle.extract_counts.proofs.Arranged.{arranged-few}
@@ -25,8 +25,8 @@ shared_ref_as_front-each c = few (goal.at.shared_ref_as_front-each c).Start
 
 pub loop-f-init : goal.loop-f-init
 loop-f-init c =
-    partly-as (partly-first _ _ _) (λ k. ap (net_gain k) (nodes-held c.args.n.now
-    ∙ sym (ap left c.into_iter-f-iterator.ensures.into_iter_gives ∙ ap₂ (λ ns ws. cut ns (cubes_of ws)) c.each-f-items.ensures.1 c.each-f-items.ensures.0)))
+    partly-as (partly-first _ _ _) (λ k. ap (net_gain k)
+    (sym (ap left c.into_iter-f-iterator.ensures.into_iter_gives ∙ ap₂ (λ ns ws. cut ns (cubes_of ws)) c.each-f-items.ensures.1 c.each-f-items.ensures.0)))
 
 pub loop-f-preserved : goal.loop-f-preserved
 loop-f-preserved c = partly-then c.loop-f.invariant c.fill_node.ensures (λ k. net-first k c.in-Some.ensures.steps)

@@ -1,10 +1,7 @@
 -- `extract_keep::renew` meets its contract: where the table has no room it is filled anew. Assumes nothing.
 use mathlib.Core.Path.{sym, ◌∙◌}
-use native.Mathlib.Omega.{arith}
 use borrow.Author.Rules.{rules}
-use Rattle.sets.proofs.Truth.{clash}
 use Rattle.network.proofs.Handing.{shape_of}
-use Rattle.extract_keep.proofs.{Keeping.renewed}
 use Rattle.extract_keep.proofs.renew.Goals as goal
 
 pub renew_nodes-requires : goal.renew_nodes-requires

@@ -1,7 +1,7 @@
 -- The answers of `extract_keep::renew_nodes`.
 use native.Mathlib.Omega.{arith}
 use Rattle.network.specs.{Net.nodes, Held.net_of}
-use Rattle.extract_keep.proofs.Keeping.{nodes-many, shift-first, shift-net, shift-all}
+use Rattle.extract_keep.proofs.Keeping.{nodes-many, shift-net, shift-all}
 use Rattle.extract_keep.proofs.renew_nodes.Goals as goal
 
 pub loop-i-preserved : goal.loop-i-preserved
