@@ -6,23 +6,30 @@ use mathlib.Core.List.{[], map}
 use native.Mathlib.Omega.{arith}
 use lib.ListN.{length, get_or, length-map, length-append}
 use lib.Seq.{take_all}
+use Rattle.std.specs.Iterator.{YieldsFirstBy}
+use Rattle.std.specs.Iterator.Adapters.{enumerate_steps}
+use Rattle.std.specs.List.{enumerate_from}
+use Rattle.std.proofs.lemmas.Iterator.{YieldsList}
 use Rattle.std.proofs.lemmas.Iterator.Consumers.{YieldsList-at, YieldsList-turn, YieldsList-end}
 use Rattle.std.proofs.lemmas.List.FromFn.{length-enumerate_from}
 use Rattle.sets.proofs.Rows.{get_d_map}
 use Rattle.cube.specs.Cube.{lits}
-use Rattle.expression.{proofs.Words.cubes-few, specs.Words.cubes_of}
+use Rattle.expression.{proofs.Words.cubes-few, specs.Words.cubes_of, proofs.Chains.left}
 use Rattle.expression.proofs.Placing.{placed-none, placed-as, copied_next}
 use Rattle.image_number.specs.Parts.{cube_by}
 use Rattle.image_number.proofs.Copying.{numbered-list, numbered-turn}
 use Rattle.image_number.proofs.copy.Goals as goal
-use Rattle.image_number.proofs.copy.Goals.{In-Some}
+use Rattle.image_number.proofs.copy.Goals.{After-into_iter-i-iterator, In-Some}
+
+-- what the loop goes through
+road : (c : After-into_iter-i-iterator) → YieldsList (enumerate_steps (YieldsFirstBy lits left)) (λ p. (p.0, lits p.1)) c.into_iter-i-iterator.result
+    (enumerate_from 0 (cubes_of c.args.f.now))
+road c = YieldsList-at c.into_iter-i-iterator.ensures.into_iter_gives (numbered-list c.enumerate-i-items.ensures.source c.enumerate-i-items.ensures.count c.each.ensures)
 
 -- the cube of a turn
 turn : (c : In-Some) → let f = cubes_of c.args.f.now in let k = length c.loop-i.yielded in
     (k < length f) × (c.in-Some.i ≡ k) × (lits c.in-Some.c ≡ get_or f k [])
-turn c = numbered-turn _ _ _ _ (YieldsList-turn
-    (YieldsList-at c.into_iter-i-iterator.ensures.into_iter_gives (numbered-list c.enumerate-i-items.ensures.source c.enumerate-i-items.ensures.count c.each.ensures))
-    c.loop-i.yielded _ c.loop-i.yielded_by _ c.next.new.self (c.in-Some.i, c.in-Some.c) c.in-Some.is c.next.ensures.steps)
+turn c = numbered-turn _ _ _ _ (YieldsList-turn (road (goal.at.In-Some c).After-into_iter-i-iterator) c.loop-i.yielded _ c.loop-i.yielded_by _ c.next.new.self (c.in-Some.i, c.in-Some.c) c.in-Some.is c.next.ensures.steps)
 
 pub loop-i-init : goal.loop-i-init
 loop-i-init c =
@@ -50,7 +57,5 @@ pub returns : goal.returns
 returns c =
     let f = cubes_of c.args.f.now in
     let g = cube_by c.args.places.now in
-    let q = YieldsList-end
-    (YieldsList-at c.into_iter-i-iterator.ensures.into_iter_gives (numbered-list c.enumerate-i-items.ensures.source c.enumerate-i-items.ensures.count c.each.ensures))
-    c.loop-i.yielded _ c.loop-i.yielded_by _ c.next.new.self c.in-None.is c.next.ensures.steps in
+    let q = YieldsList-end (road (goal.at.returns c).After-into_iter-i-iterator) c.loop-i.yielded _ c.loop-i.yielded_by _ c.next.new.self c.in-None.is c.next.ensures.steps in
     placed-as (take_all (length c.loop-i.yielded) (map g f) (omega (arith, q.1, length-enumerate_from 0 f, length-map f g))) c.loop-i.invariant.put
