@@ -2,7 +2,7 @@
 -- and so far a window of marks tells. Assumes nothing.
 use Rattle.std.specs.Prelude.{Option, Some, None}
 use Rattle.std.specs.Option.{is_some}
-use Prim.Native.Nat.{ℕ, zero, suc, ◌+◌, ◌<◌, ◌≤◌}
+use Prim.Native.Nat.{ℕ, zero, suc, ◌+◌, ◌<◌, ◌≤◌, min}
 use mathlib.Core.Path.{◌≡◌, refl, sym, ap, ap₂, ◌∙◌, subst}
 use mathlib.Core.Logic.{inl, inr}
 use mathlib.Core.Bool.{Bool, true, false, cond, not, ◌||◌}
@@ -152,15 +152,19 @@ window-none base k n ws more h = absurd (n.none ws more h)
 -- ---- window by window
 
 module _ (s : List ℕ) (at r : ℕ) where
-  pub used-none : UsedFrom s at r 0 0 true
+  pub used-none : UsedFrom s at r 0 (min 0 r) true
   unfolding from
-  used-none ws more h = refl
+  used-none = subst (λ (k : ℕ). UsedFrom s at r 0 k true) (let e : 0 ≡ min 0 r = omega arith in e) (λ ws more h. refl)
 
-  pub used-more : (base k : ℕ) → UsedFrom s at r 0 base true → UsedFrom s at r base k true → UsedFrom s at r 0 (base + k) true
-  used-more base k u v ws more h = sym (windows-on (λ i. mem i (signed_in ws)) base k (sym (u ws more h)) (sym (v ws more h)))
+  pub used-next : (base k n : ℕ) → n ≡ base + k → base < r → UsedFrom s at r 0 (min base r) true → UsedFrom s at r base k true → UsedFrom s at r 0 n true
+  used-next base k n e l u v ws more h =
+      let f : min base r ≡ base = omega arith in
+      subst (λ (i : ℕ). true ≡ all (λ j. mem j (signed_in ws)) (from 0 i)) (sym e)
+      (sym (windows-on (λ i. mem i (signed_in ws)) base k (sym (subst (λ (i : ℕ). true ≡ all (λ j. mem j (signed_in ws)) (from 0 i)) f (u ws more h)))
+      (sym (v ws more h))))
 
   pub used-less : (base k : ℕ) → base + k ≤ r → UsedFrom s at r base k false → UsedIs s at r false
   used-less base k n u ws more h = sym (windows-stop (λ i. mem i (signed_in ws)) base k r n (sym (u ws more h)))
 
-  pub used_all : (base : ℕ) → r ≤ base → UsedFrom s at r 0 base true → UsedIs s at r true
-  used_all base n u ws more h = sym (windows-done (λ i. mem i (signed_in ws)) base r n (sym (u ws more h)))
+  pub used_all : (base : ℕ) → r ≤ base → UsedFrom s at r 0 (min base r) true → UsedIs s at r true
+  used_all base n u = let e : min base r ≡ r = omega arith in subst (λ (k : ℕ). UsedFrom s at r 0 k true) e u

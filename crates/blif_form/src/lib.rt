@@ -61,13 +61,11 @@ fn all_used(s: &[u8], at: usize, r: usize, marks: &mut [u8]) -> bool
     requires { Window marks.old }
     ensures { UsedIs s.now at r result × (length marks.new ≡ length marks.old) }
 {
-    let mut base = 0;
-    while base < r {
+    for base in (0..r).step_by(blif_lines::WINDOW) {
         let k = blif_lines::WINDOW.min(r - base);
         if !is_used(s, at, r, base, k, marks) {
             return false;
         }
-        base += k;
     }
     true
 }
@@ -125,6 +123,7 @@ fn walk(s: &[u8], at: usize, m: usize, marks: &mut [u8]) -> Option<Blocks>
     let mut p = at;
     let mut rows = 0usize;
     let mut top = 0usize;
+    // By places: each block is where the one before it ended.
     while let Some(q) = begin(s, p) {
         let b = read_block(s, q, m, marks)?;
         rows = rows.saturating_add(b.rows).min(network::MOST_CUBES + 1);

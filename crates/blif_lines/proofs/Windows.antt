@@ -1,6 +1,6 @@
 -- Numbers window by window: what holds of all numbers below one, and what the marks of a window count. Assumes nothing.
 use Prim.Native.Nat.{ℕ, zero, suc, ◌+◌, ◌-◌, ◌≤◌, ◌<◌, min}
-use mathlib.Core.Path.{◌≡◌, refl, sym, ap, ap₂, ◌∙◌}
+use mathlib.Core.Path.{◌≡◌, refl, sym, ap, ap₂, ◌∙◌, subst}
 use mathlib.Core.Logic.{inl, inr}
 use mathlib.Core.Bool.{Bool, true, false, cond, ◌&&◌, ◌||◌}
 use mathlib.Core.List.{List, [], ◌∷◌, ◌++◌}
@@ -26,6 +26,14 @@ module _ (p : ℕ → Bool) where
         | inl t ↦ mem-all p (from 0 base) v a (from_in 0 base v (omega arith) (omega (arith, ltb-true v base t)))
         | inr t ↦ mem-all p (from base k) v b (from_in base k v (ltb-false v base t) (omega (arith, q.1)))
       ])
+
+  -- the windows below a number, and the one there
+  pub windows-next : (base k w top : ℕ) → k ≡ min (top - base) w → base < top → all p (from 0 (min base top)) ≡ true → all p (from base k) ≡ true
+      → all p (from 0 (min (base + w) top)) ≡ true
+  windows-next base k w top m h a b =
+      let e : min base top ≡ base = omega arith in
+      let f : base + k ≡ min (base + w) top = omega arith in
+      subst (λ (n : ℕ). all p (from 0 n) ≡ true) f (windows-on base k (subst (λ (n : ℕ). all p (from 0 n) ≡ true) e a) b)
 
   -- a window that fails
   pub windows-stop : (base k top : ℕ) → base + k ≤ top → all p (from base k) ≡ false → all p (from 0 top) ≡ false

@@ -123,6 +123,7 @@ pub fn read_names(s: &[u8], at: usize, base: usize, marks: &mut [u8]) -> Option<
     let mut p = at;
     let mut least = 0;
     let mut reads = 0;
+    // By places: each name is where the one before it ended.
     loop {
         match next_name(s, p, least)? {
             Turn::Read(v, q) => {
@@ -226,6 +227,7 @@ pub fn read_rows(s: &[u8], at: usize, r: usize, base: usize, marks: &mut [u8]) -
 {
     let mut p = at;
     let mut count = 0;
+    // By places: each row is where the one before it ended.
     while !is_point(s, p) {
         p = read_row(s, p, r, base, marks)?;
         count += 1;

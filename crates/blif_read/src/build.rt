@@ -18,6 +18,7 @@ pub fn find(s: &[u8], first: usize, name: Label) -> Option<usize>
     ensures { FoundIs s.now first name result }
 {
     let mut at = first;
+    // By places: each block is where the one before it ended.
     while let Some(b) = defining::pass(s, at, 0, &mut []) {
         if b.name == name {
             return blif_form::begin(s, at);

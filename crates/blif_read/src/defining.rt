@@ -31,6 +31,7 @@ pub fn stand(s: &[u8], first: usize, base: usize, marks: &mut [u8])
     ensures { StandIs s.now first base marks.old marks.new }
 {
     let mut at = first;
+    // By places: each block is where the one before it ended.
     while let Some(b) = pass(s, at, base, marks) {
         at = b.next;
     }
@@ -52,6 +53,7 @@ pub fn define(s: &[u8], first: usize, outputs: bool, base: usize, marks: &mut [u
     ensures { DefinedIs s.now first outputs base marks.old marks.new }
 {
     let mut at = first;
+    // By places: each block is where the one before it ended.
     while let Some(b) = pass(s, at, 0, &mut []) {
         mark_name(b.name, outputs, base, marks);
         at = b.next;
@@ -79,13 +81,10 @@ fn does_stand(s: &[u8], first: usize, base: usize, k: usize) -> bool
 pub fn is_gapless(s: &[u8], first: usize, n: usize, top: usize) -> bool
     ensures { GaplessIs s.now first n top result }
 {
-    let mut base = n;
-    while base < top {
-        let k = span(base, top);
-        if !does_stand(s, first, base, k) {
+    for base in (n..top).step_by(blif_lines::WINDOW) {
+        if !does_stand(s, first, base, span(base, top)) {
             return false;
         }
-        base += k;
     }
     true
 }
@@ -114,13 +113,10 @@ fn is_defined(s: &[u8], first: usize, outputs: bool, n: usize, base: usize, k: u
 fn are_defined(s: &[u8], first: usize, outputs: bool, n: usize, top: usize) -> bool
     ensures { AllOnce s.now first outputs n top result }
 {
-    let mut base = 0;
-    while base < top {
-        let k = span(base, top);
-        if !is_defined(s, first, outputs, n, base, k) {
+    for base in (0..top).step_by(blif_lines::WINDOW) {
+        if !is_defined(s, first, outputs, n, base, span(base, top)) {
             return false;
         }
-        base += k;
     }
     true
 }

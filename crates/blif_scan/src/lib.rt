@@ -34,6 +34,7 @@ pub fn read_byte(s: &[u8], at: usize) -> Option<(u8, usize)>
     ensures { NextIs s.now at result }
 {
     let mut p = at;
+    // By places: the text says how many are passed over.
     while is_joint(s, p) {
         p += 2;
     }
@@ -89,6 +90,7 @@ fn read_number(s: &[u8], at: usize) -> Option<(usize, Ended)>
     }
     let mut n = lead;
     let mut p = after;
+    // By places: each digit is where the one before it ended.
     while let Some((d, q)) = read_digit(s, p) {
         n = n.checked_mul(10)?.checked_add(d)?;
         p = q;
@@ -132,6 +134,7 @@ fn turns(s: &[u8], at: usize, letter: u8) -> Option<(usize, usize)>
 {
     let mut k = 0;
     let mut p = at;
+    // By places: each name is where the one before it ended.
     loop {
         match named(s, p, letter, k)? {
             Ended::Space(q) => {
@@ -167,6 +170,7 @@ fn word(s: &[u8], at: usize) -> Option<usize>
     ensures { WordIs s.now at result }
 {
     let mut p = at;
+    // By places: each byte is where the one before it ended.
     loop {
         let (b, q) = read_byte(s, p)?;
         if b == b'\n' {

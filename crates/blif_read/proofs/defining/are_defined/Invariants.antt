@@ -1,5 +1,5 @@
 -- `blif_read::are_defined` meets its contract. The loop's invariant: every number below the window is defined once. Assumes nothing.
-use Prim.Native.Nat.{ℕ, ◌-◌, ◌≤◌}
+use Prim.Native.Nat.{ℕ, ◌≤◌, min}
 use mathlib.Core.Path.{◌≡◌}
 use mathlib.Core.{Bool.true, List.List}
 use lib.Dec.{eqb}
@@ -12,7 +12,4 @@ use Rattle.blif_read.proofs.defining.are_defined.Given as goal
 
 abbrev pub invariant-loop-base : goal.invariant-loop-base
 invariant-loop-base l = (m : ℕ) (bs : List Block) → m ≤ largest → BlocksOf (left l.s l.first) m bs → SmallBlocks bs
-    → all (λ v. eqb (times_in l.outputs l.n bs v) 1) (from 0 l.base) ≡ true
-
-abbrev pub decreases-loop-base : goal.decreases-loop-base
-decreases-loop-base l = l.top - l.base
+    → all (λ v. eqb (times_in l.outputs l.n bs v) 1) (from 0 (min l.base l.top)) ≡ true
