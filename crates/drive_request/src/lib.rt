@@ -17,9 +17,7 @@ fn word_end(text: &[u8]) -> usize
     ensures value { result ≡ index_of 32 text.now }
     ensures within { result ≤ length text.now }
 {
-    text.iter()
-        .position(|b| *b == b' ')
-        .unwrap_or(text.len())
+    text.iter().position(|b| *b == b' ').unwrap_or(text.len())
 }
 
 // What stands from a place on.

@@ -24,8 +24,8 @@ pub returns-then-ends_with : goal.returns-then-ends_with
 returns-then-ends_with c = let line = c.args.line.now in elim c.then-ends_with.branch [
   | then-ends_with-via-then-ends_with w ↦ rw (groups-blank line (sym (ends-last line) ∙ sym c.ends_with.ensures.value ∙ w.if-ends_with.true))
   | then-ends_with-via-else-ends_with+then-any w ↦
-    let a = any-chain (λ v. eqb (length v) 0) w.any.new.self _ _ w.any.ensures.ran (road line refl) (λ x b q k. search (rules, tests)) in
-    rw (groups-empty line (sym a ∙ w.if-any.true))
+      let a = any-chain (λ v. eqb (length v) 0) w.any.new.self _ _ w.any.ensures.ran (road line refl) (λ x b q k. search (rules, tests)) in
+      rw (groups-empty line (sym a ∙ w.if-any.true))
 ]
 
 pub count-parts-requires-clause-fits : goal.count-parts-requires-clause-fits
@@ -40,8 +40,8 @@ pub returns : goal.returns
 returns c =
     let line = c.args.line.now in
     let n = count_from_yields_List c.filter.result _ c.count-parts.ensures.ran
-        (YieldsList-from_filter _ is_part (road line (ap (λ (s : Words). s.0.now) c.filter.ensures.source)) c.filter.ensures.closure
-        (λ x b q k. search (rules, tests))) in
+    (YieldsList-from_filter _ is_part (road line (ap (λ (s : Words). s.0.now) c.filter.ensures.source)) c.filter.ensures.closure
+    (λ x b q k. search (rules, tests))) in
     let a = any-chain (λ v. eqb (length v) 0) c.any.new.self _ _ c.any.ensures.ran (road line refl) (λ x b q k. search (rules, tests)) in
     rw (n, count-parts (words_of line))
     (groups-spaced line (sym (ends-last line) ∙ sym c.ends_with.ensures.value ∙ c.if-ends_with.false) (sym a ∙ c.if-any.false))

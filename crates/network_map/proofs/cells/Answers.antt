@@ -24,7 +24,7 @@ returns c =
     let row : (j : ℕ) → j < most_outputs → Marks (lits (get_or rows j none)) (row_of n j) =
     made-at (λ j r. Marks (lits r) (row_of n j)) _ most_outputs (λ i y q h k. (search rules, search rules)) none rows c.from_fn-rows.ensures.items in
     let cell : (i : ℕ) → i < most_outputs * most_variables
-        → get_or c.from_fn.result i false ≡ mem (plain_of (i % most_variables)) (lits (get_or rows (i / most_variables) none)) =
+    → get_or c.from_fn.result i false ≡ mem (plain_of (i % most_variables)) (lits (get_or rows (i / most_variables) none)) =
     made-at (λ i y. y ≡ mem (plain_of (i % most_variables)) (lits (get_or rows (i / most_variables) none))) _ (most_outputs * most_variables)
     (λ i y q h k. (search rules, search (rules, tests))) false c.from_fn.result c.from_fn.ensures.items in
     record {
