@@ -61,14 +61,17 @@ module _ (ws : List ℕ) where
     unfolding refusal
     refused-spare h = rw (le-ltb (cube_words * most_handed) (length ws) few, spare-some ws h)
 
-    pub refused-else : length ws % cube_words ≡ 0 → refusal ws ≡ cond (expression (cubes_of ws)) none (some 7)
+    pub refused-expression : length ws % cube_words ≡ 0 → refusal ws ≡ cond (expression (cubes_of ws)) none (some 7)
     unfolding refusal
-    refused-else h = rw (le-ltb (cube_words * most_handed) (length ws) few, spare-none ws h)
+    refused-expression h = rw (le-ltb (cube_words * most_handed) (length ws) few, spare-none ws h)
+
+    pub refused-else : length ws % cube_words ≡ 0 → refusal ws ≡ cond (all proper (cubes_of ws) && pairwise loose (cubes_of ws)) none (some 7)
+    refused-else h = refused-expression h ∙ rw cubes-proper
 
   pub accepted-iff : (refusal ws ≡ none) ↔ Acceptable ws
   accepted-iff = (
     out,
-    λ (few, even, one, apart). refused-else few even
+    λ (few, even, one, apart). refused-expression few even
         ∙ rw (cubes-proper, all_in proper (cubes_of ws) one, (loose-iff (cubes_of ws)).1 apart),
   )
     where
@@ -90,7 +93,7 @@ module _ (ws : List ℕ) where
 
       out : refusal ws ≡ none → Acceptable ws
       out h =
-          let e = rest (expression (cubes_of ws)) (sym (refused-else (few-of h) (even-of h)) ∙ h) in
+          let e = rest (expression (cubes_of ws)) (sym (refused-expression (few-of h) (even-of h)) ∙ h) in
           let q = both (all proper (cubes_of ws)) (pairwise loose (cubes_of ws)) (rw cubes-proper at e) in
           (few-of h, even-of h, λ c m. all-out proper m q.0, (loose-iff (cubes_of ws)).0 q.1)
 
