@@ -1,7 +1,7 @@
 -- `drive_request::groups` meets its contract: a blank at the end, an empty word, or one group more than lone `;`. Assumes nothing.
 use mathlib.Core.Path.{◌≡◌, refl, sym, ap, ◌∙◌}
-use mathlib.Core.{Bool.Bool, Bool.false, Bool.not, Logic.inl, List.List}
-use Prim.Native.Nat.{ℕ, ◌+◌}
+use mathlib.Core.{Logic.inl, List.List}
+use Prim.Native.Nat.{ℕ}
 use lib.Dec.{eqb}
 use lib.ListN.{length}
 use native.Mathlib.Omega.{arith}
@@ -11,8 +11,8 @@ use Rattle.std.proofs.lemmas.Iterator.Consumers.{YieldsList-from_first, YieldsLi
 use Rattle.std.specs.Iterator.{YieldsFirstRef}
 use Rattle.sets.{proofs.Chains.any-chain}
 use Rattle.drive_request.specs.declared.Words.{Words}
-use Rattle.drive_request.specs.Words.{words_of, is_part, filled}
-use Rattle.drive_request.proofs.Splitting.{ends-last, any-empty, count-parts, words-few, groups-blank, groups-empty, groups-spaced}
+use Rattle.drive_request.specs.Words.{words_of, is_part}
+use Rattle.drive_request.proofs.Splitting.{ends-last, count-parts, words-few, groups-blank, groups-empty, groups-spaced}
 use Rattle.drive_request.proofs.groups.Goals as goal
 use Rattle.drive_request.proofs.groups.Goals.{then-ends_with-via-then-ends_with, then-ends_with-via-else-ends_with+then-any}
 
@@ -24,8 +24,8 @@ pub returns-then-ends_with : goal.returns-then-ends_with
 returns-then-ends_with c = let line = c.args.line.now in elim c.then-ends_with.branch [
   | then-ends_with-via-then-ends_with w ↦ rw (groups-blank line (sym (ends-last line) ∙ sym c.ends_with.ensures.value ∙ w.if-ends_with.true))
   | then-ends_with-via-else-ends_with+then-any w ↦
-    let a = any-chain (λ v. eqb (length v) 0) w.any.new.self _ _ w.any.ensures.ran (road line refl) (λ x b q k. search (rules, tests)) in
-    rw (groups-empty line (sym a ∙ w.if-any.true))
+      let a = any-chain (λ v. eqb (length v) 0) w.any.new.self _ _ w.any.ensures.ran (road line refl) (λ x b q k. search (rules, tests)) in
+      rw (groups-empty line (sym a ∙ w.if-any.true))
 ]
 
 pub count-parts-requires-clause-fits : goal.count-parts-requires-clause-fits
@@ -40,8 +40,8 @@ pub returns : goal.returns
 returns c =
     let line = c.args.line.now in
     let n = count_from_yields_List c.filter.result _ c.count-parts.ensures.ran
-        (YieldsList-from_filter _ is_part (road line (ap (λ (s : Words). s.0.now) c.filter.ensures.source)) c.filter.ensures.closure
-        (λ x b q k. search (rules, tests))) in
+    (YieldsList-from_filter _ is_part (road line (ap (λ (s : Words). s.0.now) c.filter.ensures.source)) c.filter.ensures.closure
+    (λ x b q k. search (rules, tests))) in
     let a = any-chain (λ v. eqb (length v) 0) c.any.new.self _ _ c.any.ensures.ran (road line refl) (λ x b q k. search (rules, tests)) in
     rw (n, count-parts (words_of line))
     (groups-spaced line (sym (ends-last line) ∙ sym c.ends_with.ensures.value ∙ c.if-ends_with.false) (sym a ∙ c.if-any.false))

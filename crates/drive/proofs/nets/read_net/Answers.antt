@@ -17,7 +17,7 @@ made : (h g f : List ℕ) {sizes counts words own : List ℕ} {s k m : Option �
     Stored (replicate node_slots 0) counts k (numbers_of g) → Stored (replicate word_slots 0) words m (numbers_of f) → s ≡ Some a → a ≡ 3 → k ≡ Some b → m ≡ Some d →
     own ≡ counts →
     ◌≡◌ {A = Option Network} (Some (record { inputs = get_or sizes 0 0; outputs = get_or sizes 1 0; divisors = get_or sizes 2 0; counts = own; words = words }))
-        (given_of h g f)
+    (given_of h g f)
 made h g f x y z p e q r o =
     rw (counted 3 h x (p ∙ ap Some e), counted node_slots g y q, counted word_slots f z r)
     (λ i. Some (record {
@@ -32,9 +32,9 @@ pub returns : goal.returns
 returns c =
     let m = c.map.ensures.items in
     let own : c.map.result ≡ c.numbers-2.new.pool =
-        ext_get_or 0 _ _ (search rules) (λ i h. let k = (m.at i 0 0 (omega arith)).2 in search (rules, k)) in
+    ext_get_or 0 _ _ (search rules) (λ i h. let k = (m.at i 0 0 (omega arith)).2 in search (rules, k)) in
     let read = made _ _ _ c.numbers.ensures.stored c.numbers-2.ensures.stored c.numbers-3.ensures.stored c.in_ok-numbers.was c.if-branch-ne3.false
-        c.in_ok-numbers-2.was c.in_ok-numbers-3.was own in
+    c.in_ok-numbers-2.was c.in_ok-numbers-3.was own in
     let second = c.head-2.ensures ∙ ap first_group c.tail-after.ensures in
     let third = c.head-3.ensures ∙ ap first_group (c.tail.ensures ∙ ap after_group c.tail-after.ensures) in
     read ∙ (λ i. given_of (c.head.ensures i) (second i) (third i))
