@@ -1,8 +1,7 @@
 -- The part of a long line that is shown has the place of the caret. Assumes nothing.
-use Rattle.std.proofs.Common.{◌≡◌, ℕ, ◌+◌, ◌-◌, ◌<◌, ◌≤◌, min, ap, ◌∙◌, ap₂, arith, eq-eqb, ne_eqb, le-leb}
-use borrow.Author.Tests.{lt-leb}
+use Rattle.std.proofs.Common.{◌≡◌, ℕ, ◌+◌, ◌-◌, ◌≤◌, min, ap, arith}
 use Rattle.table_lines.specs.declared.Span.{Span}
-use Rattle.spindle.specs.Shown.{shown_byte, under_byte, most_shown, most_before, window_of, Shows}
+use Rattle.spindle.specs.Shown.{most_shown, most_before, window_of, Shows}
 
 -- ---- the part
 

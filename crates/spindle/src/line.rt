@@ -100,7 +100,10 @@ pub fn refuse(out: Stdout, number: u32) {
 
 // `refused 2 at line 3 column 7`.
 pub fn refuse_table(out: Stdout, q: Refusal) {
-    let _ = println!(out; "refused {} at line {} column {}", q.number, q.line, q.column);
+    let _ = println!(out;
+        "refused {} at line {} column {}",
+        q.number, q.line, q.column
+    );
 }
 
 // ---- complaints: each of these writes to standard error

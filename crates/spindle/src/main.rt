@@ -203,10 +203,7 @@ impl Job<'_> {
     // The network of an image; where the file might have been meant as a table, a refusal says what it was taken for.
     fn imaged(&self, bytes: &[u8]) -> Option<Network> {
         let read = handed(self.rt, &image_read::read(bytes));
-        let takes_both = matches!(
-            self.command,
-            Command::Blif | Command::BlifTo | Command::Map
-        );
+        let takes_both = matches!(self.command, Command::Blif | Command::BlifTo | Command::Map);
         if read.is_none() && takes_both {
             line::complain(
                 self.rt.stderr(),

@@ -46,7 +46,9 @@ fn print_heading(out: Stdout, n: &Network) {
     print_range(out, 'x', 0, n.inputs, "the inputs");
     print_range(out, 'x', n.inputs, n.divisors, "the shared conditions");
     print_range(out, 'y', 0, n.outputs, "the orchards");
-    let _ = println!(out; "  x0'         x0 is off\n  *  +        and, or\n  0  1        never, always");
+    let _ = println!(out;
+        "  x0'         x0 is off\n  *  +        and, or\n  0  1        never, always"
+    );
 }
 
 // ---- the inputs
@@ -91,7 +93,9 @@ fn print_inputs(out: Stdout, text: &[u8], inputs: usize) {
             print_input(out, text, i);
         }
     } else {
-        let _ = println!(out; "  no names: a table gives them in comment lines, as\n  # x0 tank high");
+        let _ = println!(out;
+            "  no names: a table gives them in comment lines, as\n  # x0 tank high"
+        );
     }
 }
 
@@ -175,7 +179,9 @@ fn print_lists(out: Stdout, n: &Network) {
 pub fn map(out: Stdout, n: &Network, text: &[u8]) {
     print_heading(out, n);
     if n.divisors > 0 && !text.is_empty() {
-        let _ = println!(out; "  The conditions are numbered as in the report; an image numbers them anew.");
+        let _ = println!(out;
+            "  The conditions are numbered as in the report; an image numbers them anew."
+        );
     }
     print_inputs(out, text, n.inputs);
     print_lists(out, n);

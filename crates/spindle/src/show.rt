@@ -30,7 +30,13 @@ fn print_node(out: Stdout, n: &Network, i: usize) {
 
 // The counts, then a line for each divisor and each output.
 pub fn show(out: Stdout, n: &Network) {
-    let _ = println!(out; "inputs {} outputs {} divisors {} literals {}", n.inputs, n.outputs, n.divisors, form::literals(n));
+    let _ = println!(out;
+        "inputs {} outputs {} divisors {} literals {}",
+        n.inputs,
+        n.outputs,
+        n.divisors,
+        form::literals(n)
+    );
     for i in 0..n.divisors {
         print_node(out, n, n.outputs.wrapping_add(i));
     }
@@ -54,7 +60,10 @@ fn print_answers(out: Stdout, outputs: usize, answer: u64) {
 // The answer on a setting; how many characters one needs, to standard error, where the word is none.
 pub fn ask(rt: HostRuntime, n: &Network, word: &[u8]) {
     let Setting::Is(setting) = table_rows::setting_of(word, n.inputs) else {
-        let _ = eprintln!(rt; "spindle: the setting needs {} characters, each 0 or 1, input 0 first", n.inputs);
+        let _ = eprintln!(rt;
+            "spindle: the setting needs {} characters, each 0 or 1, input 0 first",
+            n.inputs
+        );
         return;
     };
     match network_evaluate::evaluate(*n, setting) {
