@@ -1,5 +1,5 @@
 -- The words of a text from a place on: the first ends at the first blank, and the others are those of what follows it. Assumes nothing.
-use Prim.Native.Nat.{ℕ, suc, ◌+◌, ◌-◌, ◌<◌, ◌≤◌}
+use Prim.Native.Nat.{ℕ, suc, ◌+◌, ◌<◌, ◌≤◌}
 use mathlib.Core.Path.{◌≡◌, refl, sym, ap, ◌∙◌}
 use mathlib.Core.Bool.{Bool, true, false, cond, not, ◌&&◌}
 use Rattle.std.proofs.lemmas.Grind.{common_steps}
@@ -9,9 +9,8 @@ use mathlib.Core.List.{List, [], ◌∷◌}
 use mathlib.Core.Logic.{inl, inr}
 use native.Mathlib.Omega.{arith}
 use lib.Dec.{eqb, ltb}
-use lib.ListN.{length, get_or, take, drop, length-drop, drop_of_length-le}
-use lib.Seq.{drop-drop, length-take-le, take-nil, drop-length}
-use borrow.Author.Tests.{ltb-true, ltb-false, eq-eqb, ne_eqb, not-true, not-false}
+use lib.ListN.{length, get_or, take, drop, drop_of_length-le}
+use borrow.Author.Tests.{ltb-false, eq-eqb, ne_eqb, not-true, not-false}
 use Rattle.sets.{specs.Lists.any, specs.Lists.total, proofs.Truth.decided, proofs.Places.drop-next}
 use Rattle.drive_request.specs.Words.{index_of, index_after, onto, words_of, is_part, ahead, ends_blank, filled, parts_in, groups_of}
 

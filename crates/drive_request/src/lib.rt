@@ -163,6 +163,7 @@ pub fn numbers(text: &[u8], pool: &mut [u64]) -> Option<usize>
         if n >= pool.len() {
             return None;
         }
+        // By index: of a place that an iterator lends it is not known what is written.
         pool[n] = v;
         n += 1;
     }
@@ -184,6 +185,7 @@ fn pairs(word: &[u8], room: &mut [u8]) -> Option<usize>
         if n >= room.len() {
             return None;
         }
+        // By index, as in `numbers`.
         room[n] = 16 * high + low;
         n += 1;
     }

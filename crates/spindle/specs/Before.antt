@@ -1,5 +1,5 @@
 -- What the lines before a line of a table have told.
-use Rattle.std.specs.Prelude.{◌≡◌, ℕ, ◌+◌, ◌-◌, ◌≤◌, List, [], ◌∷◌, length, take, drop, slice_index_or}
+use Rattle.std.specs.Prelude.{◌≡◌, ℕ, ◌+◌, ◌-◌, ◌≤◌, List, [], ◌∷◌, length, take, drop, slice_index_or, Some, None}
 use Rattle.table_lines.specs.Text.{line_of, lines_of, content}
 use Rattle.table_kinds.specs.{Kinds.kind_of, declared.Kind.Kind}
 use Rattle.table_kinds.specs.declared.Kind.TheVariants.{Empty, Inputs, Outputs, Products, End, Other}
@@ -10,14 +10,14 @@ abbrev pub most_lines : ℕ
 most_lines = 4294967295
 
 abbrev pub unseen : Seen
-unseen = record { inputs = 0; outputs = 0; stated = 0; cubes = 0 }
+unseen = record { inputs = None; outputs = None; stated = None; cubes = 0 }
 
 -- a line of a kind more
 unfoldable pub by_kind : Seen → Kind → Seen
 by_kind s Empty = s
-by_kind s (Inputs n) = record { inputs = n; outputs = s.outputs; stated = s.stated; cubes = s.cubes }
-by_kind s (Outputs n) = record { inputs = s.inputs; outputs = n; stated = s.stated; cubes = s.cubes }
-by_kind s (Products n) = record { inputs = s.inputs; outputs = s.outputs; stated = n + 1; cubes = s.cubes }
+by_kind s (Inputs n) = record { inputs = Some n; outputs = s.outputs; stated = s.stated; cubes = s.cubes }
+by_kind s (Outputs n) = record { inputs = s.inputs; outputs = Some n; stated = s.stated; cubes = s.cubes }
+by_kind s (Products n) = record { inputs = s.inputs; outputs = s.outputs; stated = Some n; cubes = s.cubes }
 by_kind s End = s
 by_kind s Other = record { inputs = s.inputs; outputs = s.outputs; stated = s.stated; cubes = s.cubes + 1 }
 

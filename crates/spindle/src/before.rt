@@ -5,12 +5,12 @@ ghost use Rattle.spindle.specs.Before.{most_lines, by_kind, after, Reaches};
 
 use table_kinds::Kind;
 
-// The numbers of inputs and outputs, 0 while missing; one more than the number of `.p`, 0 while missing; the cube lines.
+// The numbers of inputs and outputs, and that of `.p`, where they have been told; the cube lines.
 #[derive(Clone, Copy)]
 pub struct Seen {
-    pub inputs: u32,
-    pub outputs: u32,
-    pub stated: u64,
+    pub inputs: Option<u32>,
+    pub outputs: Option<u32>,
+    pub stated: Option<u32>,
     pub cubes: u32,
 }
 
@@ -25,9 +25,7 @@ pub fn content(l: &[u8]) -> &[u8]
     ensures { result.now ≡ content l.now }
 {
     let span = table_lines::content_of(l);
-    let start = span.start;
-    let end = span.end;
-    &l[start..end]
+    &l[span.start..span.end]
 }
 
 // A line of a kind more.
@@ -35,16 +33,25 @@ fn by_kind(s: Seen, kind: Kind) -> Seen
     requires { s.cubes < most_lines }
     ensures { result ≡ by_kind s kind }
 {
-    let mut t = s;
     match kind {
-        Kind::Inputs(n) => t.inputs = n,
-        Kind::Outputs(n) => t.outputs = n,
-        Kind::Products(n) => t.stated = n as u64 + 1,
-        Kind::Other => t.cubes = s.cubes + 1,
-        Kind::Empty => {}
-        Kind::End => {}
+        Kind::Inputs(n) => Seen {
+            inputs: Some(n),
+            ..s
+        },
+        Kind::Outputs(n) => Seen {
+            outputs: Some(n),
+            ..s
+        },
+        Kind::Products(n) => Seen {
+            stated: Some(n),
+            ..s
+        },
+        Kind::Other => Seen {
+            cubes: s.cubes + 1,
+            ..s
+        },
+        Kind::Empty | Kind::End => s,
     }
-    t
 }
 
 // A line more.
@@ -60,14 +67,13 @@ pub fn reach(text: &[u8], line: u32) -> Reached
     ensures { Reaches text.now line result }
 {
     let mut seen = Seen {
-        inputs: 0,
-        outputs: 0,
-        stated: 0,
+        inputs: None,
+        outputs: None,
+        stated: None,
         cubes: 0,
     };
     let mut at = 0;
-    let mut i: u32 = 1;
-    while i < line {
+    for _i in 1..line {
         let e = table_lines::line_end(text, at);
         seen = after(seen, &text[at..e]);
         if e >= text.len() {
@@ -77,7 +83,6 @@ pub fn reach(text: &[u8], line: u32) -> Reached
             };
         }
         at = e + 1;
-        i += 1;
     }
     Reached { at, seen }
 }

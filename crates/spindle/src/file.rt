@@ -1,5 +1,5 @@
 // Files: read whole, and replaced whole.
-ghost use Rattle.std.specs.Prelude.{◌≤◌, length};
+ghost use Rattle.std.specs.Prelude.{◌≤◌, length, IfSome};
 
 use crate::line::{complain, fail};
 use std::fs;
@@ -17,18 +17,12 @@ const EILSEQ: i32 = 84;
 
 // ---- reading
 
-// Whether the file was read, and how many bytes came.
-#[derive(Clone, Copy)]
-pub struct Got {
-    pub ok: bool,
-    pub count: usize,
-}
-
 // Reads until the room is full, the input ends or a read fails; how many bytes came.
 fn read_full<R: Read>(input: &mut R, room: &mut [u8]) -> usize
     ensures { result ≤ length room.old }
 {
     let mut done = 0;
+    // By hand: a read takes as many places as it will.
     while done < room.len() {
         match input.read(&mut room[done..]) {
             Ok(n) if n > 0 => done += n,
@@ -44,7 +38,7 @@ fn is_ended<R: Read>(rt: HostRuntime, input: &mut R, path: &[u8]) -> bool {
     match input.read(&mut one) {
         Ok(0) => true,
         Ok(_) => {
-            complain(rt.stderr(), path, b": more came after its end");
+            complain(rt.stderr(), path, ": more came after its end");
             false
         }
         Err(e) => {
@@ -54,31 +48,25 @@ fn is_ended<R: Read>(rt: HostRuntime, input: &mut R, path: &[u8]) -> bool {
     }
 }
 
-// What is left of an open file to the front of the room, as much as it has places for.
-pub fn fill<R: Read>(rt: HostRuntime, input: &mut R, path: &[u8], room: &mut [u8]) -> Got
-    ensures { result.count ≤ length room.old }
+// What is left of an open file to the front of the room, as much as it has places for: how many bytes came. A failure is said.
+pub fn fill<R: Read>(rt: HostRuntime, input: &mut R, path: &[u8], room: &mut [u8]) -> Option<usize>
+    ensures { IfSome result (λ n. n ≤ length room.old) }
 {
     let count = read_full(input, room);
-    if count == room.len() {
-        return Got { ok: true, count };
+    if count == room.len() || is_ended(rt, input, path) {
+        Some(count)
+    } else {
+        None
     }
-    let ok = is_ended(rt, input, path);
-    Got { ok, count }
 }
 
 // The path as std takes it: text.
 fn text_of(path: &[u8]) -> Result<&str> {
-    match str::from_utf8(path) {
-        Ok(text) => Ok(text),
-        Err(_) => Err(Error::from_raw_os_error(EILSEQ)),
-    }
+    str::from_utf8(path).map_err(|_| Error::from_raw_os_error(EILSEQ))
 }
 
 fn open_by(rt: HostRuntime, path: &[u8], how: OpenOptions) -> Result<File> {
-    match text_of(path) {
-        Ok(text) => how.open(&rt, text),
-        Err(e) => Err(e),
-    }
+    how.open(&rt, text_of(path)?)
 }
 
 fn open_read(rt: HostRuntime, path: &[u8]) -> Result<File> {
@@ -104,28 +92,23 @@ fn is_link(rt: HostRuntime, path: &[u8]) -> bool {
     let Ok(text) = text_of(path) else {
         return false;
     };
-    match fs::symlink_metadata(&rt, text) {
-        Ok(m) => m.is_symlink(),
-        Err(_) => false,
-    }
+    fs::symlink_metadata(&rt, text).is_ok_and(|m| m.is_symlink())
 }
 
 // Only a regular file can be cut to a length, here to its own.
-fn is_regular(mut f: &File) -> bool {
-    match f.seek(SeekFrom::End(0)) {
-        Ok(length) => f.set_len(length).is_ok(),
-        Err(_) => false,
-    }
+fn cut_to_its_own(mut f: &File) -> Result<()> {
+    let length = f.seek(SeekFrom::End(0))?;
+    f.set_len(length)
 }
 
 // Whether the open file, which is closed, is regular; if it is not, that is said.
 fn is_file(rt: HostRuntime, f: File, path: &[u8]) -> bool {
-    let regular = is_regular(&f);
+    let regular = cut_to_its_own(&f).is_ok();
     if !regular {
         complain(
             rt.stderr(),
             path,
-            b": is no regular file, and is left as it is",
+            ": is no regular file, and is left as it is",
         );
     }
     regular
@@ -137,32 +120,24 @@ fn open_update(rt: HostRuntime, path: &[u8]) -> Result<File> {
     open_by(rt, path, how)
 }
 
-// Whether nothing stands there.
-fn is_missing(e: Error) -> bool {
-    match e.kind() {
-        ErrorKind::NotFound => true,
-        _ => false,
-    }
-}
-
 // Whether nothing stands there, or a regular file that may be written; if not, that is said.
 fn is_free(rt: HostRuntime, path: &[u8]) -> bool {
     if is_link(rt, path) {
         complain(
             rt.stderr(),
             path,
-            b": is a link; name the file that it leads to",
+            ": is a link; name the file that it leads to",
         );
         return false;
     }
     match open_update(rt, path) {
         Ok(f) => is_file(rt, f, path),
         Err(e) => {
-            if is_missing(e) {
-                return true;
+            let missing = e.kind() == ErrorKind::NotFound;
+            if !missing {
+                fail(rt.stderr(), path, e);
             }
-            fail(rt.stderr(), path, e);
-            false
+            missing
         }
     }
 }
@@ -170,17 +145,9 @@ fn is_free(rt: HostRuntime, path: &[u8]) -> bool {
 // ---- writing
 
 // All bytes to the open file, which is closed.
-fn store(rt: HostRuntime, f: File, new: &[u8], bytes: &[u8]) -> bool {
-    let mut file = f;
-    if let Err(e) = file.write_all(bytes) {
-        fail(rt.stderr(), new, e);
-        return false;
-    }
-    if let Err(e) = file.sync_all() {
-        fail(rt.stderr(), new, e);
-        return false;
-    }
-    true
+fn store(mut file: File, bytes: &[u8]) -> Result<()> {
+    file.write_all(bytes)?;
+    file.sync_all()
 }
 
 // The new file could not be made: why, and what to do where one is there.
@@ -189,7 +156,7 @@ fn fail_new(rt: HostRuntime, new: &[u8], e: Error) {
         ErrorKind::AlreadyExists => complain(
             rt.stderr(),
             new,
-            b": is there, left by a run that was cut short: remove it, and try again",
+            ": is there, left by a run that was cut short: remove it, and try again",
         ),
         _ => fail(rt.stderr(), new, e),
     }
@@ -209,11 +176,7 @@ fn remove(rt: HostRuntime, path: &[u8]) {
 }
 
 fn rename(rt: HostRuntime, from: &[u8], to: &[u8]) -> Result<()> {
-    match (text_of(from), text_of(to)) {
-        (Ok(a), Ok(b)) => fs::rename(&rt, a, b),
-        (Err(e), _) => Err(e),
-        (_, Err(e)) => Err(e),
-    }
+    fs::rename(&rt, text_of(from)?, text_of(to)?)
 }
 
 // The new file is made by this run alone, so it may be removed again.
@@ -225,7 +188,8 @@ fn replace_by(rt: HostRuntime, new: &[u8], path: &[u8], bytes: &[u8]) -> bool {
             return false;
         }
     };
-    if !store(rt, f, new, bytes) {
+    if let Err(e) = store(f, bytes) {
+        fail(rt.stderr(), new, e);
         remove(rt, new);
         return false;
     }
@@ -243,11 +207,8 @@ pub fn replace(rt: HostRuntime, path: &[u8], bytes: &[u8]) -> bool {
     let at = letters::put_bytes(&mut new, 0, path);
     let n = letters::put_bytes(&mut new, at, b".new");
     if n > NEW_PATH {
-        complain(rt.stderr(), path, b": the name is too long");
+        complain(rt.stderr(), path, ": the name is too long");
         return false;
     }
-    if is_free(rt, path) {
-        return replace_by(rt, &new[0..n], path, bytes);
-    }
-    false
+    is_free(rt, path) && replace_by(rt, &new[..n], path, bytes)
 }

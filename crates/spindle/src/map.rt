@@ -1,10 +1,11 @@
 // The dispatcher's map of a network: the inputs, the shared conditions and the orchards, in columns for paper.
+use crate::line::{Line, Things};
 use crate::node::Name;
-use crate::{form, line, node};
+use crate::{form, node};
 use network::{MOST_OUTPUTS, MOST_VARIABLES, Network};
 use network_map::CELL_SLOTS;
+use std::fmt::Write;
 use std::io::Stdout;
-use std::num;
 
 // The columns of the names and of what they stand for.
 const NAMES: usize = 2;
@@ -15,288 +16,173 @@ const MEANING: usize = 14;
 
 // ---- the heading
 
-// A comma, and how many things.
-fn put_more(out: Stdout, x: u64, thing: &[u8]) {
-    line::put_things(out, line::put(out, 0, b", "), x, thing);
-}
-
 // `MAP: 15 inputs, 6 shared conditions, 19 orchards, 80 literals`
-fn print_counts(out: Stdout, n: Network) {
-    line::put(out, 0, b"MAP: ");
-    line::put_things(out, 0, n.inputs as u64, b" input");
-    put_more(out, n.divisors as u64, b" shared condition");
-    put_more(out, n.outputs as u64, b" orchard");
-    put_more(out, form::literals(n), b" literal");
-    line::print(out, b"\n");
+fn print_counts(out: Stdout, n: &Network) {
+    let inputs = Things(n.inputs as u64, "input");
+    let divisors = Things(n.divisors as u64, "shared condition");
+    let outputs = Things(n.outputs as u64, "orchard");
+    let literals = Things(form::literals(n), "literal");
+    let _ = println!(out; "MAP: {inputs}, {divisors}, {outputs}, {literals}\n");
 }
 
-// A name in its column.
-fn put_first(out: Stdout, letter: u8, i: usize) -> usize {
-    let at = line::pad(out, 0, NAMES);
-    line::put_name(out, at, letter, i)
-}
-
-fn put_last(out: Stdout, at: usize, letter: u8, i: usize) -> usize {
-    let next = line::put(out, at, b" to ");
-    line::put_name(out, next, letter, i)
-}
-
-// `x0 to x14`, or `x0` where there is one.
-fn put_names(out: Stdout, letter: u8, from: usize, count: usize) -> usize {
-    let at = put_first(out, letter, from);
-    if count < 2 {
-        return at;
-    }
-    put_last(out, at, letter, num::wrapping_add_usize(from, count - 1))
-}
-
-// The line ends with the text in its column.
-fn end_column(out: Stdout, at: usize, to: usize, text: &[u8]) {
-    line::column(out, at, to);
-    line::print(out, text);
-}
-
-// `x0 to x14   the inputs`, where there are any.
-fn print_range(out: Stdout, letter: u8, from: usize, count: usize, word: &[u8]) {
+// `x0 to x14   the inputs`, or `x0` where there is one, or nothing where there is none.
+fn print_range(out: Stdout, letter: char, from: usize, count: usize, word: &str) {
     if count == 0 {
         return;
     }
-    end_column(out, put_names(out, letter, from, count), MEANING, word);
-}
-
-fn print_ranges(out: Stdout, inputs: usize, divisors: usize, outputs: usize) {
-    print_range(out, b'x', 0, inputs, b"the inputs");
-    print_range(out, b'x', inputs, divisors, b"the shared conditions");
-    print_range(out, b'y', 0, outputs, b"the orchards");
+    let mut line = Line::new(out);
+    line.pad(NAMES);
+    let _ = write!(line, "{letter}{from}");
+    if count > 1 {
+        let _ = write!(line, " to {letter}{}", from.wrapping_add(count - 1));
+    }
+    line.column(MEANING);
+    let _ = writeln!(line, "{word}");
 }
 
 // What the names and the signs mean.
-fn print_heading(out: Stdout, n: Network) {
+fn print_heading(out: Stdout, n: &Network) {
     print_counts(out, n);
-    print_ranges(out, n.inputs, n.divisors, n.outputs);
-    line::print(
-        out,
-        b"  x0'         x0 is off\n  *  +        and, or\n  0  1        never, always",
-    );
-}
-
-// A table's conditions have the numbers of its steps; those of an image stand in the image's own order.
-fn print_numbering(out: Stdout, divisors: usize, length: usize) {
-    if divisors == 0 {
-        return;
-    }
-    if length == 0 {
-        return;
-    }
-    line::print(
-        out,
-        b"  The conditions are numbered as in the report; an image numbers them anew.",
+    print_range(out, 'x', 0, n.inputs, "the inputs");
+    print_range(out, 'x', n.inputs, n.divisors, "the shared conditions");
+    print_range(out, 'y', 0, n.outputs, "the orchards");
+    let _ = println!(out;
+        "  x0'         x0 is off\n  *  +        and, or\n  0  1        never, always"
     );
 }
 
 // ---- the inputs
 
 // A name, and blanks up to the text's column.
-fn put_name(out: Stdout, letter: u8, i: usize) -> usize {
-    line::column(out, put_first(out, letter, i), TEXT)
+fn begin(out: Stdout, name: Name) -> Line {
+    let mut line = Line::new(out);
+    line.pad(NAMES);
+    let _ = write!(line, "{name}");
+    line.column(TEXT);
+    line
 }
 
 // A byte that moves the pen is a blank on paper.
 fn plain(b: u8) -> u8 {
-    if b < 32 || b == 127 {
-        return b' ';
-    }
-    b
+    if b.is_ascii_control() { b' ' } else { b }
 }
 
-fn put_plain(out: Stdout, name: &[u8]) {
-    let mut i = 0;
-    while i < name.len() {
-        line::put_byte(out, 0, plain(name[i]));
-        i += 1;
-    }
-}
-
-// The name, or `-` where there is none, ends its line.
-fn print_name(out: Stdout, name: &[u8]) {
-    if name.len() == 0 {
-        line::print(out, b"-");
-        return;
-    }
-    put_plain(out, name);
-    line::new(out);
-}
-
+// Input i and its name in the text, or `-` where there is none.
 fn print_input(out: Stdout, text: &[u8], i: usize) {
-    put_name(out, b'x', i);
-    print_name(out, table_names::name_of(text, i));
-}
-
-fn print_each_input(out: Stdout, text: &[u8], inputs: usize) {
-    let mut i = 0;
-    while i < inputs {
-        print_input(out, text, i);
-        i += 1;
+    let mut line = begin(
+        out,
+        Name {
+            letter: b'x',
+            number: i,
+        },
+    );
+    let name = table_names::name_of(text, i);
+    if name.is_empty() {
+        line.text(b"-");
     }
-}
-
-// Whether the text names one of the inputs.
-fn is_any(text: &[u8], inputs: usize) -> bool {
-    let mut i = 0;
-    while i < inputs {
-        if table_names::name_of(text, i).len() > 0 {
-            return true;
-        }
-        i += 1;
+    for b in name {
+        line.text(&[plain(*b)]);
     }
-    false
+    line.end();
 }
 
 fn print_inputs(out: Stdout, text: &[u8], inputs: usize) {
-    line::print(out, b"\nINPUTS");
-    if is_any(text, inputs) {
-        print_each_input(out, text, inputs);
-        return;
+    let _ = println!(out; "\nINPUTS");
+    if (0..inputs).any(|i| !table_names::name_of(text, i).is_empty()) {
+        for i in 0..inputs {
+            print_input(out, text, i);
+        }
+    } else {
+        let _ = println!(out;
+            "  no names: a table gives them in comment lines, as\n  # x0 tank high"
+        );
     }
-    line::print(
-        out,
-        b"  no names: a table gives them in comment lines, as\n  # x0 tank high",
-    );
 }
 
 // ---- the lists
 
 // The name of a section, and what stands in its last column.
-fn print_title(out: Stdout, title: &[u8], list: &[u8], wide: usize) {
-    line::new(out);
-    end_column(out, line::put(out, 0, title), wide, list);
-}
-
-// A blank after what the list has.
-fn put_gap(out: Stdout, at: usize) -> usize {
-    if at == 0 {
-        return 0;
-    }
-    line::pad(out, 0, 1)
-}
-
-// A name in a list, where it is to be there.
-fn put_item(out: Stdout, at: usize, is_in: bool, letter: u8, i: usize) -> usize {
-    if is_in {
-        return line::put_name(out, put_gap(out, at), letter, i);
-    }
-    at
+fn print_title(out: Stdout, title: &str, list: &str, wide: usize) {
+    let mut line = Line::new(out);
+    line.end();
+    line.text(title.as_bytes());
+    line.column(wide);
+    let _ = writeln!(line, "{list}");
 }
 
 // Whether output j hangs on the variable v.
 fn hangs(cells: &[bool; CELL_SLOTS], j: usize, v: usize) -> bool {
-    if j >= MOST_OUTPUTS {
-        return false;
-    }
-    if v >= MOST_VARIABLES {
-        return false;
-    }
-    cells[j * MOST_VARIABLES + v]
+    j < MOST_OUTPUTS && v < MOST_VARIABLES && cells[j * MOST_VARIABLES + v]
 }
 
-// The list ends its line; an empty one says so.
-fn end_list(out: Stdout, at: usize) {
-    if at == 0 {
-        line::print(out, b"none");
-        return;
+// The conditions that an orchard hangs on, or the orchards that hang on a condition; `none` where there is none.
+fn put_list(line: &mut Line, cells: &[bool; CELL_SLOTS], name: Name) {
+    let orchard = name.letter == b'y';
+    let (letter, most) = if orchard {
+        ('x', MOST_VARIABLES)
+    } else {
+        ('y', MOST_OUTPUTS)
+    };
+    let mut gap = "";
+    for i in 0..most {
+        let listed = if orchard {
+            hangs(cells, name.number, i)
+        } else {
+            hangs(cells, i, name.number)
+        };
+        if listed {
+            let _ = write!(line, "{gap}{letter}{i}");
+            gap = " ";
+        }
     }
-    line::new(out);
-}
-
-// Whether the node named hangs together with number i of the others.
-fn is_listed(cells: &[bool; CELL_SLOTS], name: Name, i: usize) -> bool {
-    if name.letter == b'y' {
-        return hangs(cells, name.number, i);
+    if gap.is_empty() {
+        line.text(b"none");
     }
-    hangs(cells, i, name.number)
-}
-
-fn put_list(out: Stdout, cells: &[bool; CELL_SLOTS], name: Name, letter: u8, most: usize) -> usize {
-    let mut at = 0;
-    let mut i = 0;
-    while i < most {
-        at = put_item(out, at, is_listed(cells, name, i), letter, i);
-        i += 1;
-    }
-    at
-}
-
-// The conditions that an orchard hangs on, or the orchards that hang on a condition.
-fn put_others(out: Stdout, cells: &[bool; CELL_SLOTS], name: Name) -> usize {
-    if name.letter == b'y' {
-        return put_list(out, cells, name, b'x', MOST_VARIABLES);
-    }
-    put_list(out, cells, name, b'y', MOST_OUTPUTS)
 }
 
 // The name and the text of node i, up to the last column, and its list.
-fn print_node(out: Stdout, n: Network, i: usize, cells: &[bool; CELL_SLOTS], wide: usize) {
+fn print_node(out: Stdout, n: &Network, i: usize, cells: &[bool; CELL_SLOTS], wide: usize) {
     let name = node::name_of(n, i);
-    let at = put_name(out, name.letter, name.number);
-    line::column(out, form::put_text(out, at, n, i), wide);
-    end_list(out, put_others(out, cells, name));
+    let mut line = begin(out, name);
+    form::put_text(&mut line, n, i);
+    line.column(wide);
+    put_list(&mut line, cells, name);
+    line.end();
 }
 
-// So many nodes from one on.
-fn print_nodes(
-    out: Stdout,
-    n: Network,
-    from: usize,
-    count: usize,
-    cells: &[bool; CELL_SLOTS],
-    wide: usize,
-) {
-    let mut i = 0;
-    while i < count {
-        print_node(out, n, num::wrapping_add_usize(from, i), cells, wide);
-        i += 1;
+fn print_lists(out: Stdout, n: &Network) {
+    let wide = TEXT + node::widest(n) + 3;
+    let cells = network_map::cells(*n);
+    if n.divisors == 0 {
+        let _ = println!(out; "\nCONDITIONS\n  none is shared");
+    } else {
+        print_title(out, "CONDITIONS", "the orchards that hang on it", wide);
     }
-}
-
-// ---- the titles
-
-fn print_conditions(out: Stdout, divisors: usize, wide: usize) {
-    if divisors == 0 {
-        line::print(out, b"\nCONDITIONS\n  none is shared");
-        return;
+    for i in 0..n.divisors {
+        print_node(out, n, n.outputs.wrapping_add(i), &cells, wide);
     }
-    print_title(out, b"CONDITIONS", b"the orchards that hang on it", wide);
-}
-
-fn print_orchards(out: Stdout, wide: usize) {
     print_title(
         out,
-        b"ORCHARDS",
-        b"the conditions it hangs on, directly and through others",
+        "ORCHARDS",
+        "the conditions it hangs on, directly and through others",
         wide,
     );
+    for j in 0..n.outputs {
+        print_node(out, n, j, &cells, wide);
+    }
 }
 
 // ---- the whole
 
-// The column of the lists.
-fn list_column(n: Network) -> usize {
-    TEXT + node::widest(n) + 3
-}
-
-fn print_lists(out: Stdout, n: Network) {
-    let wide = list_column(n);
-    let cells = network_map::cells(n);
-    print_conditions(out, n.divisors, wide);
-    print_nodes(out, n, n.outputs, n.divisors, &cells, wide);
-    print_orchards(out, wide);
-    print_nodes(out, n, 0, n.outputs, &cells, wide);
-}
-
-// The map of the network; the text of its table, or nothing for an image, may name the inputs.
-pub fn map(out: Stdout, n: Network, text: &[u8]) {
+// The map of the network; the text of its table, or nothing for an image, may name the inputs. A table's conditions have the numbers of
+// its steps; those of an image stand in the image's own order.
+pub fn map(out: Stdout, n: &Network, text: &[u8]) {
     print_heading(out, n);
-    print_numbering(out, n.divisors, text.len());
+    if n.divisors > 0 && !text.is_empty() {
+        let _ = println!(out;
+            "  The conditions are numbered as in the report; an image numbers them anew."
+        );
+    }
     print_inputs(out, text, n.inputs);
     print_lists(out, n);
 }

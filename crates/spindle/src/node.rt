@@ -1,5 +1,5 @@
 // The nodes of a network for printing: the name, the literals and the length of each.
-ghost use Rattle.std.specs.Prelude.{◌≡◌, ◌+◌, ◌%◌, ◌^◌, ◌≤◌, max, [], slice_index_or};
+ghost use Rattle.std.specs.Prelude.{◌≡◌, ◌+◌, ◌%◌, ◌^◌, ◌≤◌, [], slice_index_or};
 ghost use Rattle.expression.specs.Words.{cubes_of};
 ghost use Rattle.expression.specs.Expression.{literals_of};
 ghost use Rattle.expression.specs.Answers.{capped};
@@ -8,7 +8,8 @@ ghost use Rattle.spindle.specs.Node.{longest, name_of, length_in, length_at, wid
 
 use letters::Wrote;
 use network::Network;
-use std::num;
+use std::fmt;
+use std::fmt::{Display, Formatter};
 
 // The longest text that widens a column.
 const MOST_COLUMN: usize = 40;
@@ -20,29 +21,35 @@ pub struct Name {
     pub number: usize,
 }
 
+impl Display for Name {
+    fn fmt<W: fmt::Write>(&self, f: &mut Formatter<W>) -> fmt::Result {
+        let Name { letter, number } = *self;
+        write!(f, "{}{number}", char::from(letter))
+    }
+}
+
 // Outputs come first, by `y`; divisors follow, by `x`, numbered on from the inputs.
-pub fn name_of(n: Network, i: usize) -> Name
-    ensures { result ≡ name_of n i }
+pub fn name_of(n: &Network, i: usize) -> Name
+    ensures { result ≡ name_of n.now i }
 {
     if i < n.outputs {
-        return Name {
+        Name {
             letter: b'y',
             number: i,
-        };
-    }
-    Name {
-        letter: b'x',
-        number: network::number_of(n.inputs, i - n.outputs),
+        }
+    } else {
+        Name {
+            letter: b'x',
+            number: network::number_of(n.inputs, i - n.outputs),
+        }
     }
 }
 
 // The literals of node i.
-pub fn literals(n: Network, i: usize) -> u64
-    ensures { result ≡ capped (literals_of (slice_index_or (cut n.counts (cubes_of n.words)) i [])) }
+pub fn literals(n: &Network, i: usize) -> u64
+    ensures { result ≡ capped (literals_of (slice_index_or (cut n.now.counts (cubes_of n.now.words)) i [])) }
 {
-    let words = n.words;
-    let counts = n.counts;
-    expression_survey::literals(network_nodes::node(&words, &counts, i))
+    expression_survey::literals(network_nodes::node(&n.words, &n.counts, i))
 }
 
 // The length of the factored text of f, or 0 where that is too long for a column.
@@ -50,39 +57,26 @@ fn length_of(f: &[u64]) -> usize
     ensures { result ≡ length_in f.now }
 {
     let mut room = [0u8; MOST_COLUMN];
-    let a = factor::factored(f, &mut room);
-    let Wrote::Bytes(n) = a else {
-        return 0;
-    };
-    if n > MOST_COLUMN {
-        return 0;
+    match factor::factored(f, &mut room) {
+        Wrote::Bytes(n) if n <= MOST_COLUMN => n,
+        _ => 0,
     }
-    n
 }
 
-// The greater of a length so far and that of node i.
-fn widened(most: usize, n: Network, i: usize) -> usize
-    ensures { result ≡ max most (length_at n i) }
+// That of node i.
+fn length_at(n: &Network, i: usize) -> usize
+    ensures { result ≡ length_at n.now i }
 {
-    let words = n.words;
-    let counts = n.counts;
-    let k = length_of(network_nodes::node(&words, &counts, i));
-    if most < k {
-        return k;
-    }
-    most
+    length_of(network_nodes::node(&n.words, &n.counts, i))
 }
 
 // The length of the longest text that fits a column.
-pub fn widest(n: Network) -> usize
-    ensures { (result ≡ widest_of n ((n.outputs + n.divisors) % 2 ^ 64)) × (result ≤ longest) }
+pub fn widest(n: &Network) -> usize
+    ensures { (result ≡ widest_of n.now ((n.now.outputs + n.now.divisors) % 2 ^ 64)) × (result ≤ longest) }
 {
-    let nodes = num::wrapping_add_usize(n.outputs, n.divisors);
-    let mut most = 0;
-    let mut i = 0;
-    while i < nodes {
-        most = widened(most, n, i);
-        i += 1;
+    let mut most: usize = 0;
+    for i in 0..n.outputs.wrapping_add(n.divisors) {
+        most = most.max(length_at(n, i));
     }
     most
 }

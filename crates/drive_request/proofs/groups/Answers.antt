@@ -1,7 +1,7 @@
 -- `drive_request::groups` meets its contract: a blank at the end, an empty word, or one group more than lone `;`. Assumes nothing.
 use mathlib.Core.Path.{◌≡◌, refl, sym, ap, ◌∙◌}
-use mathlib.Core.{Bool.Bool, Bool.false, Bool.not, Logic.inl, List.List}
-use Prim.Native.Nat.{ℕ, ◌+◌}
+use mathlib.Core.{Logic.inl, List.List}
+use Prim.Native.Nat.{ℕ}
 use lib.Dec.{eqb}
 use lib.ListN.{length}
 use native.Mathlib.Omega.{arith}
@@ -11,8 +11,8 @@ use Rattle.std.proofs.lemmas.Iterator.Consumers.{YieldsList-from_first, YieldsLi
 use Rattle.std.specs.Iterator.{YieldsFirstRef}
 use Rattle.sets.{proofs.Chains.any-chain}
 use Rattle.drive_request.specs.declared.Words.{Words}
-use Rattle.drive_request.specs.Words.{words_of, is_part, filled}
-use Rattle.drive_request.proofs.Splitting.{ends-last, any-empty, count-parts, words-few, groups-blank, groups-empty, groups-spaced}
+use Rattle.drive_request.specs.Words.{words_of, is_part}
+use Rattle.drive_request.proofs.Splitting.{ends-last, count-parts, words-few, groups-blank, groups-empty, groups-spaced}
 use Rattle.drive_request.proofs.groups.Goals as goal
 use Rattle.drive_request.proofs.groups.Goals.{then-ends_with-via-then-ends_with, then-ends_with-via-else-ends_with+then-any}
 

@@ -1,5 +1,5 @@
 -- The answers of `drive_request::pairs`, whose loop's invariant stands beside. Assumes nothing.
-use mathlib.Core.Path.{◌≡◌, sym, ap, ◌∙◌}
+use mathlib.Core.Path.{◌≡◌, sym, ◌∙◌}
 use native.Mathlib.Omega.{arith}
 use lib.ListN.{length}
 use Rattle.drive_request.proofs.Hexing.{digit_some, digit_none, pairs-odd, pairs-left, pairs-right, pairs-byte, pairs-done}

@@ -1,4 +1,5 @@
 -- `before::by_kind` meets its contract. Assumes nothing.
+use mathlib.Core.Logic.{inl, inr}
 use Rattle.spindle.specs.Before.{by_kind}
 use Rattle.spindle.proofs.before.by_kind.Goals as goal
 
@@ -20,8 +21,4 @@ returns-in-Other c = rw c.in-Other.is
 
 pub returns-in-Empty : goal.returns-in-Empty
 unfolding by_kind
-returns-in-Empty c = rw c.in-Empty.is
-
-pub returns-in-End : goal.returns-in-End
-unfolding by_kind
-returns-in-End c = rw c.in-End.is
+returns-in-Empty c = elim c.in-Empty.is [ inl e ↦ rw e | inr e ↦ rw e ]

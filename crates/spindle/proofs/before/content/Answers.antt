@@ -12,11 +12,5 @@ left c = rw c.content_of-span.ensures (omega arith, span-inside _)
 pub returns : goal.returns
 returns c = rw c.content_of-span.ensures (span-content _)
 
-pub slice_bounds-result-count : goal.slice_bounds-result-count
-slice_bounds-result-count c = (left c).0
-
-pub slice_bounds-result-start : goal.slice_bounds-result-start
-slice_bounds-result-start c = omega (arith, (left c).0)
-
 pub slice_bounds-result-end : goal.slice_bounds-result-end
-slice_bounds-result-end c = (left c).1
+slice_bounds-result-end c = (left (goal.at.slice_bounds-result-end c).After-content_of-span).1

@@ -2,5 +2,5 @@
 use Rattle.table_lines.proofs.Lining.{line-ends}
 use Rattle.spindle.proofs.fault.explain_line.Goals as goal
 
-pub slice_bounds-l-end : goal.slice_bounds-l-end
-slice_bounds-l-end c = (line-ends _ _ _ c.line_end-e.ensures c.reach-reached.ensures.inside).1
+pub slice_bounds-line-end : goal.slice_bounds-line-end
+slice_bounds-line-end c = (line-ends _ _ _ c.line_end-e.ensures c.reach-reached.ensures.inside).1

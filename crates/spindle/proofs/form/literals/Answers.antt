@@ -17,7 +17,7 @@ tells n a e = ap told e ∙ go (rules n)
     go false = refl
 
 pub returns-in-Is : goal.returns-in-Is
-returns-in-Is c = ap told (sym c.in-Is.is) ∙ tells _ _ c.literals-a.ensures
+returns-in-Is c = ap told (sym c.in-Is.is) ∙ tells _ _ c.literals.ensures
 
 pub returns-in-No : goal.returns-in-No
-returns-in-No c = ap told (sym c.in-No.is) ∙ tells _ _ c.literals-a.ensures
+returns-in-No c = ap told (sym c.in-No.is) ∙ tells _ _ c.literals.ensures

@@ -5,5 +5,5 @@ use Rattle.spindle.proofs.node.name_of.Goals as goal
 pub returns-then-i-n : goal.returns-then-i-n
 returns-then-i-n c = name-output _ _ c.if-i-n.true
 
-pub returns : goal.returns
-returns c = name-divisor _ _ _ c.if-i-n.false c.number_of.ensures
+pub returns-else-i-n : goal.returns-else-i-n
+returns-else-i-n c = name-divisor _ _ _ c.if-i-n.false c.number_of.ensures

@@ -1,10 +1,7 @@
 -- `node::widest` meets its contract: the greatest column so far is that of the nodes before. Assumes nothing.
-use Rattle.std.proofs.Common.{◌≡◌, ◌-◌, ◌≤◌}
+use Rattle.std.proofs.Common.{◌≡◌}
 use Rattle.spindle.specs.Node.{widest_of}
 use Rattle.spindle.proofs.node.widest.Given as goal
 
 abbrev pub invariant-loop-i : goal.invariant-loop-i
-invariant-loop-i l = (l.i ≤ l.nodes) × (l.most ≡ widest_of l.n l.i)
-
-abbrev pub decreases-loop-i : goal.decreases-loop-i
-decreases-loop-i l = l.nodes - l.i
+invariant-loop-i l = l.most ≡ widest_of l.n l.i
