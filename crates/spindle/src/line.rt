@@ -11,6 +11,9 @@ const MOST_WORDS: usize = 128;
 // What std has after those words, before the failure's number.
 const BEFORE_NUMBER: &[u8] = b" (os error ";
 
+// The most blanks in a row.
+const MOST_BLANKS: usize = 64;
+
 // ---- things and numbers
 
 // A count of things: `19 orchards`, or `1 orchard`.
@@ -62,10 +65,11 @@ impl Line {
         self.at = self.at.saturating_add(text.len());
     }
 
-    // Blanks up to a column, where the line has not reached it.
+    // Blanks up to a column, where the line has not reached it; none where they are too many.
     pub fn pad(&mut self, to: usize) {
-        for _ in self.at..to {
-            self.text(b" ");
+        let row = [b' '; MOST_BLANKS];
+        if let Some(blanks) = row.get(..to.saturating_sub(self.at)) {
+            self.text(blanks);
         }
     }
 
