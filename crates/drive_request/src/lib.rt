@@ -163,7 +163,7 @@ pub fn numbers(text: &[u8], pool: &mut [u64]) -> Option<usize>
         if n >= pool.len() {
             return None;
         }
-        // By index: of a place that an iterator lends it is not known what is written.
+        // By index: what stands in the places is promised where the reading ends early, too.
         pool[n] = v;
         n += 1;
     }
