@@ -26,7 +26,7 @@ pub enum Label {
 fn is_joint(s: &[u8], p: usize) -> bool
     ensures { result ≡ is_joint s.now p }
 {
-    s.get(p..).is_some_and(|t| t.starts_with(b"\\\n"))
+    matches!(s.get(p..), Some([b'\\', b'\n', ..]))
 }
 
 // The next byte of the joined text.
@@ -124,8 +124,12 @@ fn named(s: &[u8], at: usize, letter: u8, k: usize) -> Option<Ended>
     ensures { EndedIs s.now at (name_text letter k) result }
 {
     let (b, p) = read_byte(s, at)?;
+    // Before the number, which may have any length.
+    if b != letter {
+        return None;
+    }
     let (n, e) = read_number(s, p)?;
-    if b == letter && n == k { Some(e) } else { None }
+    if n == k { Some(e) } else { None }
 }
 
 // How many names of the letter a line lists in turn from 0 on, one or more, and the place after its LF.

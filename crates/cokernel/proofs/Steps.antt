@@ -1,7 +1,7 @@
 -- The steps of the search: closing a cube in one pass, opening a branch, going on to the next literal. Assumes nothing.
-use Prim.Native.Nat.{ℕ, suc, ◌+◌, ◌-◌, ◌*◌, ◌<◌, ◌≤◌, min}
+use Prim.Native.Nat.{ℕ, suc, zero-le, ◌+◌, ◌-◌, ◌*◌, ◌<◌, ◌≤◌, min}
 use mathlib.Core.Path.{◌≡◌, refl, sym, ◌∙◌, ap, subst}
-use mathlib.Core.{Logic.inl, Logic.inr}
+use mathlib.Core.{Logic.inl, Logic.inr, Option.none, Option.some}
 use mathlib.Core.Bool.{Bool, true, false, cond, not, ◌&&◌}
 use mathlib.Core.List.{List, [], ◌∷◌, ◌++◌, append-nil}
 use native.Mathlib.Numerals.{add-one}
@@ -10,8 +10,9 @@ use lib.Dec.{leb, ltb}
 use lib.ListN.{length, get_or, drop, drop_of_length-le, length-append}
 use borrow.Author.Tests.{leb-true, le-leb, lt-ltb, ltb-true, ltb-false, not-true}
 use Rattle.sets.{specs.Lists.all, proofs.Places.drop-next, proofs.Rows.nil-of}
-use Rattle.sets.specs.Sets.{mem, sub, asc, insert, without, meet, same}
+use Rattle.sets.specs.Sets.{mem, sub, asc, insert, without, meet, same, first_from}
 use Rattle.sets.proofs.Truth.{iff, both, together, decided, clash}
+use Rattle.sets.proofs.First.{none_first, some_first, IsFirst}
 use Rattle.sets.proofs.Sets.{without-mem, all-mem, mem-all, sub_out}
 use Rattle.std.proofs.Common.{Option, Some, None, MatchOption, unwrap_or}
 use Rattle.cube.specs.{Cube.width, Cube.lits, Cube.joined, declared.Cube.Cube}
@@ -26,37 +27,51 @@ use Rattle.cokernel.proofs.Walking.{prefix-on, prefix-with, prefix-past, opens-o
 -- ---- closing a cube, from the last cube to the first
 
 -- how many cubes a there are, and what they have in common, if there are any
-abbrev pub Narrowed : ℕ → Option Cube → Cubes → Type 0
-Narrowed n None a = (n ≡ 0) × (a ≡ [])
-Narrowed n (Some m) a = (n ≡ length a) × (0 < length a) × (lits m ≡ common a)
+abbrev pub Shares : ℕ → Option Cube → Cubes → Type 0
+Shares n None a = (n ≡ 0) × (a ≡ [])
+Shares n (Some m) a = (n ≡ length a) × (0 < length a) × (lits m ≡ common a)
 
-pub narrowed-number : (n : ℕ) (o : Option Cube) (a : Cubes) → Narrowed n o a → n ≡ length a
+pub narrowed-number : (n : ℕ) (o : Option Cube) (a : Cubes) → Shares n o a → n ≡ length a
 narrowed-number n None a (z, e) = omega (arith, ap length e)
 narrowed-number n (Some m) a h = h.0
 
 -- one cube more
-narrowed-more : (o : Option Cube) (d r : Cube) (n : ℕ) (a : Cubes) → Narrowed n o a → MatchOption o (lits r ≡ lits d) (λ x. lits r ≡ meet (lits d) (lits x))
-    → Narrowed (n + 1) (Some r) (lits d ∷ a)
+narrowed-more : (o : Option Cube) (d r : Cube) (n : ℕ) (a : Cubes) → Shares n o a → MatchOption o (lits r ≡ lits d) (λ x. lits r ≡ meet (lits d) (lits x))
+    → Shares (n + 1) (Some r) (lits d ∷ a)
 unfolding common
 narrowed-more None d r n a (z, e) h = rw (z, e) (omega arith, omega arith, h)
 narrowed-more (Some x) d r n [] (z, p, e) h = absurd (omega arith)
 narrowed-more (Some x) d r n (y ∷ a) (z, p, e) h = (omega arith, omega arith, h ∙ ap (meet (lits d)) e)
 
-pub closed_none : (f : Cubes) (c : List ℕ) (i : ℕ) → i ≡ length f → Narrowed 0 None (above (drop i f) c)
+pub closed_none : (f : Cubes) (c : List ℕ) (i : ℕ) → i ≡ length f → Shares 0 None (above (drop i f) c)
 closed_none f c i e = let past : length f ≤ i = omega arith in rw (drop_of_length-le f past) (refl, refl)
 
-module _ (f : Cubes) (c : List ℕ) (i n : ℕ) (o : Option Cube) (s : i < length f) (k : Narrowed n o (above (drop (i + 1) f) c)) (d : Cube) (e : lits d ≡ get_or f i []) where
+module _ (f : Cubes) (c : List ℕ) (i n : ℕ) (o : Option Cube) (s : i < length f) (k : Shares n o (above (drop (i + 1) f) c)) (d : Cube) (e : lits d ≡ get_or f i []) where
   pub closed-more : sub c (lits d) ≡ true → (r : Cube) → MatchOption o (lits r ≡ lits d) (λ x. lits r ≡ meet (lits d) (lits x))
-      → Narrowed (n + 1) (Some r) (above (drop i f) c)
+      → Shares (n + 1) (Some r) (above (drop i f) c)
   closed-more t r u = rw (drop-next f i [] s, ← e, t) (narrowed-more o d r n (above (drop (i + 1) f) c) k u)
 
-  pub closed_same : sub c (lits d) ≡ false → Narrowed n o (above (drop i f) c)
+  pub closed_same : sub c (lits d) ≡ false → Shares n o (above (drop i f) c)
   closed_same t = rw (drop-next f i [] s, ← e, t) k
 
-pub closed_all : (f : Cubes) (c : List ℕ) (n : ℕ) (o : Option Cube) (x : Cube) → lits x ≡ [] → Narrowed n o (above f c) → Shared f c n (lits (unwrap_or o x))
+pub closed_all : (f : Cubes) (c : List ℕ) (n : ℕ) (o : Option Cube) (x : Cube) → lits x ≡ [] → Shares n o (above f c) → Shared f c n (lits (unwrap_or o x))
 unfolding common
 closed_all f c n None x e (z, h) = record { number = rw h z; common = rw h e }
 closed_all f c n (Some m) x e (z, p, h) = record { number = z; common = h }
+
+-- ---- no literal below j that the other lacks
+
+pub none-low : (j : ℕ) (x : List ℕ) → none ≡ first_from 0 x → true ≡ all (leb j) x
+none-low j x e = sym (all-mem (leb j) x (λ l m. clash m (none_first 0 x (sym e) l zero-le)))
+
+pub first-low : (j : ℕ) (x : List ℕ) (l : ℕ) → asc x ≡ true → some l ≡ first_from 0 x → leb j l ≡ all (leb j) x
+first-low j x l a e = iff
+    (λ h. all-mem (leb j) x (λ z m. elim (decided (ltb z l))
+    [ inl t ↦ clash m (r.least z zero-le (ltb-true z l t)) | inr t ↦ omega (arith, leb-true j l h, ltb-false z l t, le-leb) ]))
+    (λ h. mem-all (leb j) x l h r.is_in)
+  where
+    r : IsFirst 0 x l
+    r = some_first 0 x l a (sym e)
 
 -- ---- whether a branch is open
 

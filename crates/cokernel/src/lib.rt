@@ -69,7 +69,11 @@ fn close(f: &[u64], c: Cube) -> Closure
 fn agrees(m: Cube, c: Cube, j: u32) -> bool
     ensures { result ≡ all (leb j) (without (lits m) (lits c)) }
 {
-    cube_order::each(cube_sets::without(m, c)).all(|l| j <= l.0)
+    // The least alone tells: the others are above it.
+    match cube_order::first_from(cube_sets::without(m, c), Literal(0)) {
+        Some(l) => j <= l.0,
+        None => true,
+    }
 }
 
 // Whether c, which s closes, is a co-kernel.

@@ -1,15 +1,22 @@
 -- The literals of a cube: they ascend, each is of a variable that a cube has a place for, and they are all that a cube holds. Assumes nothing.
 use Prim.Native.Nat.{ℕ, ◌*◌, ◌^◌, ◌<◌, ◌≤◌}
-use mathlib.Core.{Path.◌≡◌, Bool.true, Option.some}
+use mathlib.Core.{Path.◌≡◌, Bool.true, Option.some, List.[]}
 use lib.Dec.{ltb}
 use lib.ListN.{length}
 use borrow.Author.Tests.{ltb-true}
 use Rattle.sets.specs.Sets.{mem, asc, first_from}
 use Rattle.sets.proofs.{Truth.both, Sets.ext}
-use Rattle.sets.proofs.Literals.{literals-asc, literals-at-most, mem-inside, plain-injective, negated-injective}
+use Rattle.sets.proofs.Literals.{literals-none, literals-asc, literals-at-most, mem-inside, plain-injective, negated-injective}
 use Rattle.sets.proofs.Scan as scan
 use Rattle.cube.specs.{Cube.width, Cube.lits, declared.Cube.Cube}
 pub use Rattle.cube.specs.Cube.{fit_cube}
+
+-- the cube with no literal, which stands where a list of cubes has none
+abbrev pub no_cube : Cube
+no_cube = record { plain = 0; negated = 0 }
+
+pub lits-none : lits no_cube ≡ []
+lits-none = literals-none width
 
 module _ (c : Cube) where
   pub lits-asc : asc (lits c) ≡ true

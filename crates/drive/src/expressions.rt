@@ -1,6 +1,6 @@
 // Requests on lent expressions and their rooms. Where a group is no group of numbers, there is no such request.
-use crate::MOST;
 use crate::wire::Reply;
+use crate::{MOST, wire};
 use cokernel::Listed;
 use division::Division;
 
@@ -21,7 +21,7 @@ pub fn divide(text: &[u8], reply: &mut Reply) -> Option<()> {
             reply.found(q as u64);
             reply.number(rest as u64);
         }
-        Division::Refused(k) => reply.refused(k, 0),
+        Division::Refused(k) => reply.refused(wire::refuse(k, 0)),
     }
     reply.group(&left[..l]);
     reply.group(&right[..r]);
@@ -36,7 +36,7 @@ pub fn cokernels(text: &[u8], reply: &mut Reply) -> Option<()> {
     let r = drive_request::numbers(drive_request::tail(text), &mut room)?;
     match cokernel::cokernels(&f[..n], &mut room[..r]) {
         Listed::All(k) => reply.found(k as u64),
-        Listed::Refused(k) => reply.refused(k, 0),
+        Listed::Refused(k) => reply.refused(wire::refuse(k, 0)),
     }
     reply.group(&room[..r]);
     Some(())

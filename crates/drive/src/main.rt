@@ -11,6 +11,7 @@ mod runs;
 mod wire;
 
 use letters::Wrote;
+use network::Handed;
 use std::io::{Read, Stdin};
 use table::Answer;
 use wire::Reply;
@@ -20,6 +21,8 @@ const LINE_LENGTH: usize = 262144;
 
 // The most numbers, and the most bytes, that a line can write.
 const MOST: usize = LINE_LENGTH / 2;
+
+const _: () = prove!(MOST == 131072);
 
 // Bytes read at a time.
 const CHUNK: usize = 65536;
@@ -38,7 +41,7 @@ fn on_table(text: &[u8], reply: &mut Reply) {
             nets::put_network(reply, &t.network);
         }
         Answer::Refused(q) => {
-            reply.refused(q.number, q.line);
+            reply.refused(wire::refuse(q.number, q.line));
             reply.number(q.column as u64);
         }
     }
@@ -56,14 +59,23 @@ fn on_report(text: &[u8], reply: &mut Reply) -> Option<()> {
     Some(())
 }
 
+// `read BYTES`, `read-blif BYTES`: by the reader of the one or the other. Apart, so that what it hands back is no part of the stack of
+// a report.
+#[inline(never)]
+fn on_read<F: FnOnce(&[u8]) -> Handed>(bytes: &[u8], reader: F, reply: &mut Reply)
+    requires { F.IsAlwaysCallable reader }
+{
+    nets::put_handed(reply, &reader(bytes));
+}
+
 fn on_bytes(line: &[u8], reply: &mut Reply) -> Option<()> {
     let mut room = [0; MOST];
     let n = drive_request::bytes(drive_request::rest(line), &mut room)?;
     let bytes = &room[..n];
     match drive_request::first(line) {
         b"table" => on_table(bytes, reply),
-        b"read" => nets::put_handed(reply, &image_read::read(bytes)),
-        b"read-blif" => nets::put_handed(reply, &blif_read::read(bytes)),
+        b"read" => on_read(bytes, image_read::read, reply),
+        b"read-blif" => on_read(bytes, blif_read::read, reply),
         b"report" => return on_report(bytes, reply),
         _ => return None,
     }
@@ -107,10 +119,13 @@ fn on_five(head: &[u8], text: &[u8], reply: &mut Reply) -> Option<()> {
 
 // The answer to a line, where it is a request.
 fn answer(line: &[u8], reply: &mut Reply) -> Option<()> {
+    let groups = drive_request::groups(line)?;
+    if groups == 1 {
+        return on_bytes(line, reply);
+    }
     let head = drive_request::head(line);
     let text = drive_request::tail(line);
-    match drive_request::groups(line)? {
-        1 => on_bytes(line, reply),
+    match groups {
         3 => on_three(head, text, reply),
         4 => on_four(head, text, reply),
         5 => on_five(head, text, reply),

@@ -3,7 +3,8 @@ ghost use Rattle.std.specs.Prelude.{◌≡◌};
 ghost use Rattle.drive.specs.Nets.{given_in};
 ghost use Rattle.drive.specs.Wire.{number_told};
 
-use crate::wire::Reply;
+use crate::wire;
+use crate::wire::{Refusal, Reply};
 use expression::Verdict;
 use network::{Handed, Network, Number};
 
@@ -51,16 +52,16 @@ pub fn put_handed(reply: &mut Reply, h: &Handed) {
             reply.text(b"ok");
             put_network(reply, &h.network);
         }
-        Verdict::Refused(k) => reply.refused(k, 0),
+        Verdict::Refused(k) => reply.refused(wire::refuse(k, 0)),
     }
 }
 
 // What a number is told as.
-pub fn number_told(x: Number) -> Result<u64, u32>
+pub fn number_told(x: Number) -> Result<u64, Refusal>
     ensures { result ≡ number_told x }
 {
     match x {
         Number::Is(v) => Ok(v),
-        Number::No(k) => Err(k),
+        Number::No(k) => Err(wire::refuse(k, 0)),
     }
 }

@@ -1,6 +1,6 @@
 // Requests for runs.
-use crate::nets;
 use crate::wire::Reply;
+use crate::{nets, wire};
 use cube::{Cube, Literal};
 use extract::{Answer, Made, Stop};
 use extract_divisor::Divisor;
@@ -66,6 +66,6 @@ pub fn extract(n: Network, steps: u64, reply: &mut Reply) {
                 put_step(reply, step);
             }
         }
-        Answer::Refused(k) => reply.refused(k, 0),
+        Answer::Refused(k) => reply.refused(wire::refuse(k, 0)),
     }
 }

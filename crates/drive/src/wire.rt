@@ -1,12 +1,26 @@
 // An answer line put together.
 ghost use Rattle.std.specs.Prelude.{◌≡◌, ◌≤◌};
-ghost use Rattle.drive.specs.Wire.{wrote_of};
+ghost use Rattle.drive.specs.Wire.{refusal_of, wrote_of};
 
 use letters::Wrote;
 use std::io::Stdout;
 
 // Bytes of an answer written at a time.
 const CHUNK: usize = 65536;
+
+// What a request was refused for, and at which line.
+#[derive(Clone, Copy)]
+pub struct Refusal {
+    number: u32,
+    line: u32,
+}
+
+// Refused by number, at a line.
+pub fn refuse(number: u32, line: u32) -> Refusal
+    ensures { result ≡ refusal_of number line }
+{
+    Refusal { number, line }
+}
 
 // An answer as far as it is put together. A room that is full is written out, so that an answer may have any length.
 #[derive(Drop)]
@@ -86,18 +100,18 @@ impl Reply {
         self.number(x);
     }
 
-    // Refused by number, at a line.
-    pub fn refused(&mut self, number: u32, line: u32) {
+    // `refused`, a number and a line.
+    pub fn refused(&mut self, q: Refusal) {
         self.text(b"refused");
-        self.number(u64::from(number));
-        self.number(u64::from(line));
+        self.number(u64::from(q.number));
+        self.number(u64::from(q.line));
     }
 
     // A number that was found, or what it was refused for.
-    pub fn told(&mut self, t: Result<u64, u32>) {
+    pub fn told(&mut self, t: Result<u64, Refusal>) {
         match t {
             Ok(x) => self.found(x),
-            Err(k) => self.refused(k, 0),
+            Err(q) => self.refused(q),
         }
     }
 
@@ -116,11 +130,11 @@ impl Reply {
 }
 
 // How many bytes were written to a lent room, or what they were refused for.
-fn wrote(a: Wrote) -> Result<u64, u32>
+pub fn wrote(a: Wrote) -> Result<u64, Refusal>
     ensures { result ≡ wrote_of a }
 {
     match a {
         Wrote::Bytes(n) => Ok(n as u64),
-        Wrote::Refused(k) => Err(k),
+        Wrote::Refused(k) => Err(refuse(k, 0)),
     }
 }

@@ -11,7 +11,7 @@ use native.Mathlib.Omega.{arith}
 use lib.Dec.{eqb, ltb}
 use lib.ListN.{length, get_or, take, drop, drop_of_length-le}
 use borrow.Author.Tests.{ltb-false, eq-eqb, ne_eqb, not-true, not-false}
-use Rattle.sets.{specs.Lists.any, specs.Lists.total, proofs.Truth.decided, proofs.Places.drop-next}
+use Rattle.sets.{specs.Lists.is_nil, specs.Lists.total, proofs.Truth.decided, proofs.Places.drop-next, proofs.Rows.nil-of}
 use Rattle.drive_request.specs.Words.{index_of, index_after, onto, words_of, is_part, ahead, ends_blank, filled, parts_in, groups_of}
 
 pub index-le : (b : ℕ) (t : List ℕ) → index_of b t ≤ length t
@@ -114,27 +114,37 @@ pub ends-last : (l : List ℕ) → ends_with eqb l (32 ∷ []) ≡ ends_blank l
 ends-last [] = refl
 ends-last (b ∷ l) = grind (arith, common_steps)
 
-pub any-empty : (ws : List (List ℕ)) → any (λ w. eqb (length w) 0) ws ≡ not (filled ws)
-any-empty [] = refl
-any-empty ([] ∷ ws) = refl
-any-empty ((b ∷ w) ∷ ws) = let h : eqb (length (b ∷ w)) 0 ≡ false = ne_eqb (length (b ∷ w)) 0 (λ e. absurd (omega arith)) in rw h (any-empty ws)
+-- no word more is empty, and each lone `;` is counted
+module _ {ws : List (List ℕ)} {w : List ℕ} {vs : List (List ℕ)} (e : ws ≡ w ∷ vs) where
+  pub filled-stop : length w ≡ 0 → filled ws ≡ false
+  filled-stop n = rw (e, nil-of w n)
 
-pub count-parts : (ws : List (List ℕ)) → length (filter is_part ws) ≡ parts_in ws
-count-parts [] = refl
-count-parts (w ∷ ws) = elim (is_part w) as (λ e. length (cond e (w ∷ filter is_part ws) (filter is_part ws)) ≡ cond e 1 0 + parts_in ws)
-    [ true ↦ omega (arith, count-parts ws) | false ↦ omega (arith, count-parts ws) ]
+  pub filled_on : (length w ≡ 0 → ⊥) → filled ws ≡ filled vs
+  filled_on n = rw e (kept w n)
+    where
+      kept : (v : List ℕ) → (length v ≡ 0 → ⊥) → (not (is_nil v) && filled vs) ≡ filled vs
+      kept [] h = absurd (h refl)
+      kept (b ∷ v) h = refl
+
+  pub parts_next : parts_in ws ≡ cond (is_part w) 1 0 + parts_in vs
+  parts_next = rw e
+
+-- no more of these than words
+pub parts-few : (ws : List (List ℕ)) → parts_in ws ≤ length ws
+parts-few [] = omega arith
+parts-few (w ∷ ws) = elim (is_part w) as (λ e. cond e 1 0 + parts_in ws ≤ suc (length ws))
+    [ true ↦ omega (arith, parts-few ws) | false ↦ omega (arith, parts-few ws) ]
 
 module _ (line : List ℕ) where
   pub groups-blank : ends_blank line ≡ true → groups_of line ≡ 0
   unfolding groups_of
   groups-blank b = rw b
 
-  pub groups-empty : any (λ w. eqb (length w) 0) (words_of line) ≡ true → groups_of line ≡ 0
+  pub groups-empty : filled (words_of line) ≡ false → groups_of line ≡ 0
   unfolding groups_of
-  groups-empty a = rw (not-true (filled (words_of line)) (sym (any-empty (words_of line)) ∙ a))
-      (elim (not (ends_blank line)) as (λ e. cond (e && false) (parts_in (words_of line) + 1) 0 ≡ 0) [ true ↦ refl | false ↦ refl ])
+  groups-empty a = rw a (elim (not (ends_blank line)) as (λ e. cond (e && false) (parts_in (words_of line) + 1) 0 ≡ 0) [ true ↦ refl | false ↦ refl ])
 
-  pub groups-spaced : ends_blank line ≡ false → any (λ w. eqb (length w) 0) (words_of line) ≡ false
+  pub groups-spaced : ends_blank line ≡ false → filled (words_of line) ≡ true
       → Some (parts_in (words_of line) + 1) ≡ (if groups_of line == 0 then None else Some (groups_of line))
   unfolding groups_of
-  groups-spaced b a = rw (b, not-false (filled (words_of line)) (sym (any-empty (words_of line)) ∙ a), ne_eqb (parts_in (words_of line) + 1) 0 (λ e. absurd (omega arith)))
+  groups-spaced b a = rw (b, a, ne_eqb (parts_in (words_of line) + 1) 0 (λ e. absurd (omega arith)))

@@ -105,10 +105,19 @@ pub fn tail(text: &[u8]) -> &[u8]
 pub fn groups(line: &[u8]) -> Option<usize>
     ensures { result ≡ (if groups_of line.now == 0 then None else Some (groups_of line.now)) }
 {
-    if line.ends_with(b" ") || Words(line).any(|word| word.is_empty()) {
+    if line.ends_with(b" ") {
         return None;
     }
-    let parts = Words(line).filter(|word| is_part(word)).count();
+    let mut parts = 0;
+    // One pass over the words, which ends at the first that is empty.
+    for word in Words(line) {
+        if word.is_empty() {
+            return None;
+        }
+        if is_part(word) {
+            parts += 1;
+        }
+    }
     Some(parts + 1)
 }
 

@@ -42,5 +42,5 @@ pub fn absorb_part(s: &mut [u64], a: usize, e: usize) -> usize
     ensures cubes { Placed s.old s.new a (absorbed (take (e - a) (drop a (cubes_of s.old)))) }
 {
     let p = expression::words_of(s, a, e);
-    absorb(&mut s[p])
+    absorb(&mut s[p.from..p.to])
 }

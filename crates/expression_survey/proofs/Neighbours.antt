@@ -15,17 +15,17 @@ use denote.Ref.{Bor}
 use Rattle.sets.{specs.Sets.before, proofs.Places.pairwise-at, proofs.Ordering.before-trans}
 use Rattle.sets.proofs.Truth.{clash, refuted}
 use Rattle.sets.proofs.Lists.{all_in, all-out, ahead}
-use Rattle.cube.specs.Cube.{lits}
+use Rattle.cube.{specs.Cube.lits, proofs.Lits.no_cube}
 use Rattle.cube.specs.declared.Cube.{Cube}
 use Rattle.expression.specs.declared.Cubes.{Cubes}
 use Rattle.expression.specs.{Words.cubes_of, Expression.ordered}
 use Rattle.expression.proofs.Chains.{left, each-list}
 
 -- each of the cubes comes before the next
-abbrev Climbs : List (List ℕ) → Type 0
+abbrev pub Climbs : List (List ℕ) → Type 0
 Climbs f = (k : ℕ) → suc k < length f → before (get_or f k []) (get_or f (suc k) []) ≡ true
 
-climbs-ordered : (f : List (List ℕ)) → Climbs f → ordered f ≡ true
+pub climbs-ordered : (f : List (List ℕ)) → Climbs f → ordered f ≡ true
 climbs-ordered [] h = refl
 climbs-ordered (c ∷ []) h = refl
 climbs-ordered (c ∷ d ∷ f) h =
@@ -34,19 +34,16 @@ climbs-ordered (c ∷ d ∷ f) h =
     rw (e, all_in (before c) f (λ z m. before-trans c d z e (all-out (before d) m (ahead before d f t).0))) t
 
 -- one that does not come before the next
-climbs-not : (f : List (List ℕ)) (k : ℕ) → suc k < length f → before (get_or f k []) (get_or f (suc k) []) ≡ false → ordered f ≡ false
+pub climbs-not : (f : List (List ℕ)) (k : ℕ) → suc k < length f → before (get_or f k []) (get_or f (suc k) []) ≡ false → ordered f ≡ false
 climbs-not f k h e = refuted (λ t. clash (pairwise-at before [] f k (suc k) t (omega arith) h) e)
-
-abbrev none : Cube
-none = record { plain = 0; negated = 0 }
 
 -- the cubes that came are the first ones
 came : (items : List Cube) (cubes : List (List ℕ)) → map lits items ≡ take (length items) cubes → (k : ℕ) → k < length items
-    → (k < length cubes) × (lits (get_or items k none) ≡ get_or cubes k [])
+    → (k < length cubes) × (lits (get_or items k no_cube) ≡ get_or cubes k [])
 came items cubes e k h =
     let n : length items ≡ length (take (length items) cubes) = sym (length-map items lits) ∙ ap length e in
     let m = length-take (length items) cubes in
-    (omega arith, sym (get_or-map lits items k none [] h) ∙ ap (λ l. get_or l k []) e ∙ get_or-take (length items) cubes k [] h)
+    (omega arith, sym (get_or-map lits items k no_cube [] h) ∙ ap (λ l. get_or l k []) e ∙ get_or-take (length items) cubes k [] h)
 
 -- what `is_sorted_by` answers at the cubes of words, where the closure tells whether one cube comes before another
 module _ {F : Type 0} {g : Mut F (Bor Cube × (Bor Cube × Unit {0})) Bool} {s : Cubes} {ws : List ℕ} (f : F) where
@@ -72,8 +69,8 @@ module _ {F : Type 0} {g : Mut F (Bor Cube × (Bor Cube × Unit {0})) Bool} {s :
           sym (climbs-ordered cubes (λ k l.
           let c = came p.items cubes gone k (omega (arith, t.1)) in
           let d = came p.items cubes gone (suc k) (omega (arith, t.1)) in
-          rw (← c.1, ← d.1) (rw add-one at (h k none (omega (arith, t.1))))))
+          rw (← c.1, ← d.1) (rw add-one at (h k no_cube (omega (arith, t.1))))))
       go false w (k, l, h) =
           let c = came p.items cubes gone k (omega arith) in
           let d = came p.items cubes gone (suc k) (omega arith) in
-          sym (climbs-not cubes k d.0 (rw (← c.1, ← d.1) (rw add-one at (h none))))
+          sym (climbs-not cubes k d.0 (rw (← c.1, ← d.1) (rw add-one at (h no_cube))))

@@ -4,7 +4,7 @@ use mathlib.Core.Path.{◌≡◌, sym, ap, ◌∙◌}
 use mathlib.Core.{Bool.Bool, Bool.true, List.List}
 use native.Mathlib.Omega.{arith}
 use lib.Dec.{ltb}
-use lib.ListN.{take}
+use lib.ListN.{take, length}
 use borrow.Author.Tests.{lt-ltb, ltb-true}
 use Rattle.sets.specs.{Lists.all, Lists.total, Sets.asc}
 use Rattle.sets.proofs.{Lists.◌∈◌, Lists.all_in, Lists.all-out, Sets.of_mem, Sets.all-mem}
@@ -17,6 +17,10 @@ use Rattle.extract_counts.proofs.Netting.{Neat}
 
 pub arranged-few : (n : Network) → arranged n ≡ true → Shaped n → n.outputs + n.divisors ≤ node_slots
 arranged-few n h shape = let s = arranged-sized n h shape in omega (arith, s.narrow, s.variables)
+
+-- there is a count for each node
+pub arranged-counted : (n : Network) → arranged n ≡ true → Shaped n → n.outputs + n.divisors ≤ length n.counts
+arranged-counted n h shape = omega (arith, arranged-few n h shape, shape.slots)
 
 module _ (n : Network) where
   -- what holds of all cubes that words can hold holds of the network's

@@ -63,10 +63,10 @@ module _ (v p q : ℕ) where
       let t = fitting-out v (pair p q) h in
       (ltb-true p q t.whole, t.known (q / 2) (p ∷ q ∷ [], here refl, (q, there (here refl), refl)))
 
-  pair-falls : q ≤ p → false ≡ fitting v (pair p q)
+  pub pair-falls : q ≤ p → false ≡ fitting v (pair p q)
   pair-falls l = sym (refuted (λ h. let b = (pair-below h).0 in omega arith))
 
-  pair-both-ways : opposite_of p ≡ q → false ≡ fitting v (pair p q)
+  pub pair-both-ways : opposite_of p ≡ q → false ≡ fitting v (pair p q)
   pair-both-ways e = sym (refuted (λ h. clash (mem-of (there (here refl)))
       (subst (λ x. mem x (p ∷ q ∷ []) ≡ false) e (proper-out (p ∷ q ∷ []) p (cube-proper (own (pair p q)) (fitting-out v (pair p q) h).formed (here refl))
       (mem-of (here refl))))))
@@ -82,7 +82,7 @@ module _ (v p q : ℕ) where
           (opposite_of q) q (λ e. omega arith),
     )
 
-    pair_fits : ltb (q / 2) v ≡ fitting v (pair p q)
+    pub pair_fits : ltb (q / 2) v ≡ fitting v (pair p q)
     unfolding fitting
     pair_fits = iff
         (λ e. let h = ltb-true (q / 2) v e in rw (lt-ltb p q l, pair-proper, lt-ltb (p / 2) v (omega arith), e))

@@ -10,7 +10,7 @@ use borrow.Author.Tests.{eqb-true, eq-eqb}
 use Rattle.std.specs.Prelude.{Option, Some, None, SomeIff}
 use Rattle.sets.proofs.Truth.{iff}
 use Rattle.extract_gains.specs.Gains.{entries, first, slots, many, key_at, newest, gain, most_gain, Sound, Keyed, Turns, only, none}
-use Rattle.extract_gains.specs.Parts.{Chained, Holds}
+use Rattle.extract_gains.specs.Parts.{Chained, Changes}
 use Rattle.extract_gains.proofs.Holding.{holds-set}
 use Rattle.extract_gains.proofs.Table.{gain-entry, turns_as}
 
@@ -109,12 +109,12 @@ turns-short key by f some = turns-full f (λ s r keys short keyed falls rise mos
 
 -- the entry of a key, where its gain rises, or would rise past the most
 pub turns-rise : {t g u h : List ℕ} (key e by : ℕ) (o : Option ℕ) → e < entries → (Chained t → (e < many t) × (key_at t e ≡ key))
-    → SomeIff o (get_or g e 0 + by < 2 ^ 16) (get_or g e 0 + by) → Holds t g u h e o → Turns t g u h none (only key by)
+    → SomeIff o (get_or g e 0 + by < 2 ^ 16) (get_or g e 0 + by) → Changes t g u h e o → Turns t g u h none (only key by)
 turns-rise {t} {g} key e by (Some x) r found sum (same, new) = rw (same, new, sum.1) (turns-raise t g key e by r found)
 turns-rise key e by None r found past full = turns-past key e by (omega arith) found (omega arith)
 
 -- where it falls, or has not so much
 pub turns-fall : {t g u h : List ℕ} (key e by : ℕ) (o : Option ℕ) → e < entries → 0 < by → (Chained t → (e < many t) × (key_at t e ≡ key))
-    → SomeIff o (by ≤ get_or g e 0) (get_or g e 0 - by) → Holds t g u h e o → Turns t g u h (only key by) none
+    → SomeIff o (by ≤ get_or g e 0) (get_or g e 0 - by) → Changes t g u h e o → Turns t g u h (only key by) none
 turns-fall {t} {g} key e by (Some x) r some found rest (same, new) = rw (same, new, rest.1) (turns_lower t g key e by r found rest.0)
 turns-fall key e by None r some found short full = turns-short key by (omega arith) some

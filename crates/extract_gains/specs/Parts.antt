@@ -19,6 +19,6 @@ Finds t k (Some e) = (e < entries) × (Chained t → (e < many t) × (key_at t e
 Finds t k None = Chained t → Missing t k
 
 -- entry e holds another gain, or the table is full
-abbrev pub Holds : List ℕ → List ℕ → List ℕ → List ℕ → ℕ → Option ℕ → Type 0
-Holds t g u h e (Some x) = (u ≡ t) × (h ≡ slice_set g e x)
-Holds t g u h e None = many u ≡ entries
+abbrev pub Changes : List ℕ → List ℕ → List ℕ → List ℕ → ℕ → Option ℕ → Type 0
+Changes t g u h e (Some x) = (u ≡ t) × (h ≡ slice_set g e x)
+Changes t g u h e None = many u ≡ entries

@@ -3,7 +3,7 @@
 
 ghost use Rattle.std.specs.Prelude.{◌≡◌, ◌<◌, get_or};
 ghost use Rattle.extract_gains.specs.Gains.{entries, first, many, key_at, head_of, Sound, Turns, only, none};
-ghost use Rattle.extract_gains.specs.Parts.{Missing, Finds, Holds};
+ghost use Rattle.extract_gains.specs.Parts.{Missing, Finds, Changes};
 
 // The chains, and the entries. A table of so many entries is full: it says nothing.
 const CHAINS: usize = 65536;
@@ -88,7 +88,7 @@ fn enter(t: &mut [u32; TABLE_WORDS], g: &mut [u16; MOST_ENTRIES], key: u32, by: 
 // An entry holds another gain; where there is none that it can hold, the table is full.
 fn set(t: &mut [u32; TABLE_WORDS], g: &mut [u16; MOST_ENTRIES], e: usize, gain: Option<u16>)
     requires { e < entries }
-    ensures { Holds t.old g.old t.new g.new e gain }
+    ensures { Changes t.old g.old t.new g.new e gain }
 {
     match gain {
         Some(x) => g[e] = x,

@@ -1,7 +1,8 @@
 // The gains of all divisors of a network, kept from step to step: a cube that goes is taken out, one that comes is put in.
 #![tactic(auto)]
 
-ghost use Rattle.std.specs.Prelude.{◌≡◌, true, ◌+◌, ◌^◌, ◌<◌, [], length, get_or};
+ghost use Rattle.std.specs.Prelude.{◌≡◌, true, ◌+◌, ◌<◌, ◌≤◌, [], length, get_or};
+ghost use Rattle.sets.specs.Word.{largest};
 ghost use Rattle.expression.specs.Words.{cubes_of};
 ghost use Rattle.network.specs.Net.{nodes};
 ghost use Rattle.network.specs.Parts.{nodes_of};
@@ -60,7 +61,7 @@ pub fn fill(t: &mut [u32; TABLE_WORDS], g: &mut [u16; MOST_ENTRIES], n: Network)
 // would do.
 fn next_of(a: &[u64], i: usize, b: &[u64], j: usize) -> Option<Ordering>
     ensures turn { Turn (cubes_of a.now) i (cubes_of b.now) j result }
-    ensures fits { (length (cubes_of a.now) < 2 ^ 64) × (length (cubes_of b.now) < 2 ^ 64) }
+    ensures fits { (length (cubes_of a.now) ≤ largest) × (length (cubes_of b.now) ≤ largest) }
 {
     match (i < expression::number(a), j < expression::number(b)) {
         (true, true) => {

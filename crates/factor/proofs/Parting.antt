@@ -23,23 +23,23 @@ module _ {A : Type 0} (f g : List A) (i : ℕ) (same : drop i g ≡ drop i f) wh
       let e : i + 0 ≡ i = omega arith in
       ap (λ n. get_or g n d) (sym e) ∙ sym (get_or-drop i g 0 d) ∙ ap (λ l. get_or l 0 d) same ∙ get_or-drop i f 0 d ∙ ap (λ n. get_or f n d) e
 
-  back-next : drop (i + 1) g ≡ drop (i + 1) f
+  pub back-next : drop (i + 1) g ≡ drop (i + 1) f
   back-next = sym (drop-drop 1 i g) ∙ ap (drop 1) same ∙ drop-drop 1 i f
 
 -- ---- one cube more
 
 module _ (l : ℕ) (f : List (List ℕ)) (c : List ℕ) where
-  divided_by-yes : mem l c ≡ true → divided_by l (f ++ (c ∷ [])) ≡ divided_by l f ++ (without c (l ∷ []) ∷ [])
+  pub divided_by-yes : mem l c ≡ true → divided_by l (f ++ (c ∷ [])) ≡ divided_by l f ++ (without c (l ∷ []) ∷ [])
   divided_by-yes h = ap (map (λ d. without d (l ∷ []))) (keep_append (mem l) f (c ∷ []) ∙ ap (keep (mem l) f ++◌) (rw h))
       ∙ map-append (λ d. without d (l ∷ [])) (keep (mem l) f) (c ∷ [])
 
-  divided_by-no : mem l c ≡ false → divided_by l (f ++ (c ∷ [])) ≡ divided_by l f
+  pub divided_by-no : mem l c ≡ false → divided_by l (f ++ (c ∷ [])) ≡ divided_by l f
   divided_by-no h = ap (map (λ d. without d (l ∷ []))) (keep_append (mem l) f (c ∷ []) ∙ ap (keep (mem l) f ++◌) (rw h) ∙ append-nil (keep (mem l) f))
 
-  rest-yes : mem l c ≡ true → rest l (f ++ (c ∷ [])) ≡ rest l f
+  pub rest-yes : mem l c ≡ true → rest l (f ++ (c ∷ [])) ≡ rest l f
   rest-yes h = keep_append (λ d. not (mem l d)) f (c ∷ []) ∙ ap (rest l f ++◌) (rw h) ∙ append-nil (rest l f)
 
-  rest-no : mem l c ≡ false → rest l (f ++ (c ∷ [])) ≡ rest l f ++ (c ∷ [])
+  pub rest-no : mem l c ≡ false → rest l (f ++ (c ∷ [])) ≡ rest l f ++ (c ∷ [])
   rest-no h = keep_append (λ d. not (mem l d)) f (c ∷ []) ∙ ap (rest l f ++◌) (rw h)
 
 -- the first i cubes are parted: m of them, with l, stand in front, the rest are spare; from i on none is changed

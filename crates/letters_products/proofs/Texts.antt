@@ -27,11 +27,11 @@ pub cube-none : cube_text [] ≡ 49 ∷ []
 unfolding cube_text
 cube-none = refl
 
-cube-one : (l : ℕ) → cube_text (l ∷ []) ≡ literal_text l
+pub cube-one : (l : ℕ) → cube_text (l ∷ []) ≡ literal_text l
 unfolding cube_text
 cube-one l = refl
 
-cube-more : (l m : ℕ) (c : List ℕ) → cube_text (l ∷ m ∷ c) ≡ literal_text l ++ (42 ∷ cube_text (m ∷ c))
+pub cube-more : (l m : ℕ) (c : List ℕ) → cube_text (l ∷ m ∷ c) ≡ literal_text l ++ (42 ∷ cube_text (m ∷ c))
 unfolding cube_text
 cube-more l m c = refl
 

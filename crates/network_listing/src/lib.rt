@@ -88,10 +88,17 @@ fn reaches(n: &Network) -> bool
 }
 
 // Whether the limits are kept and every literal is of a variable.
+fn lists(n: &Network) -> bool
+    ensures { result ≡ listable n.now }
+{
+    network::is_within(n.inputs, n.outputs, n.divisors, &n.counts) && reaches(n)
+}
+
+// The same of a network by value.
 pub fn is_listable(n: Network) -> bool
     ensures { result ≡ listable n }
 {
-    network::is_sized(n) && reaches(&n)
+    lists(&n)
 }
 
 // No number listed.
@@ -108,5 +115,5 @@ fn nothing() -> Listed
 pub fn listing(n: Network) -> Listed
     ensures { result ≡ listed_of n }
 {
-    if is_listable(n) { list(&n) } else { nothing() }
+    if lists(&n) { list(&n) } else { nothing() }
 }

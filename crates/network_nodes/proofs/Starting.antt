@@ -1,10 +1,10 @@
 -- Where the cubes of a node begin. Assumes nothing.
-use Prim.Native.Nat.{ℕ, ◌+◌, ◌-◌, ◌<◌, ◌≤◌, min}
+use Prim.Native.Nat.{ℕ, zero, suc, ◌+◌, ◌-◌, ◌<◌, ◌≤◌, min}
 use mathlib.Core.Path.{◌≡◌, refl, sym, ap, ap₂, ◌∙◌}
-use mathlib.Core.List.{List, []}
+use mathlib.Core.List.{List, [], ◌∷◌}
 use native.Mathlib.Omega.{arith}
 use lib.ListN.{length, take, drop, get_or, get_or-eq_default}
-use Rattle.sets.{proofs.Places.total-next}
+use Rattle.sets.{specs.Lists.total, proofs.Places.total-next}
 use Rattle.expression.proofs.Words.{part_held}
 use Rattle.network_nodes.specs.Nodes.{cut, count_before}
 use Rattle.network_nodes.proofs.Cutting.{cut-node, cut-length}
@@ -38,3 +38,15 @@ front-is counts f r i e m n p w =
     let y : e ≡ min s (length f) = omega arith in
     let z : s - 0 ≡ s = omega arith in
     w ∙ ap₂ (λ (b c : ℕ). take (c - b) (drop b f)) x y ∙ part_held f 0 s ∙ ap (λ c. take c f) z
+
+-- ---- the counts that are left
+
+-- one of them, and the others
+pub left-next : (k j n : ℕ) {ns rs : List ℕ} → (ns ≡ n ∷ rs) × (j + 1 ≡ k) → total (λ c. c) (take k ns) ≡ n + total (λ c. c) (take j rs)
+left-next k j n (e, p) = let q : k ≡ suc j = omega (arith, p) in rw (e, q)
+
+-- none
+pub left_none : (k : ℕ) (ns : List ℕ) → (0 < k → length ns ≡ 0) → total (λ c. c) (take k ns) ≡ 0
+left_none zero ns h = refl
+left_none (suc k) [] h = refl
+left_none (suc k) (n ∷ ns) h = absurd (omega (arith, h (omega arith)))

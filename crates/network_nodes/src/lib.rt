@@ -10,10 +10,15 @@ ghost use Rattle.network_nodes.specs.Nodes.{cut, count_before};
 pub fn start(counts: &[usize], i: usize, most: usize) -> usize
     ensures { result ≡ min (count_before i counts.now) most }
 {
-    counts
-        .iter()
-        .take(i)
-        .fold(0, |sum, n| usize::min(sum.saturating_add(*n), most))
+    let mut sum = 0;
+    // No fold: past the most the rest is not looked at.
+    for n in counts.iter().take(i) {
+        if *n > most - sum {
+            return most;
+        }
+        sum += *n;
+    }
+    sum
 }
 
 // The cubes of node i, as many of them as there are.

@@ -1,23 +1,24 @@
 -- The variables of cubes and of expressions: which they are, and those from a place on. Assumes nothing.
-use Prim.Native.Nat.{ℕ, ◌/◌, ◌%◌, ◌<◌, ◌≤◌}
+use Prim.Native.Nat.{ℕ, ◌*◌, ◌/◌, ◌%◌, ◌<◌}
 use mathlib.Core.Path.{◌≡◌, refl, sym, ap, ap₂, ◌∙◌, subst}
-use mathlib.Core.Logic.{inl, inr, ◌⊎◌, ◌↔◌}
-use mathlib.Core.Bool.{Bool, true, false, ◌&&◌, ◌||◌, and-false, or-false, or_assoc}
+use mathlib.Core.Logic.{inl, inr, ◌↔◌}
+use mathlib.Core.Bool.{Bool, true, false, ◌&&◌, ◌||◌, or-false, or_assoc}
 use mathlib.Core.List.Memᴰ.{head as here}
 use mathlib.Core.List.Memᴰ.{tail as there}
 use mathlib.Core.List.{List, [], ◌∷◌}
 use native.Mathlib.Omega.{arith}
-use lib.Dec.{ltb, eqb}
-use lib.Bits.{bit_or}
-use borrow.Author.Tests.{eq-eqb, eqb-true, eqb-false, ltb-true, ltb-false}
+use lib.Dec.{eqb}
+use borrow.Author.Tests.{eq-eqb, eqb-true, eqb-false}
 use Rattle.sets.{specs.Literal.plain_of, specs.Literal.negated_of, specs.Sets.mem, specs.Sets.asc, proofs.Lists.◌∈◌}
-use Rattle.sets.{specs.Masks.literals, specs.Sets.union, proofs.Digits.bit-or, proofs.Digits.bit-none}
-use Rattle.sets.proofs.Literals.{mem-wide, mem-even, mem-odd, mem-plain, mem-negated}
+use Rattle.sets.specs.Sets.{union}
 use Rattle.sets.proofs.Truth.{iff, either, or_left, or_right, clash, decided}
 use Rattle.sets.proofs.Sets.{mem-of, of_mem, insert-mem, union-mem, union-asc}
-use Rattle.cube.specs.Cube.{width}
+use Rattle.cube.specs.Cube.{width, lits, joined}
+use Rattle.cube.specs.declared.Cube.{Cube}
+use Rattle.cube.proofs.Lits.{lits-inside}
 use Rattle.network.specs.Meaning.{Reads}
 use Rattle.network_reads.specs.Reading.{variables_of, reads_of, Marks}
+use Rattle.network_reads.proofs.Marking.{Gathers, gather-first, gather-one, gather-done}
 
 -- ---- the variables of a cube
 
@@ -66,26 +67,29 @@ variables-union v a b =
     turn false false true m = refl
     turn false false false m = refl
 
--- both masks as one, of plain literals, mark them
-marks-at : (p n x : ℕ) → (ltb (x / 2) width ≡ true) ⊎ (ltb (x / 2) width ≡ false)
-    → mem x (literals width (bit_or p n) 0) ≡ (eqb (x % 2) 0 && mem (x / 2) (variables_of (literals width p n)))
-marks-at p n x (inr h) =
-    let v = x / 2 in
-    let k : width ≤ v = ltb-false v width h in
-    mem-wide width _ _ x k
-    ∙ sym (ap (eqb (x % 2) 0 &&◌) (variable-is v _ ∙ ap₂ ◌||◌ (mem-wide width p n (plain_of v) (omega arith)) (mem-wide width p n (negated_of v) (omega arith)))
-    ∙ and-false (eqb (x % 2) 0))
-marks-at p n x (inl h) =
-    let v = x / 2 in
-    let k : v < width = ltb-true v width h in
-    elim (decided (eqb (x % 2) 0)) [
-      | inl e ↦ rw e (mem-even width (bit_or p n) 0 x k (eqb-true (x % 2) 0 e) ∙ bit-or p n v
-          ∙ sym (variable-is v _ ∙ ap₂ ◌||◌ (mem-plain width p n v k) (mem-negated width p n v k)))
-      | inr e ↦ rw e (mem-odd width (bit_or p n) 0 x k (eqb-false (x % 2) 0 e) ∙ bit-none v)
-    ]
+-- ---- the literals of a cube, one after the other
 
-pub marks-masks : (p n : ℕ) → Marks (literals width (bit_or p n) 0) (variables_of (literals width p n))
-marks-masks p n = record { each = λ x. marks-at p n x (decided (ltb (x / 2) width)) }
+-- the variables that are marked, with those of the literals to come, are the cube's
+pub record Passed (marked rest whole : List ℕ) : Type 0 where
+  pub inside : (l : ℕ) → mem l rest ≡ true → l < 2 * width
+  pub gathers : Gathers marked (λ v. mem v (variables_of rest)) (λ v. mem v (variables_of whole))
+
+pub passed-first : {m : List ℕ} (c : Cube) → m ≡ [] → Passed m (lits c) (lits c)
+passed-first c e = record { inside = lits-inside c; gathers = gather-first _ _ (λ v. refl) e }
+
+pub passed-next : {m more rest whole : List ℕ} {l : ℕ} → Passed m (l ∷ rest) whole → more ≡ joined (plain_of (l / 2) % 4294967296) m → Passed more rest whole
+unfolding variables_of mem
+passed-next {m} {rest = rest} {l = l} p e =
+    let k : l < 2 * width = p.inside l (or_left _ _ (eq-eqb l l refl)) in
+    let q : plain_of (l / 2) % 4294967296 ≡ plain_of (l / 2) = omega arith in
+    record {
+      inside = λ x h. p.inside x (or_right (eqb x l) _ h);
+      gathers = gather-one (l / 2) _ _ _ (λ u. insert-mem u (l / 2) (variables_of rest)) (omega arith) (e ∙ ap (λ x. joined x m) q) p.gathers;
+    }
+
+pub passed-done : {m whole : List ℕ} → Passed m [] whole → Marks m (variables_of whole)
+unfolding variables_of mem
+passed-done p = gather-done _ _ (λ v. refl) p.gathers
 
 -- ---- the variables that an expression reads
 

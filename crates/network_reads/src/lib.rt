@@ -7,14 +7,14 @@ ghost use Rattle.network_reads.specs.Reading.{variables_of, reads_of, Marks};
 
 use cube::Cube;
 
-// The variables of the cube's literals: those of both masks.
+// The variables of the cube's literals.
 fn variables(c: Cube) -> Cube
     ensures { Marks (lits result) (variables_of (lits c)) }
 {
-    Cube {
-        plain: c.plain | c.negated,
-        negated: 0,
-    }
+    cube_order::each(c).fold(
+        cube::empty(),
+        |r, l| cube::with(r, cube::plain(cube::variable_of(l))),
+    )
 }
 
 // The variables that the expression reads: those of all its literals together.

@@ -17,7 +17,7 @@ use Rattle.network.specs.declared.{Network.Network, Number.TheVariants.Is, Numbe
 use Rattle.network_rules.specs.Parts.{literals_within}
 use Rattle.network.proofs.{Holding.divisors-held, Limits.sized-out, Limits.rules-literals}
 
-leb-capped : (t : ℕ) → leb (capped t) most_literals ≡ leb t most_literals
+pub leb-capped : (t : ℕ) → leb (capped t) most_literals ≡ leb t most_literals
 leb-capped t = elim (decided (ltb t 18446744073709551616)) [
   | inl e ↦ rw e
   | inr e ↦ rw e (sym (lt-leb t most_literals (omega (arith, ltb-false t 18446744073709551616 e))))

@@ -34,10 +34,10 @@ fn count(n: &Network) -> u64
 
 // Whether every divisor is listed.
 #[tactic(auto, unfolding(network::specs::Answers::listed_of))]
-fn is_acyclic(n: Network) -> bool
-    ensures { result ≡ eqb (length (numbers_of n)) n.divisors }
+fn is_acyclic(n: &Network) -> bool
+    ensures { result ≡ eqb (length (numbers_of n.now)) n.now.divisors }
 {
-    network_listing::listing(n).count == n.divisors
+    network_listing::listing(*n).count == n.divisors
 }
 
 // Whether all rules are kept.
@@ -47,7 +47,7 @@ fn follows(n: Network) -> bool
     if !network_listing::is_listable(n) {
         return false;
     }
-    is_acyclic(n) && all_expressions(&n) && count(&n) <= network::MOST_LITERALS
+    is_acyclic(&n) && all_expressions(&n) && count(&n) <= network::MOST_LITERALS
 }
 
 // Whether the network keeps the rules: 10 where it does not.
@@ -67,7 +67,7 @@ pub fn judge(n: Network) -> Verdict
 pub fn literals_within(n: Network) -> u64
     ensures { result ≡ literals_within n }
 {
-    if !network::is_sized(n) {
+    if !network::is_within(n.inputs, n.outputs, n.divisors, &n.counts) {
         return 0;
     }
     count(&n)

@@ -38,7 +38,7 @@ made-at (x ∷ l) zero = refl
 made-at (x ∷ l) (suc i) = made-at l i
 
 -- the weights of a run
-data EachSized : List Made → Type 0 where
+pub data EachSized : List Made → Type 0 where
   no_step : EachSized []
   more : {m : Made} {l : List Made} → Sized m.weight → EachSized l → EachSized (m ∷ l)
 
@@ -55,7 +55,7 @@ leads-sized (onward {n = n} d w a b t) g s =
     more (sized-from z.0 z.1 (omega (arith, z.3)))
     (leads-sized t (prepare-keeps.good (step n d) (step-good n g d f)) (omega (arith, z.3, prepare-keeps.literals (step n d))))
 
-run-sized : (k : ℕ) (n : Net) → Good n → literal_count n < suc largest_weight → EachSized (run k n).steps
+pub run-sized : (k : ℕ) (n : Net) → Good n → literal_count n < suc largest_weight → EachSized (run k n).steps
 run-sized k n g s = leads-sized (run-leads k n) (start-good n g) (omega (arith, prepare-keeps.literals (in_order n), in-order-literals n))
 
 -- and so that of each step made that is listed

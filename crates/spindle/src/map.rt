@@ -10,7 +10,7 @@ use std::io::Stdout;
 // The columns of the names and of what they stand for.
 const NAMES: usize = 2;
 
-const TEXT: usize = 7;
+const TEXT_COLUMN: usize = 7;
 
 const MEANING: usize = 14;
 
@@ -58,7 +58,7 @@ fn begin(out: Stdout, name: Name) -> Line {
     let mut line = Line::new(out);
     line.pad(NAMES);
     let _ = write!(line, "{name}");
-    line.column(TEXT);
+    line.column(TEXT_COLUMN);
     line
 }
 
@@ -151,7 +151,7 @@ fn print_node(out: Stdout, n: &Network, i: usize, cells: &[bool; CELL_SLOTS], wi
 }
 
 fn print_lists(out: Stdout, n: &Network) {
-    let wide = TEXT + node::widest(n) + 3;
+    let wide = TEXT_COLUMN + node::widest(n) + 3;
     let cells = network_map::cells(*n);
     if n.divisors == 0 {
         let _ = println!(out; "\nCONDITIONS\n  none is shared");

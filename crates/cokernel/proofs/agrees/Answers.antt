@@ -1,12 +1,17 @@
--- `cokernel::agrees` meets its contract: what the chain over the literals that c lacks answers. Assumes nothing.
-use mathlib.Core.Path.{◌∙◌, ap}
-use lib.Dec.{leb}
-use borrow.Author.Rules.{rules}
-use borrow.Author.Tests.{tests}
-use Rattle.sets.specs.Lists.{all}
-use Rattle.cube_order.proofs.Chains.{all-each}
+-- `cokernel::agrees` meets its contract: the first literal that c lacks tells. Assumes nothing.
+use mathlib.Core.Path.{sym, ap, ◌∙◌}
+use Rattle.sets.{specs.Sets.first_from, proofs.Sets.without-asc}
+use Rattle.cube.{proofs.Lits.lits-asc, specs.Cube.answer}
+use Rattle.cokernel.proofs.{Steps.none-low, Steps.first-low}
 use Rattle.cokernel.proofs.agrees.Goals as goal
 
-pub returns : goal.returns
-returns c =
-    all-each (leb c.args.j) c.all.new.self _ _ c.all.ensures.ran c.each.ensures (λ l b q k. search (rules, tests)) ∙ ap (all (leb c.args.j)) c.without.ensures
+pub returns-in-Some : goal.returns-in-Some
+returns-in-Some c =
+    let a = c.args in
+    first-low a.j _ _ (without-asc _ _ (lits-asc a.m))
+    (ap answer (sym c.in-Some.is) ∙ c.first_from.ensures
+    ∙ ap (first_from 0) c.without.ensures)
+
+pub returns-in-None : goal.returns-in-None
+returns-in-None c = none-low _ _ (ap answer (sym c.in-None.is) ∙ c.first_from.ensures
+    ∙ ap (first_from 0) c.without.ensures)

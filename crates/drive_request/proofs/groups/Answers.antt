@@ -1,47 +1,37 @@
--- `drive_request::groups` meets its contract: a blank at the end, an empty word, or one group more than lone `;`. Assumes nothing.
-use mathlib.Core.Path.{◌≡◌, refl, sym, ap, ◌∙◌}
-use mathlib.Core.{Logic.inl, List.List}
-use Prim.Native.Nat.{ℕ}
-use lib.Dec.{eqb}
-use lib.ListN.{length}
+-- The answers of `drive_request::groups`, whose loop's invariant stands beside. Assumes nothing.
+use mathlib.Core.Path.{◌≡◌, sym, ap, ◌∙◌}
+use mathlib.Core.Bool.{cond}
+use Prim.Native.Nat.{◌+◌}
 use native.Mathlib.Omega.{arith}
-use borrow.Author.{Rules.rules, Tests.tests}
-use Rattle.std.proofs.lemmas.Iterator.{YieldsList}
-use Rattle.std.proofs.lemmas.Iterator.Consumers.{YieldsList-from_first, YieldsList-from_filter, count_from_yields_List}
-use Rattle.std.specs.Iterator.{YieldsFirstRef}
-use Rattle.sets.{proofs.Chains.any-chain}
-use Rattle.drive_request.specs.declared.Words.{Words}
-use Rattle.drive_request.specs.Words.{words_of, is_part}
-use Rattle.drive_request.proofs.Splitting.{ends-last, count-parts, words-few, groups-blank, groups-empty, groups-spaced}
+use borrow.Author.Tests.{eqb-true}
+use Rattle.std.specs.Prelude.{Some}
+use Rattle.drive_request.specs.Words.{words_of, filled, parts_in}
+use Rattle.drive_request.proofs.Splitting.{ends-last, filled-stop, parts_next, parts-few, words-few, groups-blank, groups-empty, groups-spaced}
 use Rattle.drive_request.proofs.groups.Goals as goal
-use Rattle.drive_request.proofs.groups.Goals.{then-ends_with-via-then-ends_with, then-ends_with-via-else-ends_with+then-any}
-
--- the words of the line, each in turn
-road : {s : Words} (line : List ℕ) → s.0.now ≡ line → YieldsList (YieldsFirstRef (λ (t : Words). words_of t.0.now)) (λ w. w.now) s (words_of line)
-road line e = YieldsList-from_first (λ w. w.now) (λ (t : Words). words_of t.0.now) _ (ap words_of e)
 
 pub returns-then-ends_with : goal.returns-then-ends_with
-returns-then-ends_with c = let line = c.args.line.now in elim c.then-ends_with.branch [
-  | then-ends_with-via-then-ends_with w ↦ rw (groups-blank line (sym (ends-last line) ∙ sym c.ends_with.ensures.value ∙ w.if-ends_with.true))
-  | then-ends_with-via-else-ends_with+then-any w ↦
-      let a = any-chain (λ v. eqb (length v) 0) w.any.new.self _ _ w.any.ensures.ran (road line refl) (λ x b q k. search (rules, tests)) in
-      rw (groups-empty line (sym a ∙ w.if-any.true))
-]
+returns-then-ends_with c = let line = c.args.line.now in
+    rw (groups-blank line (sym (ends-last line) ∙ sym c.ends_with.ensures.value ∙ c.if-ends_with.true))
 
-pub count-parts-requires-clause-fits : goal.count-parts-requires-clause-fits
-count-parts-requires-clause-fits c =
-    let e = ap (λ (s : Words). length (words_of s.0.now)) c.filter.ensures.source in inl (omega (arith, e, words-few c.args.line.now))
+pub returns-then-is_empty : goal.returns-then-is_empty
+returns-then-is_empty c =
+    let none = eqb-true _ _ (sym c.is_empty.ensures ∙ c.if-is_empty.true) in
+    rw (groups-empty c.args.line.now (sym c.loop-word.invariant.0 ∙ filled-stop c.in-Some.ensures.steps none))
+
+pub overflow_add-parts : goal.overflow_add-parts
+overflow_add-parts c =
+    let line = c.args.line.now in
+    let rest = parts_in (words_of c.next.new.self.0.now) in
+    let one = parts_next c.in-Some.ensures.steps ∙ ap (λ b. cond b 1 0 + rest) (sym c.is_part.ensures ∙ c.if-is_part.true) in
+    omega (arith, c.loop-word.invariant.1, one, parts-few (words_of line), words-few line)
 
 pub overflow_add-result : goal.overflow_add-result
-overflow_add-result c =
-    let e = ap (λ (s : Words). length (words_of s.0.now)) c.filter.ensures.source in omega (arith, e, words-few c.args.line.now)
+overflow_add-result c = let line = c.args.line.now in omega (arith, c.loop-word.invariant.1, parts-few (words_of line), words-few line)
 
 pub returns : goal.returns
 returns c =
     let line = c.args.line.now in
-    let n = count_from_yields_List c.filter.result _ c.count-parts.ensures.ran
-    (YieldsList-from_filter _ is_part (road line (ap (λ (s : Words). s.0.now) c.filter.ensures.source)) c.filter.ensures.closure
-    (λ x b q k. search (rules, tests))) in
-    let a = any-chain (λ v. eqb (length v) 0) c.any.new.self _ _ c.any.ensures.ran (road line refl) (λ x b q k. search (rules, tests)) in
-    rw (n, count-parts (words_of line))
-    (groups-spaced line (sym (ends-last line) ∙ sym c.ends_with.ensures.value ∙ c.if-ends_with.false) (sym a ∙ c.if-any.false))
+    let d = c.in-None.ensures.steps.0 in
+    let p : c.loop-word.parts ≡ parts_in (words_of line) = omega (arith, ap parts_in d, c.loop-word.invariant.1) in
+    ap (λ n. Some (n + 1)) p
+    ∙ groups-spaced line (sym (ends-last line) ∙ sym c.ends_with.ensures.value ∙ c.if-ends_with.false) (sym c.loop-word.invariant.0 ∙ ap filled d)

@@ -3,4 +3,4 @@ use Rattle.expression.proofs.{Words.part_of}
 use Rattle.expression.proofs.part.Goals as goal
 
 pub returns : goal.returns
-returns c = part_of _ _ _ _ _ c.words_of.ensures
+returns c = part_of _ _ _ _ _ c.words_of-p.ensures

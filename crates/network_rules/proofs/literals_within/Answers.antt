@@ -5,13 +5,13 @@ use Rattle.network_rules.specs.Parts.{literals_within}
 use borrow.Author.Rules.{rules}
 use Rattle.network_rules.proofs.literals_within.Goals as goal
 
-pub returns-then-not-is_sized : goal.returns-then-not-is_sized
+pub returns-then-not-is_within : goal.returns-then-not-is_within
 unfolding literals_within
-returns-then-not-is_sized c = rw (sym c.is_sized.ensures ∙ c.if-not-is_sized.true)
+returns-then-not-is_within c = rw (sym c.is_within.ensures ∙ c.if-not-is_within.true)
 
 pub count-requires : goal.count-requires
-count-requires c = sized-out c.args.n (shape_of _ (search rules) (search rules)) (sym c.is_sized.ensures ∙ c.if-not-is_sized.false)
+count-requires c = sized-out c.args.n (shape_of _ (search rules) (search rules)) (sym c.is_within.ensures ∙ c.if-not-is_within.false)
 
 pub returns : goal.returns
 unfolding literals_within
-returns c = rw (sym c.is_sized.ensures ∙ c.if-not-is_sized.false) c.count.ensures
+returns c = rw (sym c.is_within.ensures ∙ c.if-not-is_within.false) c.count.ensures
