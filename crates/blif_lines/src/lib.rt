@@ -20,11 +20,8 @@ pub const WINDOW: usize = 65536;
 pub fn mark(marks: &mut [u8], base: usize, v: usize)
     ensures { Raised base (v ∷ []) marks.old marks.new }
 {
-    let Some(i) = v.checked_sub(base) else {
-        return;
-    };
-    if i < marks.len() && marks[i] < 2 {
-        marks[i] += 1;
+    if base <= v && v - base < marks.len() && marks[v - base] < 2 {
+        marks[v - base] += 1;
     }
 }
 

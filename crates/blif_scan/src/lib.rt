@@ -26,7 +26,7 @@ pub enum Label {
 fn is_joint(s: &[u8], p: usize) -> bool
     ensures { result ≡ is_joint s.now p }
 {
-    matches!(s.get(p..), Some([b'\\', b'\n', ..]))
+    s.get(p) == Some(&b'\\') && s.get(p + 1) == Some(&b'\n')
 }
 
 // The next byte of the joined text.
@@ -80,7 +80,8 @@ fn read_digit(s: &[u8], at: usize) -> Option<(usize, usize)>
     Some((usize::from(b - b'0'), p))
 }
 
-// The number here in decimal, if a machine word holds it, and what ends it.
+// The number here in decimal, if a machine word holds it, and what ends it. In its callers, since what it hands back would go through memory.
+#[inline(always)]
 fn read_number(s: &[u8], at: usize) -> Option<(usize, Ended)>
     ensures { NumeralIs s.now at result }
 {

@@ -1,6 +1,6 @@
 // Requests for images and for BLIF texts.
 use crate::wire::Reply;
-use crate::{MOST, nets};
+use crate::{nets, rooms};
 use letters::Wrote;
 use network::Network;
 
@@ -14,7 +14,7 @@ pub fn write<F: FnOnce(Network, &mut [u8]) -> Wrote>(
 {
     let network = nets::read_net(text)?;
     let lent = drive_request::tail(drive_request::tail(drive_request::tail(text)));
-    let mut room = [0; MOST];
+    let mut room = rooms::bytes();
     let r = drive_request::bytes(lent, &mut room)?;
     let a = writer(network, &mut room[..r]);
     reply.left(a, &room[..r]);

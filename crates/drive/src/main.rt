@@ -2,11 +2,13 @@
 // is promised here; what is answered is held to the second implementation.
 #![tactic(auto)]
 
-ghost use Rattle.std.specs.Prelude.{◌≤◌};
+ghost use Rattle.std.specs.Prelude.{◌≡◌, ◌≤◌, replicate};
+ghost use Rattle.drive.specs.Rooms.{line_length};
 
 mod expressions;
 mod images;
 mod nets;
+mod rooms;
 mod runs;
 mod wire;
 
@@ -18,11 +20,6 @@ use wire::Reply;
 
 // The most bytes of a line.
 const LINE_LENGTH: usize = 262144;
-
-// The most numbers, and the most bytes, that a line can write.
-const MOST: usize = LINE_LENGTH / 2;
-
-const _: () = prove!(MOST == 131072);
 
 // Bytes read at a time.
 const CHUNK: usize = 65536;
@@ -69,7 +66,7 @@ fn on_read<F: FnOnce(&[u8]) -> Handed>(bytes: &[u8], reader: F, reply: &mut Repl
 }
 
 fn on_bytes(line: &[u8], reply: &mut Reply) -> Option<()> {
-    let mut room = [0; MOST];
+    let mut room = rooms::bytes();
     let n = drive_request::bytes(drive_request::rest(line), &mut room)?;
     let bytes = &room[..n];
     match drive_request::first(line) {
@@ -141,11 +138,13 @@ struct Coming {
     room: [u8; LINE_LENGTH],
     length: usize,
     long: bool,
-    ghost within: { length ≤ 262144 },
+    ghost within: { length ≤ line_length },
 }
 
 impl Coming {
-    fn new() -> Coming {
+    fn new() -> Coming
+        ensures { result.room ≡ replicate line_length 0 }
+    {
         Coming {
             room: [0; LINE_LENGTH],
             length: 0,

@@ -19,14 +19,14 @@ shape : (c : Start) → Shaped c.args.n.now
 shape c = shape_of _ (search rules) (search rules)
 
 -- and there are counts for its nodes
-counted : (c : Start) → c.args.n.now.outputs + c.args.n.now.divisors ≤ length c.args.n.now.counts
-counted c = arranged-counted c.args.n.now c.requires (shape c)
+enough : (c : Start) → c.args.n.now.outputs + c.args.n.now.divisors ≤ length c.args.n.now.counts
+enough c = arranged-counted c.args.n.now c.requires (shape c)
 
 pub overflow_add-e : goal.overflow_add-e
-overflow_add-e c = let s = (goal.at.overflow_add-e c).Start in omega (arith, counted s, (shape s).slots)
+overflow_add-e c = let s = (goal.at.overflow_add-e c).Start in omega (arith, enough s, (shape s).slots)
 
 pub shared_ref_as_front-each : goal.shared_ref_as_front-each
-shared_ref_as_front-each c = let s = (goal.at.shared_ref_as_front-each c).Start in omega (arith, counted s, (shape s).slots)
+shared_ref_as_front-each c = let s = (goal.at.shared_ref_as_front-each c).Start in omega (arith, enough s, (shape s).slots)
 
 pub loop-f-init : goal.loop-f-init
 loop-f-init c = summing_none c.args.n.now c.requires (shape (goal.at.loop-f-init c).Start) _ _ (ap left c.into_iter-f-iterator.ensures.into_iter_gives ∙ ap₂ (λ ns ws. cut ns (cubes_of ws)) c.each-f-items.ensures.1 c.each-f-items.ensures.0)
