@@ -1,5 +1,5 @@
-// Answers requests of the line protocol, a line for a line, from standard input to standard output. Safety and an end are all that
-// is promised here; what is answered is held to the second implementation.
+// Answers requests of the line protocol, a line for a line, from standard input to standard output. Safety and an end are all that is
+// promised here, but for what rooms hold at first; what is answered is held to the second implementation.
 #![tactic(auto)]
 
 ghost use Rattle.std.specs.Prelude.{◌≡◌, ◌≤◌, replicate};
